@@ -142,7 +142,7 @@ postgres:
 	engines/setup --extension
 	postgres/test --all
 
-# Every wrong body that a contract must refuse, those on the shelf too; or those of some crates: make edits CRATES="plans set_bounds".
+# Every wrong body that a contract must refuse, those in more-edits/ too; or those of some crates: make edits CRATES="plans set_bounds".
 edits:
 	tools/edits $(CRATES)
 

@@ -1,5 +1,5 @@
-// The plain side of bench/bushy-plan: finds the best join tree of twelve entries, in safe Rust. It has the same two
-// tables over sets of entries as the proved program, and splits sets in the same ways. Prints the chosen trees, and the
+// The plain side of bench/bushy-plan: finds the best join tree of twelve entries, in safe Rust. Like the proved program,
+// it fills two tables, indexed by sets of entries, and splits sets in the same ways. Prints the chosen trees, and the
 // least nanoseconds of 10 choices.
 mod twelve_entries;
 
@@ -8,7 +8,7 @@ use twelve_entries::{all_bounds, least_time};
 const COUNT: usize = 12;
 const ROUNDS: u32 = 10;
 
-fn behind_first(set: usize) -> usize {
+fn without_first(set: usize) -> usize {
     set - (1 << set.trailing_zeros())
 }
 
@@ -16,7 +16,7 @@ fn least_weights(bounds: &[u128], joined: impl Fn(u128, u128, u128) -> u128) -> 
     let mut table = Vec::with_capacity(bounds.len());
     table.push(0);
     for set in 1..bounds.len() {
-        let behind = behind_first(set);
+        let behind = without_first(set);
         let mut least = if behind == 0 { 0 } else { u128::MAX };
         let mut right = behind;
         while right > 0 {
@@ -31,7 +31,7 @@ fn least_weights(bounds: &[u128], joined: impl Fn(u128, u128, u128) -> u128) -> 
 type Join = (u8, u8, u64);
 
 fn push_joins(bounds: &[u128], sums: &[u128], joined: &impl Fn(u128, u128, u128) -> u128, set: usize, joins: &mut Vec<Join>) -> u8 {
-    let behind = behind_first(set);
+    let behind = without_first(set);
     if behind == 0 {
         return set.trailing_zeros() as u8;
     }

@@ -22,7 +22,7 @@ fn keys_of(kind: &str, count: usize) -> Vec<u64> {
     keys
 }
 
-fn falling(keys: &[u64]) -> Vec<u64> {
+fn degree_sequence(keys: &[u64]) -> Vec<u64> {
     let mut sorted = keys.to_vec();
     sorted.sort_unstable();
     let mut list: Vec<u64> = sorted
@@ -40,7 +40,7 @@ fn main() {
         let keys = keys_of(kind, count);
         for _ in 0..3 {
             let start = Instant::now();
-            let list = falling(&keys);
+            let list = degree_sequence(&keys);
             let time = start.elapsed().as_millis();
             println!("{kind}: {} different keys, {time} ms", list.len());
         }

@@ -1,4 +1,4 @@
-//! The plain side of bench/one-table: plain Rust that does the same work with std alone.
+//! The plain side of bench/one-table: plain Rust that does the same work, with only std.
 use std::io::{BufWriter, Write};
 use std::{env, fs, io, process};
 

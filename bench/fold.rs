@@ -1,7 +1,9 @@
-//! The plain side of the benchmark of `set_bound` of bound_fold; with any argument, that of `bounds_of_sets` of
-//! set_bounds. It takes the same steps over plain vectors. Build with `rustc -O bench/fold.rs`. It prints for each
-//! measurement the shape, the numbers of entries, of pieces in each list and of trees, the bound, the nanoseconds of
-//! one bound (the least of several), and how many pieces the lists of a tree's nodes have.
+//! The plain program beside which `set_bound` of crate bound_fold is measured; with any argument, the one for
+//! `bounds_of_sets` of crate set_bounds. It takes the same steps over plain vectors.
+//!
+//! Build with `rustc -O bench/fold.rs`. It prints for each measurement the shape, the numbers of entries, of pieces in
+//! each list and of trees, the bound, the nanoseconds of one bound (the least of several), and how many pieces the
+//! lists of a tree's nodes have.
 use std::collections::HashMap;
 use std::mem::take;
 use std::time::Instant;
@@ -43,8 +45,8 @@ fn put(list: &mut Pieces, value: u128, count: u64) {
     }
 }
 
-// The value at a place in a list, and how many elements from there on are equal to it. `passed` gives the place after
-// some of them.
+// The value at a place in a list, and how many elements from there on are equal to it. `passed` gives the place `count`
+// elements further on, within one run.
 fn ahead(list: &[(u128, u64)], (at, used): (usize, u64)) -> (u128, u64) {
     list.get(at).map_or((0, u64::MAX), |&(value, count)| (value, count - used))
 }
@@ -150,7 +152,7 @@ fn class_in(columns: &[(Place, Place)], place: Place) -> Place {
     columns.iter().find(|column| column.0 == place).map_or(place, |column| column.1)
 }
 
-// The columns of the equalities, in their order, each with the name of its class.
+// The columns of the equalities, in the equalities' order, each with the name of its class.
 fn classes(edges: &[Edge]) -> Vec<(Place, Place)> {
     let mut columns: Vec<Place> = edges.iter().flat_map(|&(left, right)| [left, right]).collect();
     columns.sort();
@@ -184,7 +186,7 @@ fn add_below(nodes: &mut Vec<Node>, columns: &[(Place, Place)], at: usize, entry
 
 // ---- bounds ----
 
-// The lists of an entry's children: the entry's own list is copied, and that of the class is moved.
+// The lists of an entry's children. The entry's own list is copied, and the list of the class is moved.
 fn children_of(query: &Query, nodes: &[Node], done: &mut [Pieces], entry: u8, i: usize) -> Vec<(Pieces, Pieces)> {
     let child = |&class: &usize| (query.lists[&(entry, nodes[class].via)].clone(), take(&mut done[class]));
     nodes[i].children.iter().map(child).collect()
@@ -260,21 +262,34 @@ fn turn_bound(query: &Query, set: u16, equalities: &[Edge], turn: usize) -> u128
     product
 }
 
-// The set's first entry and all entries that equalities connect with it.
-fn first_part(equalities: &[Edge], set: u16) -> u16 {
-    let mut part = set & set.wrapping_neg();
-    loop {
-        let mut more = part;
-        for &(left, right) in equalities {
-            if has(more, left.0) || has(more, right.0) {
-                more |= 1 << left.0 | 1 << right.0;
-            }
-        }
-        if more == part {
-            return part;
-        }
-        part = more;
+// For each entry the entries with which equalities join it, and the entries that are on every cycle. Both are found
+// once for all sets.
+struct Graph {
+    neighbours: [u16; 16],
+    on_every_cycle: u16,
+}
+
+fn graph_of(query: &Query, all: u16) -> Graph {
+    let mut neighbours = [0; 16];
+    for &(left, right) in &query.equalities {
+        neighbours[usize::from(left.0)] |= 1 << right.0;
+        neighbours[usize::from(right.0)] |= 1 << left.0;
     }
+    let closes_none_without = |&entry: &u8| is_forest(&equalities_of(query, all & !(1 << entry)));
+    let on_every_cycle = (0..16).filter(closes_none_without).fold(0, |found, entry| found | 1 << entry);
+    Graph { neighbours, on_every_cycle }
+}
+
+// The set's first entry and all entries that equalities connect with it.
+fn first_part(graph: &Graph, set: u16) -> u16 {
+    let mut part = set & set.wrapping_neg();
+    let mut reached = part;
+    while reached != 0 {
+        let more = graph.neighbours[reached.trailing_zeros() as usize] & set & !part;
+        part |= more;
+        reached = reached & (reached - 1) | more;
+    }
+    part
 }
 
 // The equalities that a turn keeps, and their columns with the names of classes.
@@ -320,14 +335,14 @@ fn is_forest(equalities: &[Edge]) -> bool {
     kept(equalities, 0).len() == equalities.len()
 }
 
-// The bound of a set, from bounds of smaller sets. If the whole query's equalities close no cycle, neither do those of
-// a set.
-fn next_bound(query: &Query, set: u16, whole: bool, smaller: &[u128]) -> u128 {
+// The bound of a set, from bounds of smaller sets. If the set lacks an entry that is on every cycle, its equalities
+// close no cycle.
+fn next_bound(query: &Query, graph: &Graph, set: u16, smaller: &[u128]) -> u128 {
     let equalities = equalities_of(query, set);
-    if !whole && !is_forest(&equalities) {
+    if graph.on_every_cycle & !set == 0 && !is_forest(&equalities) {
         return cyclic_bound(query, set, &equalities);
     }
-    let part = first_part(&equalities, set);
+    let part = first_part(graph, set);
     let rest = set & !part;
     if part < set && rest < set {
         return smaller[usize::from(part)].saturating_mul(smaller[usize::from(rest)]);
@@ -336,10 +351,10 @@ fn next_bound(query: &Query, set: u16, whole: bool, smaller: &[u128]) -> u128 {
 }
 
 fn bounds_of_sets(query: &Query, entries: u8) -> Vec<u128> {
-    let whole = is_forest(&query.equalities);
+    let graph = graph_of(query, ((1u32 << entries) - 1) as u16);
     let mut bounds = Vec::new();
     for set in 0..1u16 << entries {
-        bounds.push(next_bound(query, set, whole, &bounds));
+        bounds.push(next_bound(query, &graph, set, &bounds));
     }
     bounds
 }

@@ -15,7 +15,7 @@
 #define MOST_LISTS (2 * MOST_PAIRS)
 #define PIECES 23
 #define BUDGET SAFEBOUND_MOST_BUDGET
-/* A star of sixteen is below it, and a clique of sixteen, which would take more than a minute, is above it. */
+/* A limit of work. A star of sixteen entries is below it. A clique of sixteen, which would take more than a minute, is above it. */
 #define MOST_WORK UINT64_C(500000000)
 
 static uint64_t now(void) {

@@ -1,6 +1,6 @@
-// The plain side of bench/orders: finds the best order of twelve entries, in safe Rust. It has the same two tables over
-// the sets of entries that aren't joined yet as the proved program. Prints the chosen orders, and the least nanoseconds
-// of 50 choices.
+// The plain side of bench/orders: finds the best order of twelve entries, in safe Rust. Like the proved program, it
+// fills two tables, indexed by the set of entries that aren't joined yet. Prints the chosen orders, and the least
+// nanoseconds of 50 choices.
 mod twelve_entries;
 
 use twelve_entries::{all_bounds, least_time};

@@ -143,7 +143,7 @@ fn sifted(query: &Query, scans: &[Vec<u32>]) -> Vec<Vec<u32>> {
 }
 
 #[derive(Clone, Copy)]
-struct Use {
+struct RowAtEquality {
     item: u32,
     gives: u32,
     needs: u32,
@@ -155,7 +155,7 @@ struct Chains {
     befores: Vec<u32>,
 }
 
-fn chained(keys: usize, uses: &[Use], key: fn(&Use) -> u32) -> Chains {
+fn chained(keys: usize, uses: &[RowAtEquality], key: fn(&RowAtEquality) -> u32) -> Chains {
     let mut lasts = vec![0; keys];
     let mut befores = Vec::with_capacity(uses.len());
     for one in uses {
@@ -166,12 +166,12 @@ fn chained(keys: usize, uses: &[Use], key: fn(&Use) -> u32) -> Chains {
     Chains { lasts, befores }
 }
 
-fn add_side(query: &Query, side: &Side, list: &[u32], first: u32, equality: u32, left: bool, values: &mut Values, uses: &mut Vec<Use>) {
+fn add_side(query: &Query, side: &Side, list: &[u32], first: u32, equality: u32, left: bool, values: &mut Values, uses: &mut Vec<RowAtEquality>) {
     let cells = &query.tables[side.entry][side.column];
     for (at, row) in list.iter().enumerate() {
         let class = values.number((equality, cells[*row as usize]));
         let (gives, needs) = if left { (2 * class, 2 * class + 1) } else { (2 * class + 1, 2 * class) };
-        uses.push(Use {
+        uses.push(RowAtEquality {
             item: first + at as u32,
             gives,
             needs,
@@ -179,7 +179,7 @@ fn add_side(query: &Query, side: &Side, list: &[u32], first: u32, equality: u32,
     }
 }
 
-fn marks(items: usize, slots: usize, uses: &[Use]) -> Vec<bool> {
+fn marks(items: usize, slots: usize, uses: &[RowAtEquality]) -> Vec<bool> {
     let of_item = chained(items, uses, |u| u.item);
     let needing = chained(slots, uses, |u| u.needs);
     let mut counts = vec![0u32; slots];

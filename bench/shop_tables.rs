@@ -92,7 +92,7 @@ pub fn table(path: &str, names: &[&str]) -> Vec<Vec<i64>> {
     columns
 }
 
-/// Refuses a key column that has a value twice.
+/// Refuses a key column in which a value is repeated.
 pub fn check_key(column: &[i64]) {
     if column.windows(2).all(|pair| pair[0] < pair[1]) {
         return;
@@ -104,7 +104,7 @@ pub fn check_key(column: &[i64]) {
     }
 }
 
-/// How often each number occurs. Numbers in a short range are counted in a table of the range, others by a sort.
+/// How often each number occurs. Numbers in a short range are counted in an array over the range, other numbers by a sort.
 fn counts(numbers: &[i64]) -> Vec<u64> {
     let (Some(least), Some(greatest)) = (numbers.iter().min(), numbers.iter().max()) else {
         return Vec::new();

@@ -106,7 +106,7 @@ struct FilterColumn<'a> {
     starts: Vec<u32>,
 }
 
-/// What cells stand for.
+/// The kind of a column's values, which cells represent.
 enum Kind<'a> {
     Int,
     Text(&'a [String]),

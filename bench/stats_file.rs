@@ -1,5 +1,5 @@
-//! The plain side of the benchmark of `read_stats` of crate stats_reading: plain Rust with std alone that reads the
-//! same file, and checks the same rules.
+//! The plain side of the benchmark of `read_stats` of crate stats_reading: plain Rust, with only std, that reads the
+//! same file and checks the same rules.
 //!
 //! Build with `rustc -O bench/stats_file.rs`. It prints how many bytes and pairs the file has, and the least time of
 //! several readings in milliseconds.

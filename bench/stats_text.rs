@@ -43,8 +43,8 @@ pub struct Draft {
     pub accuracy: u64,
     pub tables: Vec<TableStats>,
     pair: Option<Pair>,
-    like: Option<usize>,
-    twin: Option<usize>,
+    same_filter: Option<usize>,
+    same_joined: Option<usize>,
 }
 
 fn number(word: &[u8], most: u64) -> Option<u64> {
@@ -140,8 +140,8 @@ impl Draft {
             return None;
         }
         // Pairs are in ascending order, so if any pair has this filter column, the last pair has it.
-        self.like = pairs.len().checked_sub(1).filter(|last| pairs[*last].filter == filter);
-        self.twin = pairs.iter().position(|pair| pair.joined == joined);
+        self.same_filter = pairs.len().checked_sub(1).filter(|last| pairs[*last].filter == filter);
+        self.same_joined = pairs.iter().position(|pair| pair.joined == joined);
         self.pair = Some(Pair {
             filter,
             joined,
@@ -164,15 +164,15 @@ impl Draft {
                 if total(&list) != u128::from(section.rows) {
                     return None;
                 }
-                if self.twin.is_some_and(|i| section.pairs[i].whole != list) {
+                if self.same_joined.is_some_and(|i| section.pairs[i].whole != list) {
                     return None;
                 }
                 pair.whole = list;
                 self.stage = Stage::Frequent;
             }
             b'r' => {
-                if let Some(like) = self.like.map(|i| &section.pairs[i]) {
-                    if like.frequent.len() != pair.frequent.len() || total(&like.rest) != total(&list) {
+                if let Some(same_filter) = self.same_filter.map(|i| &section.pairs[i]) {
+                    if same_filter.frequent.len() != pair.frequent.len() || total(&same_filter.rest) != total(&list) {
                         return None;
                     }
                 }
@@ -184,7 +184,7 @@ impl Draft {
                 if section.rows == 0 || pair.cuts.len() != 32 || at >= 63 {
                     return None;
                 }
-                if self.like.is_some_and(|i| total(&section.pairs[i].nodes[at]) != total(&list)) {
+                if self.same_filter.is_some_and(|i| total(&section.pairs[i].nodes[at]) != total(&list)) {
                     return None;
                 }
                 pair.nodes.push(list);
@@ -203,8 +203,8 @@ impl Draft {
         if at >= 32 || pair.frequent.iter().any(|earlier| earlier.0 == value) {
             return None;
         }
-        if let Some(like) = self.like.map(|i| &section.pairs[i].frequent) {
-            if at >= like.len() || like[at].0 != value || total(&like[at].1) != total(&list) {
+        if let Some(same_filter) = self.same_filter.map(|i| &section.pairs[i].frequent) {
+            if at >= same_filter.len() || same_filter[at].0 != value || total(&same_filter[at].1) != total(&list) {
                 return None;
             }
         }
@@ -220,7 +220,7 @@ impl Draft {
         if section.rows == 0 || at >= 32 || pair.cuts.last().is_some_and(|last| *last > value) {
             return None;
         }
-        if self.like.is_some_and(|i| section.pairs[i].cuts[at] != value) {
+        if self.same_filter.is_some_and(|i| section.pairs[i].cuts[at] != value) {
             return None;
         }
         pair.cuts.push(value);
@@ -267,7 +267,7 @@ impl Draft {
 
 /// The file, or the number of the line that is refused. Names of tables and columns are given as the file spells them.
 pub fn read_stats(bytes: &[u8], tables: &[Vec<u8>], columns: &[Vec<Vec<u8>>]) -> Result<Draft, u32> {
-    let mut draft = Draft { stage: Stage::Start, accuracy: 0, tables: Vec::new(), pair: None, like: None, twin: None };
+    let mut draft = Draft { stage: Stage::Start, accuracy: 0, tables: Vec::new(), pair: None, same_filter: None, same_joined: None };
     let mut line = 1;
     let mut rest = bytes;
     while let Some(end) = rest.iter().position(|byte| *byte == b'\n') {

@@ -1,5 +1,5 @@
-//! The plain side of the benchmark of `read_table` of crate csv_tables: plain Rust that makes the same cells with std
-//! alone.
+//! The plain side of the benchmark of `read_table` of crate csv_tables: plain Rust that makes the same cells, with only
+//! std.
 //!
 //! Build with `rustc -O bench/tables.rs`. It prints for each file its name, how many rows and different texts it has, a
 //! checksum of the cells, and the least time of several readings in milliseconds.
@@ -118,7 +118,7 @@ impl Record {
     }
 }
 
-/// Numbers, or texts of at most so many characters.
+/// The type of a column: numbers, or texts of at most this many characters.
 #[derive(Clone, Copy)]
 enum Kind {
     Int,
@@ -130,7 +130,7 @@ struct Table {
     kind: Kind,
 }
 
-/// The place of the header's field with this name, letter case aside; nothing if no field or several have it.
+/// The place of the header's field with this name, without regard to case. None if no field or several fields have it.
 fn place_of(name: &str, header: &Record, file: &[u8]) -> Option<usize> {
     let mut places = (0..header.fields.len()).filter(|&at| header.field(file, at).eq_ignore_ascii_case(name.as_bytes()));
     let place = places.next()?;

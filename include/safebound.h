@@ -46,8 +46,8 @@ extern "C" {
 #define SAFEBOUND_VERSION_NUMBER \
     (SAFEBOUND_VERSION_MAJOR * 1000000 + SAFEBOUND_VERSION_MINOR * 1000 + SAFEBOUND_VERSION_PATCH)
 
-/* Limits. tools/limits takes their numbers from the crate limits. SafeBound's own engine takes fewer entries than are
-   bounded and planned here: calls that tell its bytes refuse more. */
+/* Limits. tools/limits takes their numbers from the crate limits. SafeBound's own engine takes at most
+   SAFEBOUND_ENGINE_ENTRIES entries, so the two calls that compute its memory refuse more. */
 #define SAFEBOUND_MOST_ENTRIES 16
 #define SAFEBOUND_ENGINE_ENTRIES 12
 #define SAFEBOUND_MOST_EQUALITIES 256
@@ -155,7 +155,7 @@ typedef struct safebound_join {
 
    SAFEBOUND_BAD_KEYS     more than 2^48 keys; `detail` is their number
    SAFEBOUND_NO_MEMORY    it takes about as much memory as the keys do
-   SAFEBOUND_ROOM         one run for each different degree: at most the square root of twice the number of keys
+   SAFEBOUND_ROOM         needed: a run per different degree, at most the square root of twice the number of keys
    SAFEBOUND_OK
 
    Example: the keys 8, 8, 8, 8, 8, 2, 2, 2, 5 give (5, 1), (3, 1), (1, 1).
@@ -218,8 +218,8 @@ safebound_status safebound_lesser(const safebound_run *runs, size_t runs_length,
                                   size_t others_length, safebound_run *into, size_t room, uint64_t *detail);
 
 /* The greater of two lists, rank by rank. It dominates all that either list dominates. If one list is of the rows with one
-   value in a column, and the other of those with another value, the result is a list for the rows of either value alone. For
-   the rows of both values together take safebound_append.
+   value in a column, and the other of those with another value, the result is a list for the rows of any one of the two
+   values. For the rows of both values together take safebound_append.
 
    SAFEBOUND_BAD_RUN          `detail` is the element of `runs`
    SAFEBOUND_BAD_OTHER_RUN    `detail` is the element of `others`
@@ -253,17 +253,17 @@ safebound_status safebound_cut(const safebound_run *runs, size_t runs_length, ui
 
    `rows` has for each entry its row bound: the most rows that it may have. `lists` has a list for each column that an
    equality names. The list must dominate the column's values: any r different values occur in no more rows than the list's
-   first r degrees sum to. The lists of safebound_degrees dominate, and so do those that safebound_compress and
-   safebound_append make of them.
+   first r degrees sum to. The lists of safebound_degrees dominate, and so do the lists that safebound_compress and
+   safebound_append make from them.
 
    If a list sums to more than the row bound, it is cut there, so the list of a whole table serves for some of its rows. If
    it sums to less, the other rows are taken for rows without a value (NULL), which join with nothing. In a set where an
-   equality names the column, the entry then has at most as many rows as the list sums to. The entry counts with the least
-   of these sums and of its row bound. If no equality of the set names one of its columns, it counts with its row bound. The
-   list of a column that no equality names is checked but not used. Runs that belong to no list aren't read.
+   equality names the column, the entry then has at most as many rows as the list sums to. The entry's number of rows is
+   then the least of its row bound and these sums. If no equality of the set names one of its columns, it is its row bound.
+   The list of a column that no equality names is checked but not used. Runs that belong to no list aren't read.
 
-   The bound is at least the number of choices, of one row from each entry of the set, that satisfy all equalities
-   between these entries. Or the bound is SAFEBOUND_NO_BOUND.
+   A choice has one row from each entry of the set. The bound is at least the number of choices that satisfy all equalities
+   between these entries, or it is SAFEBOUND_NO_BOUND.
 
    SAFEBOUND_BAD_ENTRIES       not from 1 to SAFEBOUND_MOST_ENTRIES; `detail` is their number
    SAFEBOUND_BAD_ROWS          more than 2^48; `detail` is the element of `rows`
@@ -297,9 +297,9 @@ safebound_status safebound_bounds(const uint64_t *rows, size_t entries, const sa
    work exceeds the limit ends at once.
 
    Each set is bounded in as many turns as it has equalities, but in at least one and at most SAFEBOUND_MOST_TURNS. The
-   work of a turn is 1, and 1 more for each run of both lists of each equality of the set. The work of a call is that of
+   work of a turn is 1 plus the number of runs in the two lists of each equality of the set. The work of a call is that of
    all turns of all sets. It measures the query, and doesn't count steps. Turns of a set that make the same columns equal
-   are bounded only once; if the equalities close no cycle, this holds for all turns. And lists grow along a chain of
+   are bounded only once; if the equalities close no cycle, this holds for all turns. Lists also grow along a chain of
    joins.
 
    The statuses are those of safebound_bounds. Between SAFEBOUND_ROOM and SAFEBOUND_NO_MEMORY comes
@@ -316,9 +316,9 @@ safebound_status safebound_bounds_within(const uint64_t *rows, size_t entries, c
                                          const safebound_run *runs, size_t runs_length, uint64_t limit, uint64_t *into,
                                          size_t room, uint64_t *detail);
 
-/* The bound of one set of entries: the number that safebound_bounds writes for that set, in the time of that set alone. It
-   serves a planner that comes to sets one by one. It also bounds a whole query, whose set is 2^n - 1. At SAFEBOUND_OK
-   `detail` is the bound.
+/* The bound of one set of entries: the number that safebound_bounds writes for that set. No other set is bounded. A planner
+   that comes to sets one by one can use it. It also bounds a whole query, whose set is 2^n - 1. At SAFEBOUND_OK `detail` is
+   the bound.
 
    The statuses are those of safebound_bounds without SAFEBOUND_ROOM. Before SAFEBOUND_NO_MEMORY comes
 
@@ -334,8 +334,8 @@ safebound_status safebound_set_bound(const uint64_t *rows, size_t entries, const
                                      const safebound_run *runs, size_t runs_length, uint64_t set, uint64_t *detail);
 
 /* A bound of the rows of an outer join, a semi-join or an anti-join. `inner` is a bound of the inner join of both sides by
-   the same condition; `left` and `right` are bounds of the sides. They count all rows of a side: an outer join and an
-   anti-join keep rows that fail their own condition (ON), even where it names that side alone. At SAFEBOUND_OK `detail` is
+   the same condition; `left` and `right` are bounds of all rows of the sides. A condition in ON that names only one side
+   mustn't lower them: an outer join and an anti-join keep rows that fail it. At SAFEBOUND_OK `detail` is
 
        SAFEBOUND_LEFT_JOIN     inner + left
        SAFEBOUND_RIGHT_JOIN    inner + right
@@ -358,8 +358,8 @@ safebound_status safebound_joined_rows(uint64_t kind, uint64_t inner, uint64_t l
    empty set, isn't read.
 
    An order's levels are the bounds of its first entry, of its first two entries, and so on. Its cost is its largest level.
-   The best order has the least cost. Of several such orders it has the least sum of levels, and of several such again, it
-   is the first by the numbers of its entries in lexicographic order. `into` gets its n levels.
+   The best order has the least cost. Of orders with equal cost it has the least sum of levels. Of orders with equal cost and
+   sum it is the first by the numbers of its entries, in lexicographic order. `into` gets its n levels.
 
    SAFEBOUND_BAD_BOUNDS    not 2^n of them, for an n from 1 to SAFEBOUND_MOST_ENTRIES; `detail` is their number
    SAFEBOUND_BAD_BUDGET    more than 2^59; `detail` is the budget
@@ -380,10 +380,10 @@ safebound_status safebound_order(const uint64_t *bounds, size_t bounds_length, u
 /* The best join tree of any shape over bounds of all sets.
 
    A tree's levels are the bounds of its joins; a tree of one entry has that entry's bound as its level. The best tree has
-   the least largest level, and of several such trees the least sum. Ties are decided from the root on: the least left set,
-   as a number, is best; then the left tree decides in the same way, and then the right one. The left set of each join has
-   the first entry of the set that the join splits. `into` gets the tree's n - 1 joins: each join comes after those below it,
-   left before right, and the last one is the root.
+   the least largest level, and of trees with equal largest levels the least sum of levels. Further ties are decided from the
+   root on: the least left set, as a number, is best; then the left tree decides in the same way, and then the right tree.
+   The left set of each join has the first entry of the set that the join splits. `into` gets the tree's n - 1 joins: each
+   join comes after the joins below it, left before right, and the last join is the root.
 
    SAFEBOUND_BAD_BOUNDS    not 2^n of them, for an n from 1 to SAFEBOUND_MOST_ENTRIES; `detail` is their number
    SAFEBOUND_BAD_BUDGET    more than 2^59; `detail` is the budget

@@ -27,11 +27,11 @@
 #define ERRCODE_BUDGET MAKE_SQLSTATE('S', 'B', '0', '0', '1')
 #define ERRCODE_UNBOUNDED MAKE_SQLSTATE('S', 'B', '0', '0', '2')
 
-typedef enum Unbounded
+typedef enum UnboundedChoice
 {
 	UNBOUNDED_REFUSE,
 	UNBOUNDED_ADMIT
-} Unbounded;
+} UnboundedChoice;
 
 static const struct config_enum_entry unbounded_choices[] = {
 	{"refuse", UNBOUNDED_REFUSE, false},
@@ -40,7 +40,7 @@ static const struct config_enum_entry unbounded_choices[] = {
 };
 
 static int	budget;
-static int	unbounded;
+static int	unbounded_setting;
 
 /* True while the extension runs a query of its own to count a table. Such a query isn't checked. */
 bool		admission_paused = false;
@@ -50,13 +50,13 @@ static set_rel_pathlist_hook_type rel_paths_before;
 static ExecutorStart_hook_type start_before;
 
 /* A call of the planner. Calls may nest: the planner may evaluate a function, whose queries are planned too. */
-typedef struct Call
+typedef struct PlannerCall
 {
-	struct Call *outer;
+	struct PlannerCall *outer;
 	List	   *roots;			/* each PlannerInfo that made paths */
-} Call;
+} PlannerCall;
 
-static Call *call;
+static PlannerCall *planner_call;
 
 /* A plan that was cached while there was no budget lacks the data for its bounds. So all plans are made again. */
 static void
@@ -69,8 +69,8 @@ on_budget(int changed, void *extra)
 static void
 on_rel_paths(PlannerInfo *root, RelOptInfo *rel, Index rti, RangeTblEntry *rte)
 {
-	if (call != NULL)
-		call->roots = list_append_unique_ptr(call->roots, root);
+	if (planner_call != NULL)
+		planner_call->roots = list_append_unique_ptr(planner_call->roots, root);
 	if (rel_paths_before)
 		rel_paths_before(root, rel, rti, rte);
 }
@@ -84,25 +84,25 @@ call_planner_before(Query *parse, const char *text, int options, ParamListInfo p
 static PlannedStmt *
 on_planner(Query *parse, const char *text, int options, ParamListInfo parameters)
 {
-	Call		mine = {call, NIL};
+	PlannerCall	mine = {planner_call, NIL};
 	PlannedStmt *plan;
 	List	   *joins;
 
 	if (budget == 0)
 		return call_planner_before(parse, text, options, parameters);
-	call = &mine;
+	planner_call = &mine;
 	PG_TRY();
 	{
 		plan = call_planner_before(parse, text, options, parameters);
 	}
 	PG_FINALLY();
 	{
-		call = mine.outer;
+		planner_call = mine.outer;
 	}
 	PG_END_TRY();
 	joins = joins_of_plan(plan, mine.roots);
 	if (joins != NIL)
-		put_recipe(plan, joins);
+		put_bound_data(plan, joins);
 	return plan;
 }
 
@@ -199,7 +199,7 @@ why_unbounded(BoundedQuery *query, List *join, Relids relids)
 static void
 refuse_unbounded(const char *relations, const char *why)
 {
-	if (unbounded == UNBOUNDED_ADMIT)
+	if (unbounded_setting == UNBOUNDED_ADMIT)
 		return;
 	ereport(ERROR,
 			(errcode(ERRCODE_UNBOUNDED),
@@ -238,12 +238,12 @@ check_join(BoundedQuery *query, List *join)
 }
 
 static void
-check_part(List *part, ParamListInfo parameters)
+check_root(List *root_data, ParamListInfo parameters)
 {
-	BoundedQuery *query = bounded_query(root_of_part(part, parameters));
+	BoundedQuery *query = bounded_query(root_of_data(root_data, parameters));
 	ListCell   *cell;
 
-	foreach(cell, joins_of_part(part))
+	foreach(cell, joins_of_data(root_data))
 		check_join(query, lfirst(cell));
 }
 
@@ -251,15 +251,15 @@ check_part(List *part, ParamListInfo parameters)
 static void
 check_plan(PlannedStmt *plan, ParamListInfo parameters)
 {
-	List	   *recipe = recipe_of(plan);
-	bool		untold = recipe == NIL ? has_joins(plan) : linitial_int((List *) linitial(recipe)) > 0;
+	List	   *bound_data = bound_data_of(plan);
+	bool		unknown_joins = bound_data == NIL ? has_joins(plan) : linitial_int((List *) linitial(bound_data)) > 0;
 
 	if (all_exempt(plan))
 		return;
-	if (untold)
+	if (unknown_joins)
 		refuse_unbounded(NULL, "What it joins can't be told from the plan: some of its rows come from no table, or another extension made the plan.");
-	for (int i = 1; i < list_length(recipe); i++)
-		check_part(list_nth(recipe, i), parameters);
+	for (int i = 1; i < list_length(bound_data); i++)
+		check_root(list_nth(bound_data, i), parameters);
 }
 
 static void
@@ -340,7 +340,7 @@ define_settings(void)
 							"A query with a join that may have more is refused before it runs. 0: no budget.",
 							&budget, 0, 0, INT_MAX, PGC_SUSET, 0, NULL, on_budget, NULL);
 	DefineCustomEnumVariable("safebound.unbounded", "What is done with a query of which a join has no bound, where there is a budget.",
-							 NULL, &unbounded, UNBOUNDED_REFUSE, unbounded_choices, PGC_SUSET, 0, NULL, NULL, NULL);
+							 NULL, &unbounded_setting, UNBOUNDED_REFUSE, unbounded_choices, PGC_SUSET, 0, NULL, NULL, NULL);
 }
 
 /* Before the library is loaded, a session can begin with any value of these settings. When they are defined here, PostgreSQL refuses a value that

@@ -17,11 +17,11 @@ typedef struct PlanJoin
 extern bool has_joins(PlannedStmt *plan);
 extern List *joins_of_plan(PlannedStmt *plan, List *roots);
 
-/* recipe.c: the data from which bounds are computed, stored in the plan */
-extern void put_recipe(PlannedStmt *plan, List *joins);
-extern List *recipe_of(PlannedStmt *plan);
-extern PlannerInfo *root_of_part(List *part, ParamListInfo parameters);
-extern List *joins_of_part(List *part);
+/* bound_data.c: the data from which bounds are computed, stored in the plan */
+extern void put_bound_data(PlannedStmt *plan, List *joins);
+extern List *bound_data_of(PlannedStmt *plan);
+extern PlannerInfo *root_of_data(List *root_data, ParamListInfo parameters);
+extern List *joins_of_data(List *root_data);
 
 /* admit.c */
 extern void admit_init(void);

@@ -49,36 +49,36 @@ put_columns(StringInfo into, const char *front, Oid relation, Bitmapset *columns
 	}
 }
 
-/* The statistics of a relation in a join: its joined columns, and the columns whose conditions have lists. */
+/* The statistics of a relation in a join: its joined columns, and the columns for whose conditions lists were found. */
 static char *
 statistics_of(BoundedQuery *query, Relids relids, int relid)
 {
 	Entry	   *entry = &query->entries[relid];
 	const char *alias = query->root->simple_rte_array[relid]->eref->aliasname;
 	Bitmapset  *joined = NULL;
-	StringInfoData told;
+	StringInfoData description;
 	ListCell   *cell;
 
-	initStringInfo(&told);
-	appendStringInfoString(&told, alias);
+	initStringInfo(&description);
+	appendStringInfoString(&description, alias);
 	if (entry->table == NULL)
 	{
-		appendStringInfoString(&told, ": unknown");
-		return told.data;
+		appendStringInfoString(&description, ": unknown");
+		return description.data;
 	}
 	for (int i = 0; i < query->columns_length; i++)
 		if (query->columns[i].relid == (Index) relid)
 			joined = bms_add_member(joined, query->columns[i].number);
-	put_columns(&told, ": ", entry->table->relation, joined);
-	put_columns(&told, " by ", entry->table->relation, entry->used);
+	put_columns(&description, ": ", entry->table->relation, joined);
+	put_columns(&description, " by ", entry->table->relation, entry->used);
 	foreach(cell, query->carried)
 	{
-		Carried    *carried = lfirst(cell);
+		CarrierReference *carried = lfirst(cell);
 
 		if (carried->referring == (Index) relid && bms_is_member(carried->referred, relids) && carried->used)
-			put_columns(&told, psprintf(" by %s.", query->root->simple_rte_array[carried->referred]->eref->aliasname), carried->reference.referred, carried->used);
+			put_columns(&description, psprintf(" by %s.", query->root->simple_rte_array[carried->referred]->eref->aliasname), carried->reference.referred, carried->used);
 	}
-	return told.data;
+	return description.data;
 }
 
 static Datum
@@ -120,7 +120,7 @@ put_bounds(FunctionCallInfo fcinfo, const char *asked)
 {
 	List	   *queries;
 	List	   *roots = NIL;
-	PlannedStmt *plan = plan_and_tell(analysed(asked), asked, &queries);
+	PlannedStmt *plan = plan_and_store(analysed(asked), asked, &queries);
 	ListCell   *cell;
 
 	/* A user who may not run the query gets no information about it. */

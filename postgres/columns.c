@@ -97,7 +97,7 @@ sort_rows(Relation relation, AttrNumber number, Tuplesortstate *sort, TupleTable
 }
 
 /* The state of coding a column, while its sorted values arrive. */
-typedef struct Coding
+typedef struct ColumnCoder
 {
 	Column	   *column;
 	int			most_common;
@@ -108,74 +108,74 @@ typedef struct Coding
 	uint64		passed;			/* the rows of all values before the last one */
 	uint64		count;			/* the rows of the last value so far */
 	Datum		last;
-	Sorted	   *by_row;
-} Coding;
+	NumberSort *by_row;
+} ColumnCoder;
 
 /* Keeps the most common values. A more common value replaces the least common one. */
 static void
-note_common(Coding *coding)
+note_common(ColumnCoder *coder)
 {
-	Column	   *column = coding->column;
+	Column	   *column = coder->column;
 	int			least = 0;
 	CommonValue *into;
 
-	if (column->common_length < coding->most_common)
+	if (column->common_length < coder->most_common)
 		into = &column->common[column->common_length++];
 	else
 	{
-		for (int i = 1; i < coding->most_common; i++)
+		for (int i = 1; i < coder->most_common; i++)
 			if (column->common[i].count < column->common[least].count)
 				least = i;
-		if (coding->most_common == 0 || column->common[least].count >= coding->count)
+		if (coder->most_common == 0 || column->common[least].count >= coder->count)
 			return;
 		into = &column->common[least];
 		if (!column->attribute->attbyval)
 			pfree(DatumGetPointer(into->value));
 	}
-	*into = (CommonValue) {.code = column->highest, .count = coding->count};
-	into->value = datumCopy(coding->last, column->attribute->attbyval, column->attribute->attlen);
+	*into = (CommonValue) {.code = column->highest, .count = coder->count};
+	into->value = datumCopy(coder->last, column->attribute->attbyval, column->attribute->attlen);
 }
 
-/* Ends a leaf at the last value, once the leaves have their share of the rows. The last leaf reaches its share only at the last row. */
+/* Ends a leaf with the last value, if the leaves so far then have their share of the rows. The last leaf reaches its share only at the last row. */
 static void
-note_leaf(Coding *coding)
+note_leaf(ColumnCoder *coder)
 {
-	Column	   *column = coding->column;
-	uint64		all = coding->total - coding->nulls;
+	Column	   *column = coder->column;
+	uint64		all = coder->total - coder->nulls;
 	Leaf	   *leaf = &column->leaves[column->leaves_length];
 
-	if (coding->passed * coding->most_leaves < all * (column->leaves_length + 1) || coding->most_leaves == 0)
+	if (coder->passed * coder->most_leaves < all * (column->leaves_length + 1) || coder->most_leaves == 0)
 		return;
-	*leaf = (Leaf) {.last = column->highest, .end = coding->passed};
-	leaf->greatest = datumCopy(coding->last, column->attribute->attbyval, column->attribute->attlen);
+	*leaf = (Leaf) {.last = column->highest, .end = coder->passed};
+	leaf->greatest = datumCopy(coder->last, column->attribute->attbyval, column->attribute->attlen);
 	column->leaves_length++;
 }
 
 /* All rows of a value have come. */
 static void
-end_value(Coding *coding)
+end_value(ColumnCoder *coder)
 {
-	if (coding->column->highest == 0)
+	if (coder->column->highest == 0)
 		return;
-	coding->passed += coding->count;
-	note_common(coding);
-	if (coding->column->leaves)
-		note_leaf(coding);
+	coder->passed += coder->count;
+	note_common(coder);
+	if (coder->column->leaves)
+		note_leaf(coder);
 }
 
 static void
-begin_value(Coding *coding, Datum value)
+begin_value(ColumnCoder *coder, Datum value)
 {
-	Form_pg_attribute attribute = coding->column->attribute;
+	Form_pg_attribute attribute = coder->column->attribute;
 
-	end_value(coding);
-	if (coding->column->highest > 0 && !attribute->attbyval)
-		pfree(DatumGetPointer(coding->last));
+	end_value(coder);
+	if (coder->column->highest > 0 && !attribute->attbyval)
+		pfree(DatumGetPointer(coder->last));
 	if (attribute->attlen == -1)
 		value = PointerGetDatum(PG_DETOAST_DATUM_PACKED(value));
-	coding->last = datumCopy(value, attribute->attbyval, attribute->attlen);
-	coding->column->highest++;
-	coding->count = 0;
+	coder->last = datumCopy(value, attribute->attbyval, attribute->attlen);
+	coder->column->highest++;
+	coder->count = 0;
 }
 
 static int
@@ -189,9 +189,9 @@ by_code(const void *one, const void *other)
 
 /* Gives each row the code of its value, in the order of the sort. */
 static void
-code_values(Coding *coding, Tuplesortstate *sort, TupleTableSlot *slot)
+code_values(ColumnCoder *coder, Tuplesortstate *sort, TupleTableSlot *slot)
 {
-	Column	   *column = coding->column;
+	Column	   *column = coder->column;
 	FmgrInfo   *equal = &lookup_type_cache(column->attribute->atttypid, TYPECACHE_EQ_OPR_FINFO)->eq_opr_finfo;
 
 	while (tuplesort_gettupleslot(sort, true, true, slot, NULL))
@@ -200,52 +200,52 @@ code_values(Coding *coding, Tuplesortstate *sort, TupleTableSlot *slot)
 					isnull;
 		Datum		value = slot_getattr(slot, 1, &null);
 		uint32		row = (uint32) DatumGetInt32(slot_getattr(slot, 2, &isnull));
-		uint64		weight = coding->weights ? coding->weights[row] : 1;
+		uint64		weight = coder->weights ? coder->weights[row] : 1;
 
 		CHECK_FOR_INTERRUPTS();
 		if (null)
-			coding->nulls += weight;
-		else if (column->highest == 0 || !DatumGetBool(FunctionCall2Coll(equal, column->attribute->attcollation, coding->last, value)))
-			begin_value(coding, value);
-		coding->count += weight;
-		sorted_put(coding->by_row, ((uint64) row << 32) | (null ? 0 : column->highest));
+			coder->nulls += weight;
+		else if (column->highest == 0 || !DatumGetBool(FunctionCall2Coll(equal, column->attribute->attcollation, coder->last, value)))
+			begin_value(coder, value);
+		coder->count += weight;
+		sorted_put(coder->by_row, ((uint64) row << 32) | (null ? 0 : column->highest));
 	}
-	end_value(coding);
+	end_value(coder);
 	qsort(column->common, column->common_length, sizeof(CommonValue), by_code);
 }
 
 /* The codes of a sorted column, by its rows. */
 static void
-write_codes(Coding *coding)
+write_codes(ColumnCoder *coder)
 {
 	uint64		number;
 
-	sorted_perform(coding->by_row);
-	coding->column->codes = codes_begin();
-	while (sorted_get(coding->by_row, &number))
-		codes_put(coding->column->codes, (uint32) number);
-	codes_finish(coding->column->codes);
-	sorted_end(coding->by_row);
+	sorted_perform(coder->by_row);
+	coder->column->codes = codes_begin();
+	while (sorted_get(coder->by_row, &number))
+		codes_put(coder->column->codes, (uint32) number);
+	codes_finish(coder->column->codes);
+	sorted_end(coder->by_row);
 }
 
 static void
-code_column(const Making *making, Column *column, Tuplesortstate *sort, TupleDesc desc, uint32 rows, const uint32 *weights)
+code_column(const TableCount *table_count, Column *column, Tuplesortstate *sort, TupleDesc desc, uint32 rows, const uint32 *weights)
 {
 	TupleTableSlot *sorted = MakeSingleTupleTableSlot(desc, &TTSOpsMinimalTuple);
-	Coding		coding = {
-		.column = column,.most_common = making->most_common,.most_leaves = making->most_leaves,
-		.weights = weights,.total = making->rows
+	ColumnCoder		coder = {
+		.column = column,.most_common = table_count->most_common,.most_leaves = table_count->most_leaves,
+		.weights = weights,.total = table_count->rows
 	};
 
 	tuplesort_performsort(sort);
-	column->common = palloc((making->most_common + 1) * sizeof(CommonValue));
+	column->common = palloc((table_count->most_common + 1) * sizeof(CommonValue));
 	if (keeps_order(column->attribute->attcollation))
-		column->leaves = palloc((making->most_leaves + 1) * sizeof(Leaf));
-	coding.by_row = sorted_begin(rows, 0, 63);
-	code_values(&coding, sort, sorted);
+		column->leaves = palloc((table_count->most_leaves + 1) * sizeof(Leaf));
+	coder.by_row = sorted_begin(rows, 0, 63);
+	code_values(&coder, sort, sorted);
 	ExecDropSingleTupleTableSlot(sorted);
 	tuplesort_end(sort);
-	write_codes(&coding);
+	write_codes(&coder);
 }
 
 void
@@ -256,17 +256,17 @@ end_columns(Column *columns, int length)
 }
 
 void
-read_columns(Making *making)
+read_columns(TableCount *table_count)
 {
-	for (int i = 0; i < making->length; i++)
+	for (int i = 0; i < table_count->length; i++)
 	{
-		Column	   *column = &making->columns[i];
+		Column	   *column = &table_count->columns[i];
 		TupleDesc	desc = numbered_values(column->attribute);
 		TupleTableSlot *slot = MakeSingleTupleTableSlot(desc, &TTSOpsVirtual);
 		Tuplesortstate *sort = begin_sort(desc, column->attribute, maintenance_work_mem / 2);
 
-		making->rows = sort_rows(making->relation, column->number, sort, slot);
-		code_column(making, column, sort, desc, making->rows, NULL);
+		table_count->rows = sort_rows(table_count->relation, column->number, sort, slot);
+		code_column(table_count, column, sort, desc, table_count->rows, NULL);
 		ExecDropSingleTupleTableSlot(slot);
 	}
 }
@@ -304,7 +304,7 @@ full_name(Relation relation)
 
 /* A query for columns of the referred rows, one row for each value of the referring column, in the order of these values' codes. */
 static char *
-query_along(const Making *making, const Column *along, Relation referred, const ForeignKeyCacheInfo *reference, List *numbers)
+query_along(const TableCount *table_count, const Column *along, Relation referred, const ForeignKeyCacheInfo *reference, List *numbers)
 {
 	StringInfoData query;
 	const char *name = quote_identifier(NameStr(along->attribute->attname));
@@ -317,7 +317,7 @@ query_along(const Making *making, const Column *along, Relation referred, const 
 		appendStringInfo(&query, "%ss.%s", foreach_current_index(cell) ? ", " : "",
 						 quote_identifier(get_attname(RelationGetRelid(referred), lfirst_int(cell), false)));
 	appendStringInfo(&query, " FROM (SELECT DISTINCT %s AS value FROM %s%s WHERE %s IS NOT NULL) r LEFT JOIN ONLY %s s ON s.%s ",
-					 name, making->relation->rd_rel->relkind == RELKIND_PARTITIONED_TABLE ? "" : "ONLY ", full_name(making->relation), name, full_name(referred),
+					 name, table_count->relation->rd_rel->relkind == RELKIND_PARTITIONED_TABLE ? "" : "ONLY ", full_name(table_count->relation), name, full_name(referred),
 					 quote_identifier(get_attname(RelationGetRelid(referred), reference->confkey[0], false)));
 	put_operator(&query, reference->conpfeqop[0]);
 	appendStringInfoString(&query, " r.value ORDER BY r.value");
@@ -376,19 +376,19 @@ sort_referred(const char *query, int length, Tuplesortstate **sorts, TupleTableS
 
 /* How many rows have each code. */
 static uint32 *
-weights_of(const Making *making, const Column *column)
+weights_of(const TableCount *table_count, const Column *column)
 {
 	uint32	   *weights = MemoryContextAllocExtended(CurrentMemoryContext, ((Size) column->highest + 1) * sizeof(uint32), MCXT_ALLOC_HUGE | MCXT_ALLOC_ZERO);
 
 	codes_rewind(column->codes);
-	for (uint32 row = 0; row < making->rows; row++)
+	for (uint32 row = 0; row < table_count->rows; row++)
 		weights[codes_get(column->codes)]++;
 	return weights;
 }
 
 /* Turns the codes of a column of the referred table into codes of the rows that refer to it. */
 static void
-spread_codes(const Making *making, const Column *along, Column *column)
+spread_codes(const TableCount *table_count, const Column *along, Column *column)
 {
 	uint32	   *map = MemoryContextAllocHuge(CurrentMemoryContext, ((Size) along->highest + 1) * sizeof(uint32));
 
@@ -398,7 +398,7 @@ spread_codes(const Making *making, const Column *along, Column *column)
 	codes_end(column->codes);
 	column->codes = codes_begin();
 	codes_rewind(along->codes);
-	for (uint32 row = 0; row < making->rows; row++)
+	for (uint32 row = 0; row < table_count->rows; row++)
 		codes_put(column->codes, map[codes_get(along->codes)]);
 	codes_finish(column->codes);
 	pfree(map);
@@ -406,7 +406,7 @@ spread_codes(const Making *making, const Column *along, Column *column)
 
 /* The columns of the table to which a column refers, as columns of the referring rows. */
 Column *
-referred_columns(const Making *making, const Column *along, ForeignKeyCacheInfo *reference, int *length)
+referred_columns(const TableCount *table_count, const Column *along, ForeignKeyCacheInfo *reference, int *length)
 {
 	Relation	referred = table_open(reference->confrelid, AccessShareLock);
 	List	   *numbers = columns_beside(referred, reference->confkey[0]);
@@ -419,19 +419,19 @@ referred_columns(const Making *making, const Column *along, ForeignKeyCacheInfo 
 	*length = list_length(numbers);
 	for (int i = 0; i < *length; i++)
 	{
-		columns[i] = (Column) {.number = list_nth_int(numbers, i),.filter = true,.along = along,.referred = reference->confrelid,.key = reference->confkey[0]};
+		columns[i] = (Column) {.number = list_nth_int(numbers, i),.is_filter = true,.along = along,.referred = reference->confrelid,.key = reference->confkey[0]};
 		columns[i].attribute = memcpy(palloc(ATTRIBUTE_FIXED_PART_SIZE), TupleDescAttr(RelationGetDescr(referred), columns[i].number - 1), ATTRIBUTE_FIXED_PART_SIZE);
 		descs[i] = numbered_values(columns[i].attribute);
 		slots[i] = MakeSingleTupleTableSlot(descs[i], &TTSOpsVirtual);
 		sorts[i] = begin_sort(descs[i], columns[i].attribute, Max(64, maintenance_work_mem / (*length + 1)));
 	}
 	if (*length > 0)
-		sort_referred(query_along(making, along, referred, reference, numbers), *length, sorts, slots, along->highest + 1);
-	weights = weights_of(making, along);
+		sort_referred(query_along(table_count, along, referred, reference, numbers), *length, sorts, slots, along->highest + 1);
+	weights = weights_of(table_count, along);
 	for (int i = 0; i < *length; i++)
 	{
-		code_column(making, &columns[i], sorts[i], descs[i], along->highest + 1, weights);
-		spread_codes(making, along, &columns[i]);
+		code_column(table_count, &columns[i], sorts[i], descs[i], along->highest + 1, weights);
+		spread_codes(table_count, along, &columns[i]);
 		ExecDropSingleTupleTableSlot(slots[i]);
 	}
 	pfree(weights);

@@ -17,7 +17,7 @@
 #define MOST_VALUES 1000
 
 /* The relation whose conditions are used, and the relation that has the lists: the same one, or one that refers to it. */
-typedef struct Conditioned
+typedef struct ConditionContext
 {
 	Oid			relation;
 	Index		entry;			/* the relation's number in the query */
@@ -25,30 +25,29 @@ typedef struct Conditioned
 	AttrNumber	joined;
 	const Reference *reference; /* NULL: the relation has them itself */
 	Bitmapset **used;			/* the columns whose conditions had lists */
-	bool	   *loose;			/* set if a list may count more rows than satisfy the conditions */
-} Conditioned;
+	bool	   *may_overcount;	/* set if a list may count more rows than satisfy the conditions */
+} ConditionContext;
 
-static bool list_of_clause(const Conditioned *of, Node *clause, DegreeList *list);
+static bool list_of_clause(const ConditionContext *context, Node *clause, DegreeList *list);
 
-/* The column of this relation that an expression is, apart from conversions that keep the bytes; 0 if it isn't a column. */
+/* If the expression is a column of this relation, perhaps under conversions that keep the bytes: the column's number; otherwise 0. */
 static AttrNumber
-column_of(const Conditioned *of, Node *node)
+column_of(const ConditionContext *context, Node *node)
 {
 	while (node && IsA(node, RelabelType))
 		node = (Node *) ((RelabelType *) node)->arg;
-	if (node && IsA(node, Var) && ((Var *) node)->varno == (int) of->entry && ((Var *) node)->varlevelsup == 0 && ((Var *) node)->varattno > 0)
+	if (node && IsA(node, Var) && ((Var *) node)->varno == (int) context->entry && ((Var *) node)->varlevelsup == 0 && ((Var *) node)->varattno > 0)
 		return ((Var *) node)->varattno;
 	return 0;
 }
 
 static const KeptPair *
-pair_of(const Conditioned *of, AttrNumber column)
+pair_of(const ConditionContext *context, AttrNumber column)
 {
-	return kept_pair_along(of->table, of->joined, column, of->reference);
+	return kept_pair_along(context->table, context->joined, column, context->reference);
 }
 
-/* The operator family whose = decided which values of a column are equal when it was counted, if the values equal under `collation` are the same.
-   Otherwise InvalidOid. */
+/* The operator family whose = the counting of this column used; InvalidOid if other values may be equal under `collation`. */
 Oid
 equality_family(Oid relation, AttrNumber column, Oid collation)
 {
@@ -130,10 +129,10 @@ is_ordered_by(Oid relation, AttrNumber column, Oid collation)
 
 /* column < constant and the like, on either side. */
 static bool
-range_of_comparison(const Conditioned *of, OpExpr *clause, Range *range)
+range_of_comparison(const ConditionContext *context, OpExpr *clause, Range *range)
 {
 	Node	   *left = linitial(clause->args);
-	bool		column_left = column_of(of, left) != 0;
+	bool		column_left = column_of(context, left) != 0;
 	Node	   *other = column_left ? lsecond(clause->args) : left;
 	Oid			operator = column_left ? clause->opno : get_commutator(clause->opno);
 	const KeptPair *pair;
@@ -144,11 +143,11 @@ range_of_comparison(const Conditioned *of, OpExpr *clause, Range *range)
 				less_equal;
 	int			strategy;
 
-	range->column = column_of(of, column_left ? left : lsecond(clause->args));
-	pair = range->column ? pair_of(of, range->column) : NULL;
-	if (pair == NULL || pair->leaves == 0 || !OidIsValid(operator) || !is_ordered_by(of->relation, range->column, clause->inputcollid))
+	range->column = column_of(context, column_left ? left : lsecond(clause->args));
+	pair = range->column ? pair_of(context, range->column) : NULL;
+	if (pair == NULL || pair->leaves == 0 || !OidIsValid(operator) || !is_ordered_by(context->relation, range->column, clause->inputcollid))
 		return false;
-	family = equality_family(of->relation, range->column, clause->inputcollid);
+	family = equality_family(context->relation, range->column, clause->inputcollid);
 	if (!OidIsValid(family) || get_op_opfamily_strategy(operator, family) == 0)
 		return false;
 	get_op_opfamily_properties(operator, family, false, &strategy, &left_type, &right_type);
@@ -164,7 +163,7 @@ range_of_comparison(const Conditioned *of, OpExpr *clause, Range *range)
 
 /* How many bytes of a LIKE pattern come before its first wildcard or escape. */
 static int
-front_of(const char *pattern, int length)
+prefix_length(const char *pattern, int length)
 {
 	int			front = 0;
 
@@ -175,7 +174,7 @@ front_of(const char *pattern, int length)
 
 /* The least text, in the order of bytes, that is greater than all texts that begin with `front`; NULL if there is none. */
 static text *
-behind(const char *front, int length)
+text_after_prefix(const char *front, int length)
 {
 	text	   *next;
 
@@ -190,7 +189,7 @@ behind(const char *front, int length)
 
 /* column LIKE 'front%', where texts are ordered by their bytes. */
 static bool
-range_of_like(const Conditioned *of, OpExpr *clause, Range *range)
+range_of_like(const ConditionContext *context, OpExpr *clause, Range *range)
 {
 	Const	   *pattern = lsecond(clause->args);
 	const KeptPair *pair;
@@ -202,16 +201,16 @@ range_of_like(const Conditioned *of, OpExpr *clause, Range *range)
 	int32		typmod;
 	Range		below;
 
-	range->column = column_of(of, linitial(clause->args));
-	pair = range->column ? pair_of(of, range->column) : NULL;
+	range->column = column_of(context, linitial(clause->args));
+	pair = range->column ? pair_of(context, range->column) : NULL;
 	if (clause->opno != OID_TEXT_LIKE_OP || pair == NULL || pair->leaves == 0 || !IsA(pattern, Const) || pattern->constisnull)
 		return false;
-	get_atttypetypmodcoll(of->relation, range->column, &type, &typmod, &collation);
+	get_atttypetypmodcoll(context->relation, range->column, &type, &typmod, &collation);
 	if (lookup_type_cache(type, TYPECACHE_BTREE_OPFAMILY)->btree_opf != TEXT_BTREE_FAM_OID || !lc_collate_is_c(collation))
 		return false;
 	front = DatumGetTextPP(pattern->constvalue);
-	length = front_of(VARDATA_ANY(front), VARSIZE_ANY_EXHDR(front));
-	next = behind(VARDATA_ANY(front), length);
+	length = prefix_length(VARDATA_ANY(front), VARSIZE_ANY_EXHDR(front));
+	next = text_after_prefix(VARDATA_ANY(front), length);
 	front = cstring_to_text_with_len(VARDATA_ANY(front), length);
 	set_range(range, pair, BTGreaterEqualStrategyNumber, TextLessOperator, InvalidOid, C_COLLATION_OID, PointerGetDatum(front));
 	if (next == NULL)
@@ -222,13 +221,13 @@ range_of_like(const Conditioned *of, OpExpr *clause, Range *range)
 }
 
 static bool
-range_of_clause(const Conditioned *of, Node *clause, Range *range)
+range_of_clause(const ConditionContext *context, Node *clause, Range *range)
 {
 	if (IsA(clause, RestrictInfo))
 		clause = (Node *) ((RestrictInfo *) clause)->clause;
 	if (!IsA(clause, OpExpr) || list_length(((OpExpr *) clause)->args) != 2)
 		return false;
-	return range_of_comparison(of, (OpExpr *) clause, range) || range_of_like(of, (OpExpr *) clause, range);
+	return range_of_comparison(context, (OpExpr *) clause, range) || range_of_like(context, (OpExpr *) clause, range);
 }
 
 /* The list of a range of leaves: the sum of the lists of the fewest nodes that make up the range. */
@@ -278,18 +277,18 @@ list_of_value(const KeptPair *pair, FmgrInfo *equal, Oid collation, bool column_
 }
 
 static bool
-list_of_equality(const Conditioned *of, OpExpr *clause, DegreeList *list)
+list_of_equality(const ConditionContext *context, OpExpr *clause, DegreeList *list)
 {
 	Node	   *left = linitial(clause->args);
 	Node	   *right = lsecond(clause->args);
-	bool		column_left = column_of(of, left) != 0;
-	AttrNumber	column = column_left ? column_of(of, left) : column_of(of, right);
+	bool		column_left = column_of(context, left) != 0;
+	AttrNumber	column = column_left ? column_of(context, left) : column_of(context, right);
 	Node	   *other = column_left ? right : left;
-	const KeptPair *pair = column ? pair_of(of, column) : NULL;
+	const KeptPair *pair = column ? pair_of(context, column) : NULL;
 	const KeptList *kept;
 	FmgrInfo	equal;
 
-	if (pair == NULL || !is_equality(of->relation, column, clause->opno, clause->inputcollid))
+	if (pair == NULL || !is_equality(context->relation, column, clause->opno, clause->inputcollid))
 		return false;
 	while (IsA(other, RelabelType))
 		other = (Node *) ((RelabelType *) other)->arg;
@@ -304,15 +303,15 @@ list_of_equality(const Conditioned *of, OpExpr *clause, DegreeList *list)
 		kept = list_of_value(pair, &equal, clause->inputcollid, column_left, ((Const *) other)->constvalue);
 	if (kept == NULL)
 		return false;
-	*of->used = bms_add_member(*of->used, column);
-	*of->loose |= kept->kind != LIST_VALUE;
+	*context->used = bms_add_member(*context->used, column);
+	*context->may_overcount |= kept->kind != LIST_VALUE;
 	*list = kept->list;
 	return true;
 }
 
 /* The sum of the lists of an array's values. A common value that occurs twice in the array counts once; any other value counts each time. */
 static bool
-sum_of_values(const Conditioned *of, const KeptPair *pair, ScalarArrayOpExpr *clause, ArrayType *array, DegreeList *list)
+sum_of_values(const ConditionContext *context, const KeptPair *pair, ScalarArrayOpExpr *clause, ArrayType *array, DegreeList *list)
 {
 	Oid			type = ARR_ELEMTYPE(array);
 	bool	   *used = palloc0((pair->length + 1) * sizeof(bool));
@@ -337,41 +336,41 @@ sum_of_values(const Conditioned *of, const KeptPair *pair, ScalarArrayOpExpr *cl
 		if (kept == NULL || used[kept - pair->lists])
 			continue;
 		used[kept - pair->lists] = kept->kind == LIST_VALUE;
-		*of->loose |= kept->kind != LIST_VALUE;
+		*context->may_overcount |= kept->kind != LIST_VALUE;
 		*list = summed(*list, kept->list);
 	}
 	return true;
 }
 
 static bool
-list_of_array(const Conditioned *of, ScalarArrayOpExpr *clause, DegreeList *list)
+list_of_array(const ConditionContext *context, ScalarArrayOpExpr *clause, DegreeList *list)
 {
-	AttrNumber	column = column_of(of, linitial(clause->args));
+	AttrNumber	column = column_of(context, linitial(clause->args));
 	Node	   *values = lsecond(clause->args);
-	const KeptPair *pair = column ? pair_of(of, column) : NULL;
+	const KeptPair *pair = column ? pair_of(context, column) : NULL;
 
 	while (IsA(values, RelabelType))
 		values = (Node *) ((RelabelType *) values)->arg;
-	if (pair == NULL || !clause->useOr || !is_equality(of->relation, column, clause->opno, clause->inputcollid))
+	if (pair == NULL || !clause->useOr || !is_equality(context->relation, column, clause->opno, clause->inputcollid))
 		return false;
 	if (!IsA(values, Const) || ((Const *) values)->constisnull)
 		return false;
-	if (!sum_of_values(of, pair, clause, DatumGetArrayTypeP(((Const *) values)->constvalue), list))
+	if (!sum_of_values(context, pair, clause, DatumGetArrayTypeP(((Const *) values)->constvalue), list))
 		return false;
-	*of->used = bms_add_member(*of->used, column);
+	*context->used = bms_add_member(*context->used, column);
 	return true;
 }
 
 static bool
-list_of_null_test(const Conditioned *of, NullTest *test, DegreeList *list)
+list_of_null_test(const ConditionContext *context, NullTest *test, DegreeList *list)
 {
-	AttrNumber	column = column_of(of, (Node *) test->arg);
-	const KeptPair *pair = column ? pair_of(of, column) : NULL;
+	AttrNumber	column = column_of(context, (Node *) test->arg);
+	const KeptPair *pair = column ? pair_of(context, column) : NULL;
 	const KeptList *kept = pair && test->nulltesttype == IS_NULL && !test->argisrow ? list_of_kind(pair, LIST_NULL) : NULL;
 
 	if (kept == NULL)
 		return false;
-	*of->used = bms_add_member(*of->used, column);
+	*context->used = bms_add_member(*context->used, column);
 	*list = kept->list;
 	return true;
 }
@@ -400,15 +399,15 @@ add_range(List **ranges, const Range *range)
 
 /* Lowers a list by the list of one more condition. `taken` says how many conditions the list already has. */
 static void
-add_list(const Conditioned *of, DegreeList *list, const DegreeList *one, int taken)
+add_list(const ConditionContext *context, DegreeList *list, const DegreeList *one, int taken)
 {
-	*of->loose |= taken > 0;
+	*context->may_overcount |= taken > 0;
 	*list = taken > 0 ? lesser(*list, *one) : *one;
 }
 
 /* AND: the lesser of the lists of the conditions that this code knows. */
 static bool
-list_of_all(const Conditioned *of, List *clauses, DegreeList *list)
+list_of_all(const ConditionContext *context, List *clauses, DegreeList *list)
 {
 	int			taken = 0;
 	List	   *ranges = NIL;
@@ -418,34 +417,34 @@ list_of_all(const Conditioned *of, List *clauses, DegreeList *list)
 	{
 		DegreeList	one;
 		Range		range;
-		bool		is_range = range_of_clause(of, lfirst(cell), &range);
+		bool		is_range = range_of_clause(context, lfirst(cell), &range);
 
 		if (is_range)
 		{
 			add_range(&ranges, &range);
-			*of->used = bms_add_member(*of->used, range.column);
+			*context->used = bms_add_member(*context->used, range.column);
 		}
-		if (!list_of_clause(of, lfirst(cell), &one))
+		if (!list_of_clause(context, lfirst(cell), &one))
 		{
-			*of->loose |= !is_range;
+			*context->may_overcount |= !is_range;
 			continue;
 		}
-		add_list(of, list, &one, taken++);
+		add_list(context, list, &one, taken++);
 	}
 	foreach(cell, ranges)
 	{
 		DegreeList	one = list_of_range(lfirst(cell));
 
-		add_list(of, list, &one, taken++);
+		add_list(context, list, &one, taken++);
 	}
 	return taken > 0;
 }
 
 /* OR: the sum, if this code knows both sides. */
 static bool
-list_of_any(const Conditioned *of, List *clauses, DegreeList *list)
+list_of_any(const ConditionContext *context, List *clauses, DegreeList *list)
 {
-	Bitmapset  *used = bms_copy(*of->used);
+	Bitmapset  *used = bms_copy(*context->used);
 	ListCell   *cell;
 
 	*list = (DegreeList) {0};
@@ -453,9 +452,9 @@ list_of_any(const Conditioned *of, List *clauses, DegreeList *list)
 	{
 		DegreeList	one;
 
-		if (!list_of_all(of, list_make1(lfirst(cell)), &one))
+		if (!list_of_all(context, list_make1(lfirst(cell)), &one))
 		{
-			*of->used = used;
+			*context->used = used;
 			return false;
 		}
 		*list = summed(*list, one);
@@ -464,20 +463,20 @@ list_of_any(const Conditioned *of, List *clauses, DegreeList *list)
 }
 
 static bool
-list_of_clause(const Conditioned *of, Node *clause, DegreeList *list)
+list_of_clause(const ConditionContext *context, Node *clause, DegreeList *list)
 {
 	if (IsA(clause, RestrictInfo))
 		clause = (Node *) ((RestrictInfo *) clause)->clause;
 	if (is_andclause(clause))
-		return list_of_all(of, ((BoolExpr *) clause)->args, list);
+		return list_of_all(context, ((BoolExpr *) clause)->args, list);
 	if (is_orclause(clause))
-		return list_of_any(of, ((BoolExpr *) clause)->args, list);
+		return list_of_any(context, ((BoolExpr *) clause)->args, list);
 	if (IsA(clause, OpExpr) && list_length(((OpExpr *) clause)->args) == 2)
-		return list_of_equality(of, (OpExpr *) clause, list);
+		return list_of_equality(context, (OpExpr *) clause, list);
 	if (IsA(clause, ScalarArrayOpExpr))
-		return list_of_array(of, (ScalarArrayOpExpr *) clause, list);
+		return list_of_array(context, (ScalarArrayOpExpr *) clause, list);
 	if (IsA(clause, NullTest))
-		return list_of_null_test(of, (NullTest *) clause, list);
+		return list_of_null_test(context, (NullTest *) clause, list);
 	return false;
 }
 
@@ -486,26 +485,26 @@ DegreeList
 list_under(const KeptTable *table, RelOptInfo *rel, AttrNumber joined, Bitmapset **used)
 {
 	const KeptPair *all = kept_pair(table, joined, 0);
-	bool		loose = false;
-	Conditioned of = {.relation = table->relation,.entry = rel->relid,.table = table,.joined = joined,.used = used,.loose = &loose};
-	DegreeList	whole = all->lists[0].list;
+	bool		may_overcount = false;
+	ConditionContext context = {.relation = table->relation,.entry = rel->relid,.table = table,.joined = joined,.used = used,.may_overcount = &may_overcount};
+	DegreeList	all_rows = all->lists[0].list;
 	DegreeList	list;
 
-	list = list_of_all(&of, rel->baserestrictinfo, &list) ? lesser(whole, list) : whole;
+	list = list_of_all(&context, rel->baserestrictinfo, &list) ? lesser(all_rows, list) : all_rows;
 	return with_deltas(table, joined, list);
 }
 
 /* The list of a joined column over the rows that refer to a row that satisfies the conditions of its relation. False if there is no list. If the
    table is watched, the referred table has to be unchanged: after a change there, other rows of this table may satisfy the conditions. */
 bool
-list_along(const KeptTable *table, const Reference *reference, RelOptInfo *referred, AttrNumber joined, DegreeList *list, Bitmapset **used, bool *loose)
+list_along(const KeptTable *table, const Reference *reference, RelOptInfo *referred, AttrNumber joined, DegreeList *list, Bitmapset **used, bool *may_overcount)
 {
-	Conditioned of = {
-		.relation = reference->referred,.entry = referred->relid,.table = table,.joined = joined,.reference = reference,.used = used,.loose = loose
+	ConditionContext context = {
+		.relation = reference->referred,.entry = referred->relid,.table = table,.joined = joined,.reference = reference,.used = used,.may_overcount = may_overcount
 	};
-	bool		holds = table->deltas ? list_member_oid(table->unchanged, reference->referred) : !kept_fresh_only;
+	bool		is_unchanged = table->deltas ? list_member_oid(table->unchanged, reference->referred) : !kept_fresh_only;
 
-	if (!holds || !list_of_all(&of, referred->baserestrictinfo, list))
+	if (!is_unchanged || !list_of_all(&context, referred->baserestrictinfo, list))
 		return false;
 	*list = with_deltas(table, joined, *list);
 	return true;

@@ -1,4 +1,4 @@
-/* How a table's columns are counted. Each value gets a code, in the order of the column's sort, and lists are counted over codes. */
+/* How a table's columns are counted. Each value gets a code, in the order of the column's sort, and lists are made by counting codes. */
 #ifndef SAFEBOUND_COUNTING_H
 #define SAFEBOUND_COUNTING_H
 
@@ -9,12 +9,12 @@
 #include "utils/rel.h"
 
 /* sorted.c: sorts numbers below 2^63, in memory if `most` numbers fit, else in files. */
-typedef struct Sorted Sorted;
-extern Sorted *sorted_begin(uint64 most, int from, int bits);
-extern void sorted_put(Sorted *sorted, uint64 number);
-extern void sorted_perform(Sorted *sorted);
-extern bool sorted_get(Sorted *sorted, uint64 *number);
-extern void sorted_end(Sorted *sorted);
+typedef struct NumberSort NumberSort;
+extern NumberSort *sorted_begin(uint64 most, int from, int bits);
+extern void sorted_put(NumberSort *sorted, uint64 number);
+extern void sorted_perform(NumberSort *sorted);
+extern bool sorted_get(NumberSort *sorted, uint64 *number);
+extern void sorted_end(NumberSort *sorted);
 
 /* sorted.c: the codes of a column, one for each row, in a file. */
 typedef struct Codes Codes;
@@ -51,8 +51,8 @@ typedef struct Column
 {
 	AttrNumber	number;
 	Form_pg_attribute attribute;
-	bool		joined;
-	bool		filter;
+	bool		is_joined;
+	bool		is_filter;
 	const struct Column *along; /* the referring column, if this is a column of a referred table */
 	Oid			referred;
 	AttrNumber	key;			/* the column to which `along` refers */
@@ -64,7 +64,7 @@ typedef struct Column
 	Leaf	   *leaves;			/* NULL if the sort didn't keep its order */
 } Column;
 
-typedef struct Making
+typedef struct TableCount
 {
 	Relation	relation;
 	uint32		rows;
@@ -74,19 +74,19 @@ typedef struct Making
 	int			length;
 	Column	   *columns;
 	int64		lists;			/* how many lists were made */
-} Making;
+} TableCount;
 
 /* columns.c */
-extern void read_columns(Making *making);
-extern Column *referred_columns(const Making *making, const Column *along, ForeignKeyCacheInfo *reference, int *length);
+extern void read_columns(TableCount *table_count);
+extern Column *referred_columns(const TableCount *table_count, const Column *along, ForeignKeyCacheInfo *reference, int *length);
 extern void end_columns(Column *columns, int length);
 
 /* counts.c */
-extern void keep_whole(Making *making);
-extern void keep_filters(Making *making, const Column *filters, int length);
+extern void keep_whole(TableCount *table_count);
+extern void keep_filters(TableCount *table_count, const Column *filters, int length);
 
 /* keep.c */
 extern bool has_order(Form_pg_attribute attribute);
-extern void save_pair(const Making *making, const Column *joined, const Column *filter, StringInfo bytes);
+extern void save_pair(const TableCount *table_count, const Column *joined, const Column *filter, StringInfo bytes);
 
 #endif

@@ -1,4 +1,5 @@
-/* Counts the lists of a joined column by a filter column: sorts the rows by the codes of both columns, and counts. */
+/* Makes, by counting, the degree lists of a joined column for the values and ranges of a filter column. It sorts the rows by the codes of both
+   columns. */
 #include "counting.h"
 
 #include "miscadmin.h"
@@ -6,24 +7,24 @@
 #include "utils/datum.h"
 #include "utils/memutils.h"
 
-/* Degrees below this one are counted in an array, without a search. */
-#define FEW 32
+/* Degrees below this number are counted in an array, without a search. */
+#define LOW_DEGREES 32
 
 /* How many keys there are of each degree. */
 typedef struct Degrees
 {
 	uint64		rows;
-	uint64		few[FEW];		/* the keys of each low degree */
+	uint64		low_keys[LOW_DEGREES];	/* the number of keys of each degree below LOW_DEGREES */
 	int			length;
 	int			capacity;
 	safebound_run *runs;		/* the keys of higher degrees, the lowest degree first */
 } Degrees;
 
 static void
-empty(Degrees *degrees)
+clear_degrees(Degrees *degrees)
 {
 	degrees->rows = degrees->length = 0;
-	memset(degrees->few, 0, sizeof(degrees->few));
+	memset(degrees->low_keys, 0, sizeof(degrees->low_keys));
 }
 
 /* The place of a degree among the runs, or the place where it would be inserted. */
@@ -70,37 +71,37 @@ add_high_degree(Degrees *degrees, uint64 degree)
 static inline void
 add_degree(Degrees *degrees, uint64 degree)
 {
-	if (degree >= FEW)
+	if (degree >= LOW_DEGREES)
 		add_high_degree(degrees, degree);
 	else if (degree > 0)
-		degrees->few[degree]++;
+		degrees->low_keys[degree]++;
 }
 
 /* The degrees as a list, the greatest degree first. */
 static DegreeList
 list_of_degrees(const Degrees *degrees)
 {
-	DegreeList	list = {degrees->rows, degrees->length, palloc((degrees->length + FEW) * sizeof(safebound_run))};
+	DegreeList	list = {degrees->rows, degrees->length, palloc((degrees->length + LOW_DEGREES) * sizeof(safebound_run))};
 
 	for (int i = 0; i < degrees->length; i++)
 		list.runs[i] = degrees->runs[degrees->length - 1 - i];
-	for (int degree = FEW - 1; degree > 0; degree--)
-		if (degrees->few[degree] > 0)
-			list.runs[list.length++] = (safebound_run) {.degree = degree,.keys = degrees->few[degree]};
+	for (int degree = LOW_DEGREES - 1; degree > 0; degree--)
+		if (degrees->low_keys[degree] > 0)
+			list.runs[list.length++] = (safebound_run) {.degree = degree,.keys = degrees->low_keys[degree]};
 	return list;
 }
 
-/* The lists of one joined column by one filter column, while they are counted. */
-typedef struct Counting
+/* The lists of one joined column for the values and ranges of one filter column, while they are made. */
+typedef struct ListWriter
 {
-	Making	   *making;
-	const Column *joined;		/* NULL: rows alone */
-	const Column *filter;		/* NULL: all rows */
+	TableCount *table_count;
+	const Column *joined;		/* NULL: only numbers of rows are wanted */
+	const Column *filter;		/* NULL: only the list of all rows is wanted */
 	MemoryContext group;
 	DegreeList	other;
 	DegreeList	any;
 	StringInfoData bytes;
-} Counting;
+} ListWriter;
 
 static void
 put_kept_value(StringInfo bytes, Form_pg_attribute attribute, Datum value)
@@ -115,27 +116,27 @@ put_kept_value(StringInfo bytes, Form_pg_attribute attribute, Datum value)
 }
 
 static void
-put_kept_list(Counting *counting, ListKind kind, const Datum *value, DegreeList list)
+put_kept_list(ListWriter *writer, ListKind kind, const Datum *value, DegreeList list)
 {
-	DegreeList	few = compressed(list, counting->making->accuracy);
+	DegreeList	stored = compressed(list, writer->table_count->accuracy);
 
-	appendStringInfoChar(&counting->bytes, (char) kind);
+	appendStringInfoChar(&writer->bytes, (char) kind);
 	if (value != NULL)
-		put_kept_value(&counting->bytes, counting->filter->attribute, *value);
-	put_list(&counting->bytes, &few);
-	counting->making->lists++;
+		put_kept_value(&writer->bytes, writer->filter->attribute, *value);
+	put_list(&writer->bytes, &stored);
+	writer->table_count->lists++;
 }
 
 /* Raises a list to the greater degree at each rank. The memory of `into` outlives that of the group. */
 static void
-take_greatest(Counting *counting, DegreeList *into, const DegreeList *list)
+raise_list(ListWriter *writer, DegreeList *into, const DegreeList *list)
 {
 	DegreeList	both;
 	MemoryContext before;
 
 	if (dominates(into, list))
 		return;
-	before = MemoryContextSwitchTo(MemoryContextGetParent(counting->group));
+	before = MemoryContextSwitchTo(MemoryContextGetParent(writer->group));
 	both = greater_by_rank(*into, *list);
 	if (into->runs)
 		pfree(into->runs);
@@ -143,32 +144,33 @@ take_greatest(Counting *counting, DegreeList *into, const DegreeList *list)
 	MemoryContextSwitchTo(before);
 }
 
-/* Stores the lists of one group: for NULL or a common value its own list, otherwise a part of the list of all other values. */
+/* Takes the list of one group (the rows with one code of the filter column). NULL and common values get a list of their own. Otherwise the list
+   that stands for all other values is raised to it. */
 static void
-put_group(Counting *counting, uint32 code, const Degrees *degrees, int *common)
+put_group(ListWriter *writer, uint32 code, const Degrees *degrees, int *next_common)
 {
-	const Column *filter = counting->filter;
+	const Column *filter = writer->filter;
 	DegreeList	list = list_of_degrees(degrees);
 
 	if (filter == NULL)
-		return put_kept_list(counting, LIST_ALL, NULL, list);
+		return put_kept_list(writer, LIST_ALL, NULL, list);
 	if (code == 0)
-		return put_kept_list(counting, LIST_NULL, NULL, list);
-	take_greatest(counting, &counting->any, &list);
-	if (*common < filter->common_length && filter->common[*common].code == code)
-		put_kept_list(counting, LIST_VALUE, &filter->common[(*common)++].value, list);
+		return put_kept_list(writer, LIST_NULL, NULL, list);
+	raise_list(writer, &writer->any, &list);
+	if (*next_common < filter->common_length && filter->common[*next_common].code == code)
+		put_kept_list(writer, LIST_VALUE, &filter->common[(*next_common)++].value, list);
 	else
-		take_greatest(counting, &counting->other, &list);
+		raise_list(writer, &writer->other, &list);
 }
 
 static void
-end_group(Counting *counting, uint32 code, const Degrees *degrees, int *common)
+end_group(ListWriter *writer, uint32 code, const Degrees *degrees, int *next_common)
 {
-	MemoryContext before = MemoryContextSwitchTo(counting->group);
+	MemoryContext before = MemoryContextSwitchTo(writer->group);
 
-	put_group(counting, code, degrees, common);
+	put_group(writer, code, degrees, next_common);
 	MemoryContextSwitchTo(before);
-	MemoryContextReset(counting->group);
+	MemoryContextReset(writer->group);
 }
 
 /* How many bits the codes of a column take. */
@@ -179,15 +181,15 @@ bits_of(const Column *column)
 }
 
 /* The rows of a table, sorted by their codes of a joined column. This order is made once for all filter columns. */
-typedef struct Order
+typedef struct RowOrder
 {
 	const Column *joined;
 	uint32	   *ends;			/* by code: how many rows have this code or a lower one */
 	uint32	   *rows;			/* NULL: the rows don't fit in memory, and are sorted for each pair of columns */
-} Order;
+} RowOrder;
 
 static bool
-fits(uint64 numbers)
+fits_in_half(uint64 numbers)
 {
 	/* Sorting may take the other half of the memory. */
 	return numbers * sizeof(uint32) <= (uint64) maintenance_work_mem * 1024 / 2;
@@ -195,12 +197,12 @@ fits(uint64 numbers)
 
 /* How many rows have each code. */
 static uint32 *
-count_codes(const Making *making, const Column *column)
+count_codes(const TableCount *table_count, const Column *column)
 {
 	uint32	   *counts = MemoryContextAllocExtended(CurrentMemoryContext, ((Size) column->highest + 2) * sizeof(uint32), MCXT_ALLOC_HUGE | MCXT_ALLOC_ZERO);
 
 	codes_rewind(column->codes);
-	for (uint32 row = 0; row < making->rows; row++)
+	for (uint32 row = 0; row < table_count->rows; row++)
 		counts[codes_get(column->codes)]++;
 	return counts;
 }
@@ -220,31 +222,31 @@ sum_up(uint32 *counts, uint32 highest)
 	}
 }
 
-static Order
-order_rows(const Making *making, const Column *joined)
+static RowOrder
+order_rows(const TableCount *table_count, const Column *joined)
 {
-	Order		order = {.joined = joined};
+	RowOrder	row_order = {.joined = joined};
 
 	/* The codes of a filter column take memory too. */
-	if (joined == NULL || !fits(2 * (uint64) making->rows + joined->highest + 2))
-		return order;
-	order.ends = count_codes(making, joined);
-	sum_up(order.ends, joined->highest);
-	order.rows = MemoryContextAllocHuge(CurrentMemoryContext, ((Size) making->rows + 1) * sizeof(uint32));
+	if (joined == NULL || !fits_in_half(2 * (uint64) table_count->rows + joined->highest + 2))
+		return row_order;
+	row_order.ends = count_codes(table_count, joined);
+	sum_up(row_order.ends, joined->highest);
+	row_order.rows = MemoryContextAllocHuge(CurrentMemoryContext, ((Size) table_count->rows + 1) * sizeof(uint32));
 	codes_rewind(joined->codes);
-	for (uint32 row = 0; row < making->rows; row++)
-		order.rows[order.ends[codes_get(joined->codes)]++] = row;
-	return order;
+	for (uint32 row = 0; row < table_count->rows; row++)
+		row_order.rows[row_order.ends[codes_get(joined->codes)]++] = row;
+	return row_order;
 }
 
 /* The pairs of codes of both columns, one for each row, in the order of the joined column's codes. */
 typedef struct Pairs
 {
-	const Order *order;
-	uint32	   *filter;			/* by row; NULL: no filter column, or sorted */
+	const RowOrder *row_order;
+	uint32	   *filter_codes;	/* the filter column's code of each row; NULL if there is no filter column or `sorted` is used */
 	uint32		at;
 	uint32		code;			/* of the joined column */
-	Sorted	   *sorted;			/* NULL: rows are in order */
+	NumberSort *sorted;			/* the pairs in a sort; NULL: rows are read by row_order->rows */
 	int			bits;
 } Pairs;
 
@@ -255,13 +257,13 @@ next_code(const Column *column)
 }
 
 static void
-sort_pairs(Pairs *pairs, const Making *making, const Column *joined, const Column *filter)
+sort_pairs(Pairs *pairs, const TableCount *table_count, const Column *joined, const Column *filter)
 {
 	pairs->bits = bits_of(filter);
-	pairs->sorted = sorted_begin(making->rows, 0, bits_of(joined) + pairs->bits);
+	pairs->sorted = sorted_begin(table_count->rows, 0, bits_of(joined) + pairs->bits);
 	if (joined)
 		codes_rewind(joined->codes);
-	for (uint32 row = 0; row < making->rows; row++)
+	for (uint32 row = 0; row < table_count->rows; row++)
 	{
 		uint64		high = next_code(joined);
 		/* The joined column may be the filter column too. */
@@ -274,19 +276,19 @@ sort_pairs(Pairs *pairs, const Making *making, const Column *joined, const Colum
 }
 
 static Pairs
-pairs_begin(const Making *making, const Order *order, const Column *filter)
+pairs_begin(const TableCount *table_count, const RowOrder *row_order, const Column *filter)
 {
-	Pairs		pairs = {.order = order};
+	Pairs		pairs = {.row_order = row_order};
 
 	if (filter)
 		codes_rewind(filter->codes);
-	if (order->rows == NULL)
-		sort_pairs(&pairs, making, order->joined, filter);
+	if (row_order->rows == NULL)
+		sort_pairs(&pairs, table_count, row_order->joined, filter);
 	else if (filter)
 	{
-		pairs.filter = MemoryContextAllocHuge(CurrentMemoryContext, ((Size) making->rows + 1) * sizeof(uint32));
-		for (uint32 row = 0; row < making->rows; row++)
-			pairs.filter[row] = codes_get(filter->codes);
+		pairs.filter_codes = MemoryContextAllocHuge(CurrentMemoryContext, ((Size) table_count->rows + 1) * sizeof(uint32));
+		for (uint32 row = 0; row < table_count->rows; row++)
+			pairs.filter_codes[row] = codes_get(filter->codes);
 	}
 	return pairs;
 }
@@ -294,7 +296,7 @@ pairs_begin(const Making *making, const Order *order, const Column *filter)
 static bool
 next_pair(Pairs *pairs, uint32 *joined, uint32 *filter)
 {
-	const Order *order = pairs->order;
+	const RowOrder *row_order = pairs->row_order;
 	uint64		number;
 
 	if (pairs->sorted)
@@ -305,11 +307,11 @@ next_pair(Pairs *pairs, uint32 *joined, uint32 *filter)
 		*filter = (uint32) (number & ((UINT64CONST(1) << pairs->bits) - 1));
 		return true;
 	}
-	while (pairs->at == order->ends[pairs->code])
-		if (pairs->code++ == order->joined->highest)
+	while (pairs->at == row_order->ends[pairs->code])
+		if (pairs->code++ == row_order->joined->highest)
 			return false;
 	*joined = pairs->code;
-	*filter = pairs->filter ? pairs->filter[order->rows[pairs->at]] : 0;
+	*filter = pairs->filter_codes ? pairs->filter_codes[row_order->rows[pairs->at]] : 0;
 	pairs->at++;
 	return true;
 }
@@ -319,8 +321,8 @@ pairs_end(Pairs *pairs)
 {
 	if (pairs->sorted)
 		sorted_end(pairs->sorted);
-	if (pairs->filter)
-		pfree(pairs->filter);
+	if (pairs->filter_codes)
+		pfree(pairs->filter_codes);
 }
 
 /* The leaf of the filter column that has this code. */
@@ -342,22 +344,23 @@ leaf_of(const Column *filter, uint32 code)
 	return from;
 }
 
-/* Leaves and the nodes above them. Each node has two children of the level below; the last node of a level may have only one. */
+/* Ranges of the filter column's values: leaves, and nodes above them. Each node has two children of the level below; the last node of a level may
+   have only one. */
 typedef struct Nodes
 {
 	int			leaves;
 	int			length;			/* the number of nodes in all levels */
-	int		   *above;			/* the parent of each node; -1 for the root */
+	int		   *parents;		/* the parent of each node; -1 for the root */
 	Degrees    *degrees;
 	uint64	   *counts;			/* how often the joined value occurs in each node */
-	int		   *touched;		/* the nodes in which it occurs */
+	int		   *touched;		/* the nodes in which the joined value occurs */
 	int			touched_length;
 } Nodes;
 
 static void
 touch_leaf(Nodes *nodes, int leaf, uint64 count)
 {
-	for (int node = leaf; node >= 0; node = nodes->above[node])
+	for (int node = leaf; node >= 0; node = nodes->parents[node])
 	{
 		if (nodes->counts[node] == 0)
 			nodes->touched[nodes->touched_length++] = node;
@@ -367,7 +370,7 @@ touch_leaf(Nodes *nodes, int leaf, uint64 count)
 
 /* Adds a joined value's degrees to the nodes in which it occurs. NULL is skipped, since it joins with nothing. */
 static void
-end_joined(Nodes *nodes, uint32 joined)
+end_joined_value(Nodes *nodes, uint32 joined)
 {
 	for (int i = 0; i < nodes->touched_length; i++)
 	{
@@ -388,7 +391,7 @@ set_node_rows(Nodes *nodes, const Leaf *leaves)
 		touch_leaf(nodes, i, leaves[i].end - (i ? leaves[i - 1].end : 0));
 	for (int i = 0; i < nodes->length; i++)
 		nodes->degrees[i].rows = nodes->counts[i];
-	end_joined(nodes, 0);
+	end_joined_value(nodes, 0);
 }
 
 static Nodes
@@ -398,50 +401,51 @@ nodes_of(const Column *filter)
 
 	for (int length = nodes.leaves; length > 0; length = length > 1 ? (length + 1) / 2 : 0)
 		nodes.length += length;
-	nodes.above = palloc(nodes.length * sizeof(int) + 1);
+	nodes.parents = palloc(nodes.length * sizeof(int) + 1);
 	nodes.degrees = palloc0(nodes.length * sizeof(Degrees) + 1);
 	nodes.counts = palloc0(nodes.length * sizeof(uint64) + 1);
 	nodes.touched = palloc(nodes.length * sizeof(int) + 1);
 	for (int level = 0, length = nodes.leaves; length > 0; level += length, length = length > 1 ? (length + 1) / 2 : 0)
 		for (int i = 0; i < length; i++)
-			nodes.above[level + i] = length > 1 ? level + length + i / 2 : -1;
+			nodes.parents[level + i] = length > 1 ? level + length + i / 2 : -1;
 	set_node_rows(&nodes, filter->leaves);
 	return nodes;
 }
 
 static void
-put_nodes(Counting *counting, const Nodes *nodes)
+put_nodes(ListWriter *writer, const Nodes *nodes)
 {
 	for (int i = 0; i < nodes->length; i++)
-		put_kept_list(counting, i < nodes->leaves ? LIST_LEAF : LIST_NODE, i < nodes->leaves ? &counting->filter->leaves[i].greatest : NULL,
+		put_kept_list(writer, i < nodes->leaves ? LIST_LEAF : LIST_NODE, i < nodes->leaves ? &writer->filter->leaves[i].greatest : NULL,
 					  list_of_degrees(&nodes->degrees[i]));
 }
 
-/* A pair of codes with its count, in one number: the filter column's code in the highest bits, then the joined column's code, then the count. If a
-   count needs more bits, it is split into several numbers. */
-typedef struct Counted
+/* A sort of pairs of codes with their counts. One number has the filter column's code in its highest bits, then the joined column's code, then the
+   count. A count that needs more bits is split into several numbers. */
+typedef struct CountSort
 {
-	Sorted	   *sorted;
+	NumberSort *sorted;
 	int			joined_bits;
 	int			count_bits;
-} Counted;
+} CountSort;
 
 static void
-put_counted(Counted *counted, uint32 joined, uint32 filter, uint32 count)
+put_count(CountSort *count_sort, uint32 joined, uint32 filter, uint32 count)
 {
-	uint64		most = (UINT64CONST(1) << counted->count_bits) - 1;
-	uint64		pair = ((((uint64) filter) << counted->joined_bits) | joined) << counted->count_bits;
+	uint64		most = (UINT64CONST(1) << count_sort->count_bits) - 1;
+	uint64		pair = ((((uint64) filter) << count_sort->joined_bits) | joined) << count_sort->count_bits;
 
 	for (; count > most; count -= (uint32) most)
-		sorted_put(counted->sorted, pair | most);
-	sorted_put(counted->sorted, pair | count);
+		sorted_put(count_sort->sorted, pair | most);
+	sorted_put(count_sort->sorted, pair | count);
 }
 
-/* Goes through the rows in the order of the joined column. Counts for the nodes of ranges, and sorts the counted pairs by the filter column. */
+/* Goes through the rows in the order of the joined column. Adds the count of each pair of codes to the nodes that contain the filter column's value,
+   and puts it into a sort by the filter column. */
 static void
-count_pairs(Counting *counting, const Order *order, Counted *counted, Nodes *nodes)
+count_pairs(ListWriter *writer, const RowOrder *row_order, CountSort *count_sort, Nodes *nodes)
 {
-	Pairs		pairs = pairs_begin(counting->making, order, counting->filter);
+	Pairs		pairs = pairs_begin(writer->table_count, row_order, writer->filter);
 	uint32		joined = 0;
 	uint32		filter = 0;
 	uint32		last_joined = 0;
@@ -455,13 +459,13 @@ count_pairs(Counting *counting, const Order *order, Counted *counted, Nodes *nod
 		more = next_pair(&pairs, &joined, &filter);
 		if (count > 0 && (!more || joined != last_joined || filter != last_filter))
 		{
-			put_counted(counted, last_joined, last_filter, count);
+			put_count(count_sort, last_joined, last_filter, count);
 			if (nodes->length > 0 && last_filter > 0)
-				touch_leaf(nodes, leaf_of(counting->filter, last_filter), count);
+				touch_leaf(nodes, leaf_of(writer->filter, last_filter), count);
 			count = 0;
 		}
 		if (!more || joined != last_joined)
-			end_joined(nodes, last_joined);
+			end_joined_value(nodes, last_joined);
 		last_joined = joined;
 		last_filter = filter;
 		count++;
@@ -469,131 +473,132 @@ count_pairs(Counting *counting, const Order *order, Counted *counted, Nodes *nod
 	pairs_end(&pairs);
 }
 
-/* Makes one list for each code of the filter column, and one for NULL even if no row has NULL. Without a filter column, all rows are one group. */
+/* Makes a list for each group: the rows with one code of the filter column. NULL is a group even if no row has NULL. Without a filter column, all
+   rows are one group. */
 static void
-put_groups(Counting *counting, Counted *counted)
+put_groups(ListWriter *writer, CountSort *count_sort)
 {
 	Degrees		degrees = {0};
-	uint64		joined_mask = (UINT64CONST(1) << counted->joined_bits) - 1;
-	uint64		count_mask = (UINT64CONST(1) << counted->count_bits) - 1;
+	uint64		joined_mask = (UINT64CONST(1) << count_sort->joined_bits) - 1;
+	uint64		count_mask = (UINT64CONST(1) << count_sort->count_bits) - 1;
 	uint64		last = 0;
 	uint64		degree = 0;
 	uint64		number;
-	int			common = 0;
+	int			next_common = 0;
 
-	while (sorted_get(counted->sorted, &number))
+	while (sorted_get(count_sort->sorted, &number))
 	{
-		uint64		pair = number >> counted->count_bits;
+		uint64		pair = number >> count_sort->count_bits;
 
 		if (pair != last)
 			add_degree(&degrees, (last & joined_mask) == 0 ? 0 : degree);
-		if (pair >> counted->joined_bits != last >> counted->joined_bits)
+		if (pair >> count_sort->joined_bits != last >> count_sort->joined_bits)
 		{
-			end_group(counting, last >> counted->joined_bits, &degrees, &common);
-			empty(&degrees);
+			end_group(writer, last >> count_sort->joined_bits, &degrees, &next_common);
+			clear_degrees(&degrees);
 		}
 		degree = (pair == last ? degree : 0) + (number & count_mask);
 		degrees.rows += number & count_mask;
 		last = pair;
 	}
 	add_degree(&degrees, (last & joined_mask) == 0 ? 0 : degree);
-	end_group(counting, last >> counted->joined_bits, &degrees, &common);
+	end_group(writer, last >> count_sort->joined_bits, &degrees, &next_common);
 }
 
-static Counted
-counted_begin(const Counting *counting)
+static CountSort
+count_sort_begin(const ListWriter *writer)
 {
-	Counted		counted = {.joined_bits = bits_of(counting->joined)};
-	int			bits = bits_of(counting->filter) + counted.joined_bits;
+	CountSort	count_sort = {.joined_bits = bits_of(writer->joined)};
+	int			bits = bits_of(writer->filter) + count_sort.joined_bits;
 
-	counted.count_bits = Min(63 - bits, 31);
+	count_sort.count_bits = Min(63 - bits, 31);
 	/* Pairs come in the order of their joined codes. */
-	counted.sorted = sorted_begin(counting->making->rows, counted.count_bits + counted.joined_bits, counted.count_bits + bits);
-	return counted;
+	count_sort.sorted = sorted_begin(writer->table_count->rows, count_sort.count_bits + count_sort.joined_bits, count_sort.count_bits + bits);
+	return count_sort;
 }
 
-/* If there is no joined column: counts the rows of each code. */
+/* Counts the rows of each code of the filter column. Used if there is no joined column. */
 static void
-put_row_counts(Counting *counting)
+put_row_counts(ListWriter *writer)
 {
-	uint32	   *counts = counting->filter ? count_codes(counting->making, counting->filter) : NULL;
-	uint32		highest = counting->filter ? counting->filter->highest : 0;
-	int			common = 0;
+	uint32	   *counts = writer->filter ? count_codes(writer->table_count, writer->filter) : NULL;
+	uint32		highest = writer->filter ? writer->filter->highest : 0;
+	int			next_common = 0;
 
 	for (uint32 code = 0; code <= highest; code++)
 	{
-		Degrees		degrees = {.rows = counts ? counts[code] : counting->making->rows};
+		Degrees		degrees = {.rows = counts ? counts[code] : writer->table_count->rows};
 
-		end_group(counting, code, &degrees, &common);
+		end_group(writer, code, &degrees, &next_common);
 	}
 	if (counts)
 		pfree(counts);
 }
 
 static void
-keep_pair(Making *making, const Order *order, const Column *filter)
+keep_pair(TableCount *table_count, const RowOrder *row_order, const Column *filter)
 {
 	MemoryContext pair = AllocSetContextCreate(CurrentMemoryContext, "safebound pair", ALLOCSET_DEFAULT_SIZES);
 	MemoryContext before = MemoryContextSwitchTo(pair);
-	Counting	counting = {.making = making,.joined = order->joined,.filter = filter};
+	ListWriter	writer = {.table_count = table_count,.joined = row_order->joined,.filter = filter};
 	Nodes		nodes = {0};
 
-	counting.group = AllocSetContextCreate(pair, "safebound group", ALLOCSET_DEFAULT_SIZES);
-	initStringInfo(&counting.bytes);
+	writer.group = AllocSetContextCreate(pair, "safebound group", ALLOCSET_DEFAULT_SIZES);
+	initStringInfo(&writer.bytes);
 	if (filter)
 		nodes = nodes_of(filter);
-	if (order->joined == NULL && (filter == NULL || fits(filter->highest)))
-		put_row_counts(&counting);
+	if (row_order->joined == NULL && (filter == NULL || fits_in_half(filter->highest)))
+		put_row_counts(&writer);
 	else
 	{
-		Counted		counted = counted_begin(&counting);
+		CountSort	count_sort = count_sort_begin(&writer);
 
-		count_pairs(&counting, order, &counted, &nodes);
-		sorted_perform(counted.sorted);
-		put_groups(&counting, &counted);
-		sorted_end(counted.sorted);
+		count_pairs(&writer, row_order, &count_sort, &nodes);
+		sorted_perform(count_sort.sorted);
+		put_groups(&writer, &count_sort);
+		sorted_end(count_sort.sorted);
 	}
 	if (filter)
 	{
-		put_kept_list(&counting, LIST_OTHER, NULL, counting.other);
-		put_kept_list(&counting, LIST_ANY, NULL, counting.any);
+		put_kept_list(&writer, LIST_OTHER, NULL, writer.other);
+		put_kept_list(&writer, LIST_ANY, NULL, writer.any);
 	}
-	put_nodes(&counting, &nodes);
-	save_pair(making, order->joined, filter, &counting.bytes);
+	put_nodes(&writer, &nodes);
+	save_pair(table_count, row_order->joined, filter, &writer.bytes);
 	MemoryContextSwitchTo(before);
 	MemoryContextDelete(pair);
 }
 
-/* Stores the lists of a joined column by all filter columns, or, if it is NULL, only numbers of rows. Without filter columns: the list of
+/* Stores the lists of a joined column for all filter columns; if `joined` is NULL, only numbers of rows. If `filters` is NULL, stores the list of
    all rows. */
 static void
-keep_joined(Making *making, const Column *joined, const Column *filters, int length)
+keep_joined(TableCount *table_count, const Column *joined, const Column *filters, int length)
 {
 	MemoryContext own = AllocSetContextCreate(CurrentMemoryContext, "safebound order", ALLOCSET_DEFAULT_SIZES);
 	MemoryContext before = MemoryContextSwitchTo(own);
-	Order		order = order_rows(making, joined);
+	RowOrder	row_order = order_rows(table_count, joined);
 
 	if (filters == NULL)
-		keep_pair(making, &order, NULL);
+		keep_pair(table_count, &row_order, NULL);
 	for (int i = 0; i < length; i++)
-		if (filters[i].filter)
-			keep_pair(making, &order, &filters[i]);
+		if (filters[i].is_filter)
+			keep_pair(table_count, &row_order, &filters[i]);
 	MemoryContextSwitchTo(before);
 	MemoryContextDelete(own);
 }
 
 void
-keep_filters(Making *making, const Column *filters, int length)
+keep_filters(TableCount *table_count, const Column *filters, int length)
 {
-	keep_joined(making, NULL, filters, length);
-	for (int i = 0; i < making->length; i++)
-		if (making->columns[i].joined)
-			keep_joined(making, &making->columns[i], filters, length);
+	keep_joined(table_count, NULL, filters, length);
+	for (int i = 0; i < table_count->length; i++)
+		if (table_count->columns[i].is_joined)
+			keep_joined(table_count, &table_count->columns[i], filters, length);
 }
 
-/* The lists of all rows. */
+/* Stores only the list of all rows for each joined column. */
 void
-keep_whole(Making *making)
+keep_whole(TableCount *table_count)
 {
-	keep_filters(making, NULL, 0);
+	keep_filters(table_count, NULL, 0);
 }

@@ -1,7 +1,7 @@
-/* Rows that came after a table was counted. Triggers write one delta for each statement, and readers add the deltas to the lists.
+/* Deltas: the rows that came after a table was counted. Triggers write one delta for each statement, and readers add the deltas to the lists.
 
-   Deltas are inserted, and never changed. When the table is counted again, the deltas that its snapshot sees are deleted. So if a snapshot
-   sees a row, the row is counted in the lists or deltas that it sees, since both are committed together. */
+   Deltas are inserted, and never changed. When the table is counted again, the deltas that its snapshot sees are deleted. Rows are committed
+   together with their delta. So a row that a snapshot sees is counted in lists or deltas that the snapshot sees. */
 #include "watch.h"
 
 #include "access/genam.h"
@@ -22,7 +22,7 @@
 #define MANY_RUNS 64
 
 static Datum *
-array_datums(Datum array, Oid type, int *length)
+datums_in_array(Datum array, Oid type, int *length)
 {
 	int16		size;
 	bool		by_value;
@@ -36,11 +36,11 @@ array_datums(Datum array, Oid type, int *length)
 }
 
 Bitmapset *
-array_numbers(Datum array)
+numbers_in_array(Datum array)
 {
 	Bitmapset  *numbers = NULL;
 	int			length;
-	Datum	   *values = array_datums(array, INT2OID, &length);
+	Datum	   *values = datums_in_array(array, INT2OID, &length);
 
 	for (int i = 0; i < length; i++)
 		numbers = bms_add_member(numbers, DatumGetInt16(values[i]));
@@ -49,11 +49,11 @@ array_numbers(Datum array)
 
 /* The referred tables in an array, which has three numbers for each table. */
 static List *
-array_referred(Datum array)
+referred_in_array(Datum array)
 {
 	List	   *referred = NIL;
 	int			length;
-	Datum	   *values = array_datums(array, INT8OID, &length);
+	Datum	   *values = datums_in_array(array, INT8OID, &length);
 
 	for (int i = 0; i + 2 < length; i += 3)
 	{
@@ -66,38 +66,38 @@ array_referred(Datum array)
 }
 
 static void
-read_seen(Relation tables, HeapTuple tuple, Seen *seen)
+read_kept_row(Relation tables, HeapTuple tuple, KeptRow *kept_row)
 {
 	Datum		row[TABLE_COLUMNS];
 	bool		nulls[TABLE_COLUMNS];
 
 	heap_deform_tuple(tuple, RelationGetDescr(tables), row, nulls);
-	*seen = (Seen) {
+	*kept_row = (KeptRow) {
 		.relation = DatumGetObjectId(row[TABLE_RELATION - 1]),
 		.version = DatumGetInt64(row[TABLE_VERSION - 1]),
-		.common = DatumGetInt16(row[TABLE_COMMON - 1]),
-		.ranges = DatumGetInt16(row[TABLE_RANGES - 1]),
+		.most_common = DatumGetInt16(row[TABLE_COMMON - 1]),
+		.most_leaves = DatumGetInt16(row[TABLE_RANGES - 1]),
 		.accuracy = DatumGetInt16(row[TABLE_ACCURACY - 1])
 	};
 	if (!nulls[TABLE_SOURCES - 1])
 	{
 		int			length;
-		Datum	   *sources = array_datums(row[TABLE_SOURCES - 1], OIDOID, &length);
+		Datum	   *sources = datums_in_array(row[TABLE_SOURCES - 1], OIDOID, &length);
 
 		for (int i = 0; i < length; i++)
-			seen->sources = lappend_oid(seen->sources, DatumGetObjectId(sources[i]));
+			kept_row->sources = lappend_oid(kept_row->sources, DatumGetObjectId(sources[i]));
 	}
 	if (!nulls[TABLE_JOINED - 1])
-		seen->joined = array_numbers(row[TABLE_JOINED - 1]);
+		kept_row->joined = numbers_in_array(row[TABLE_JOINED - 1]);
 	if (!nulls[TABLE_FILTERS - 1])
-		seen->filters = array_numbers(row[TABLE_FILTERS - 1]);
+		kept_row->filters = numbers_in_array(row[TABLE_FILTERS - 1]);
 	if (!nulls[TABLE_REFERRED - 1])
-		seen->referred = array_referred(row[TABLE_REFERRED - 1]);
+		kept_row->referred = referred_in_array(row[TABLE_REFERRED - 1]);
 }
 
 /* Reads the row of a table in kept_table that a snapshot sees; with NULL, the row as it is now. Returns false if the table isn't kept. */
 bool
-see_table(Oid relation, Snapshot snapshot, Seen *seen)
+find_kept_row(Oid relation, Snapshot snapshot, KeptRow *kept_row)
 {
 	Oid			tables_oid = extension_table("kept_table");
 	Relation	tables;
@@ -114,7 +114,7 @@ see_table(Oid relation, Snapshot snapshot, Seen *seen)
 	tuple = systable_getnext(scan);
 	found = HeapTupleIsValid(tuple);
 	if (found)
-		read_seen(tables, tuple, seen);
+		read_kept_row(tables, tuple, kept_row);
 	systable_endscan(scan);
 	table_close(tables, AccessShareLock);
 	return found;
@@ -131,11 +131,11 @@ followers_of(Oid source)
 
 	while (HeapTupleIsValid(tuple = systable_getnext(scan)))
 	{
-		Seen	   *seen = palloc0(sizeof(Seen));
+		KeptRow	   *kept_row = palloc0(sizeof(KeptRow));
 
-		read_seen(tables, tuple, seen);
-		if (!OidIsValid(source) || list_member_oid(seen->sources, source))
-			followers = lappend(followers, seen);
+		read_kept_row(tables, tuple, kept_row);
+		if (!OidIsValid(source) || list_member_oid(kept_row->sources, source))
+			followers = lappend(followers, kept_row);
 	}
 	systable_endscan(scan);
 	table_close(tables, AccessShareLock);
@@ -189,20 +189,20 @@ count_deltas(Oid relation, Snapshot snapshot)
 	return count;
 }
 
-/* The tables to which a table refers and that haven't changed since it was counted. While a table has one version, deltas are only added. So if the
-   number of deltas is the same, the deltas are. */
+/* The tables to which a table refers and that haven't changed since it was counted. While a table has one version, deltas are only added. So an
+   equal number of deltas means that they are the same deltas. */
 List *
-unchanged_references(const Seen *seen, Snapshot snapshot)
+unchanged_references(const KeptRow *kept_row, Snapshot snapshot)
 {
 	List	   *unchanged = NIL;
 	ListCell   *cell;
 
-	foreach(cell, seen->referred)
+	foreach(cell, kept_row->referred)
 	{
 		ReferredTable *then = lfirst(cell);
-		Seen		now;
+		KeptRow		now;
 
-		if (see_table(then->relation, snapshot, &now) && now.version == then->version && now.sources != NIL && !is_writing(&now) &&
+		if (find_kept_row(then->relation, snapshot, &now) && now.version == then->version && now.sources != NIL && !is_being_written(&now) &&
 			count_deltas(then->relation, snapshot) == then->deltas)
 			unchanged = lappend_oid(unchanged, then->relation);
 	}
@@ -238,14 +238,14 @@ short_sum(DegreeList one, DegreeList other, int accuracy)
 
 /* Adds one delta to the sums. */
 static void
-add_delta(Deltas *sums, const Seen *seen, Relation deltas, HeapTuple tuple)
+add_delta(Deltas *sums, const KeptRow *kept_row, Relation deltas, HeapTuple tuple)
 {
 	int64		rows = number_of(deltas, tuple, DELTA_ROWS);
 	bool		null;
 	bytea	   *bytes = DatumGetByteaP(heap_getattr(tuple, DELTA_LISTS, RelationGetDescr(deltas), &null));
 	const char *at = VARDATA_ANY(bytes);
 	const char *end = at + VARSIZE_ANY_EXHDR(bytes);
-	Bitmapset  *missing = bms_copy(seen->joined);
+	Bitmapset  *missing = bms_copy(kept_row->joined);
 	int			number = -1;
 
 	if (rows == NOT_COUNTED)
@@ -260,18 +260,18 @@ add_delta(Deltas *sums, const Seen *seen, Relation deltas, HeapTuple tuple)
 		DegreeList *sum = list_at(sums, column);
 
 		if (sum != NULL)
-			*sum = short_sum(*sum, list, seen->accuracy);
+			*sum = short_sum(*sum, list, kept_row->accuracy);
 		missing = bms_del_member(missing, column);
 	}
 	while ((number = bms_next_member(missing, number)) >= 0)
-		*list_at(sums, number) = short_sum(*list_at(sums, number), one_value(rows), seen->accuracy);
+		*list_at(sums, number) = short_sum(*list_at(sums, number), one_value(rows), kept_row->accuracy);
 }
 
 /* The ids of the deltas that a snapshot sees, without their lists. */
 static Deltas *
-read_ids(const Seen *seen, Relation deltas, Snapshot snapshot)
+read_ids(const KeptRow *kept_row, Relation deltas, Snapshot snapshot)
 {
-	SysScanDesc scan = begin_scan(deltas, seen->relation, snapshot);
+	SysScanDesc scan = begin_scan(deltas, kept_row->relation, snapshot);
 	Deltas	   *sums = palloc0(sizeof(Deltas));
 	int			capacity = 16;
 	HeapTuple	tuple;
@@ -288,18 +288,18 @@ read_ids(const Seen *seen, Relation deltas, Snapshot snapshot)
 }
 
 static void
-sum_deltas(Deltas *sums, const Seen *seen, Relation deltas, Snapshot snapshot)
+sum_deltas(Deltas *sums, const KeptRow *kept_row, Relation deltas, Snapshot snapshot)
 {
-	SysScanDesc scan = begin_scan(deltas, seen->relation, snapshot);
+	SysScanDesc scan = begin_scan(deltas, kept_row->relation, snapshot);
 	HeapTuple	tuple;
 	int			number = -1;
 
-	sums->numbers = palloc(sizeof(AttrNumber) * (bms_num_members(seen->joined) + 1));
-	sums->lists = palloc0(sizeof(DegreeList) * (bms_num_members(seen->joined) + 1));
-	while ((number = bms_next_member(seen->joined, number)) >= 0)
+	sums->numbers = palloc(sizeof(AttrNumber) * (bms_num_members(kept_row->joined) + 1));
+	sums->lists = palloc0(sizeof(DegreeList) * (bms_num_members(kept_row->joined) + 1));
+	while ((number = bms_next_member(kept_row->joined, number)) >= 0)
 		sums->numbers[sums->lists_length++] = number;
 	while (HeapTupleIsValid(tuple = systable_getnext(scan)))
-		add_delta(sums, seen, deltas, tuple);
+		add_delta(sums, kept_row, deltas, tuple);
 	systable_endscan(scan);
 }
 
@@ -312,17 +312,17 @@ same_ids(const Deltas *one, const Deltas *other)
 /* The sum of the deltas that a snapshot sees, in a memory context of its own below the current one. If `known` is the sum of the same deltas, it is
    returned. */
 Deltas *
-see_deltas(const Seen *seen, Snapshot snapshot, Deltas *known)
+find_deltas(const KeptRow *kept_row, Snapshot snapshot, Deltas *known)
 {
 	Relation	deltas = table_open(extension_table("kept_delta"), AccessShareLock);
 	MemoryContext context = AllocSetContextCreate(CurrentMemoryContext, "safebound deltas", ALLOCSET_SMALL_SIZES);
 	MemoryContext before = MemoryContextSwitchTo(context);
-	Deltas	   *sums = read_ids(seen, deltas, snapshot);
+	Deltas	   *sums = read_ids(kept_row, deltas, snapshot);
 	bool		same = same_ids(known, sums);
 
 	sums->context = context;
 	if (!same)
-		sum_deltas(sums, seen, deltas, snapshot);
+		sum_deltas(sums, kept_row, deltas, snapshot);
 	MemoryContextSwitchTo(before);
 	table_close(deltas, AccessShareLock);
 	if (!same)

@@ -1,4 +1,5 @@
-/* Expected rows of joins: PostgreSQL's own number, corrected by the lists along references and by counted numbers of distinct values. */
+/* Expected rows of joins: PostgreSQL's own number, corrected by degree lists of references to filtered tables, and by counted numbers of distinct
+   values. */
 #include "planning.h"
 
 #include <math.h>
@@ -14,12 +15,12 @@
 #include "utils/selfuncs.h"
 #include "utils/syscache.h"
 
-/* The weight of a bound in the mean for a join of two relations (rows_by_mode). */
+/* Of two numbers in a geometric mean, the one that may be far too high has this weight. It is that of a bound of two relations in rows_by_mode. */
 #define WEIGHT_OF_TWO 0.25
 
 /* Whether one of the two relations is on the right side of a semi- or anti-join. Such a side adds no rows. */
 static bool
-is_in_semi_join(BoundedQuery *query, const Carried *carried)
+is_in_semi_join(BoundedQuery *query, const CarrierReference *carried)
 {
 	ListCell   *cell;
 
@@ -34,10 +35,10 @@ is_in_semi_join(BoundedQuery *query, const Carried *carried)
 	return false;
 }
 
-/* The share of referring rows whose referred row satisfies the conditions, divided by the share of the referred relation's own rows that do.
-   PostgreSQL takes both shares for equal. */
+/* One share is of the referring rows: those whose referred row satisfies the conditions. The other is of the referred relation's rows: those that
+   satisfy them. This is the first share divided by the second. PostgreSQL takes both for equal. */
 static double
-share_along(BoundedQuery *query, Carried *carried)
+share_along(BoundedQuery *query, CarrierReference *carried)
 {
 	const DegreeList *list = is_in_semi_join(query, carried) ? NULL : carried_list(query, carried, query->columns_length);
 	const KeptTable *table = query->entries[carried->referring].table;
@@ -48,7 +49,7 @@ share_along(BoundedQuery *query, Carried *carried)
 	if (all < 1 || referred->tuples < 1)
 		return 1;
 	share = (Max(list->rows, 1) / all) / (own_rows(query, referred) / referred->tuples);
-	return carried->loose && share > 1 ? pow(share, WEIGHT_OF_TWO) : share;
+	return carried->may_overcount && share > 1 ? pow(share, WEIGHT_OF_TWO) : share;
 }
 
 double
@@ -59,7 +60,7 @@ expected_share(BoundedQuery *query, Relids relids)
 
 	foreach(cell, query->carried)
 	{
-		Carried    *carried = lfirst(cell);
+		CarrierReference *carried = lfirst(cell);
 
 		if (!is_carried(carried, relids))
 			continue;
@@ -81,8 +82,8 @@ static get_relation_stats_hook_type relation_stats_before;
 /* PostgreSQL's statistics of a column, with the number of distinct values that was counted. */
 typedef struct CountedStatistics
 {
-	bool		looked;
-	bool		may_tell;		/* whether the current user may read the column */
+	bool		looked_up;
+	bool		is_readable;	/* whether the current user may read the column */
 	HeapTuple	tuple;			/* NULL where there is none */
 } CountedStatistics;
 
@@ -95,8 +96,8 @@ entry_asked_for(BoundedQuery *query, const RangeTblEntry *asked)
 	return NULL;
 }
 
-/* The average share of a column's rows that one value finds. Each value is looked up once, or, with `as_often`, as often as it occurs. 0 if no row
-   has a value. */
+/* The average share of a column's rows that one look-up finds. Each value is looked up once, or, with `as_often`, as often as it occurs. 0 if no
+   row has a value. */
 static double
 share_of_value(const DegreeList *list, bool as_often)
 {
@@ -116,16 +117,17 @@ share_of_value(const DegreeList *list, bool as_often)
 }
 
 /* ANALYZE reads a sample, and often finds far too few distinct values. Then their number is computed from the counted list. PostgreSQL assumes that
-   all values are equally frequent. So the number is chosen to match the rows found for one value: a mean of both shares of share_of_value. */
+   all values are equally frequent, so it expects a look-up to find 1 / number of the rows. This share is set to a mean of both results of
+   share_of_value. */
 static void
 set_distinct_values(Form_pg_statistic statistics, const DegreeList *list)
 {
 	double		once = share_of_value(list, false);
 	double		share = pow(once, 1 - WEIGHT_OF_TWO) * pow(share_of_value(list, true), WEIGHT_OF_TWO);
-	double		told = statistics->stadistinct < 0 ? -statistics->stadistinct * list->rows : statistics->stadistinct;
+	double		sampled_values = statistics->stadistinct < 0 ? -statistics->stadistinct * list->rows : statistics->stadistinct;
 
-	/* If there are many values, later rows bring new ones. So the number is given as a fraction of the rows, as ANALYZE does. */
-	if (once > 0 && told < 0.95 / once)
+	/* If there are many values, rows that are inserted later bring new ones. So the number is given as a fraction of the rows, as ANALYZE does. */
+	if (once > 0 && sampled_values < 0.95 / once)
 		statistics->stadistinct = share * list->rows < 10 ? -1 / share / list->rows : 1 / share;
 }
 
@@ -155,7 +157,7 @@ look_at_statistics(const Entry *entry, const RangeTblEntry *asked, AttrNumber co
 	const KeptPair *pair = kept_pair(entry->table, column, 0);
 
 	return (CountedStatistics) {
-		.looked = true,.may_tell = may_read(asked, column),.tuple = pair ? counted_statistics(asked, column, &pair->lists[0].list) : NULL
+		.looked_up = true,.is_readable = may_read(asked, column),.tuple = pair ? counted_statistics(asked, column, &pair->lists[0].list) : NULL
 	};
 }
 
@@ -171,7 +173,7 @@ statistics_asked_for(BoundedQuery *query, const RangeTblEntry *asked, AttrNumber
 	before = MemoryContextSwitchTo(query->root->planner_cxt);
 	if (entry->statistics == NULL)
 		entry->statistics = palloc0((entry->rel->max_attr + 1) * sizeof(CountedStatistics));
-	if (!entry->statistics[column].looked)
+	if (!entry->statistics[column].looked_up)
 		entry->statistics[column] = look_at_statistics(entry, asked, column);
 	MemoryContextSwitchTo(before);
 	return &entry->statistics[column];
@@ -194,12 +196,12 @@ on_relation_stats(PlannerInfo *root, RangeTblEntry *entry, AttrNumber column, Va
 		return relation_stats_before && relation_stats_before(root, entry, column, data);
 	data->statsTuple = counted->tuple;
 	data->freefunc = keep_tuple;
-	data->acl_ok = counted->may_tell;
+	data->acl_ok = counted->is_readable;
 	return true;
 }
 
 static const DegreeList *
-whole_list(BoundedQuery *query, Var *var)
+list_of_all_rows(BoundedQuery *query, Var *var)
 {
 	Entry	   *entry = var ? entry_of(query, var->varno) : NULL;
 	const KeptPair *pair = entry ? kept_pair(entry->table, var->varattno, 0) : NULL;
@@ -207,19 +209,19 @@ whole_list(BoundedQuery *query, Var *var)
 	return pair ? &pair->lists[0].list : NULL;
 }
 
-/* The share of rows that an index on the column `looked` finds for a value of the column `looking`. If `looking` is unique, each value is looked up
+/* The share of rows that an index on the column `indexed` finds for a value of the column `given`. If `given` is unique, each value is looked up
    once. If both are one column, each value is looked up as often as it occurs. Otherwise 0, and PostgreSQL's number is unchanged. */
 static double
-share_found(BoundedQuery *query, Var *looked, Var *looking)
+share_found(BoundedQuery *query, Var *indexed, Var *given)
 {
-	const DegreeList *list = whole_list(query, looked);
-	const DegreeList *other = whole_list(query, looking);
+	const DegreeList *list = list_of_all_rows(query, indexed);
+	const DegreeList *other = list_of_all_rows(query, given);
 
 	if (list == NULL || other == NULL)
 		return 0;
 	if (other->length == 1 && other->runs[0].degree == 1)
 		return share_of_value(list, false);
-	if (looked->varattno == looking->varattno && query->entries[looked->varno].table->relation == query->entries[looking->varno].table->relation)
+	if (indexed->varattno == given->varattno && query->entries[indexed->varno].table->relation == query->entries[given->varno].table->relation)
 		return share_of_value(list, true);
 	return 0;
 }
@@ -227,8 +229,8 @@ share_found(BoundedQuery *query, Var *looked, Var *looking)
 static double
 share_of_scan(BoundedQuery *query, const IndexPath *path)
 {
-	bool		whole = path->indexinfo->indpred == NIL;
-	RestrictInfo *info = whole && list_length(path->indexclauses) == 1 ? linitial_node(IndexClause, path->indexclauses)->rinfo : NULL;
+	bool		is_full_index = path->indexinfo->indpred == NIL;
+	RestrictInfo *info = is_full_index && list_length(path->indexclauses) == 1 ? linitial_node(IndexClause, path->indexclauses)->rinfo : NULL;
 	OpExpr	   *equality = info ? (OpExpr *) info->clause : NULL;
 	Var		   *left,
 			   *right;
@@ -248,13 +250,13 @@ cost_btree(PlannerInfo *root, IndexPath *path, double loops, Cost *startup, Cost
 {
 	BoundedQuery *query = query_being_planned(root);
 	double		share = query && path->path.param_info ? share_of_scan(query, path) : 0;
-	double		times;
+	double		factor;
 
 	btcostestimate(root, path, loops, startup, total, selectivity, correlation, pages);
-	times = share > 0 && *selectivity > 0 ? share / *selectivity : 1;
-	*total = *startup + (*total - *startup) * times;
-	*selectivity *= times;
-	*pages *= times;
+	factor = share > 0 && *selectivity > 0 ? share / *selectivity : 1;
+	*total = *startup + (*total - *startup) * factor;
+	*selectivity *= factor;
+	*pages *= factor;
 }
 
 static get_relation_info_hook_type relation_info_before;

@@ -23,48 +23,48 @@
 PG_FUNCTION_INFO_V1(safebound_follow);
 
 /* A statement that has begun to write to a table and hasn't been counted yet. */
-typedef struct Writing
+typedef struct OpenWrite
 {
 	Oid			source;
 	SubTransactionId subtransaction;
-} Writing;
+} OpenWrite;
 
-static List *writings;			/* of Writing, the latest last, in TopMemoryContext */
+static List *open_writes;			/* of OpenWrite, the latest last, in TopMemoryContext */
 
 static void
 begin_writing(Oid source)
 {
 	MemoryContext before = MemoryContextSwitchTo(TopMemoryContext);
-	Writing    *writing = palloc(sizeof(Writing));
+	OpenWrite    *open_write = palloc(sizeof(OpenWrite));
 
-	*writing = (Writing) {source, GetCurrentSubTransactionId()};
-	writings = lappend(writings, writing);
+	*open_write = (OpenWrite) {source, GetCurrentSubTransactionId()};
+	open_writes = lappend(open_writes, open_write);
 	MemoryContextSwitchTo(before);
 }
 
 static void
 end_writing(Oid source)
 {
-	for (int i = list_length(writings) - 1; i >= 0; i--)
+	for (int i = list_length(open_writes) - 1; i >= 0; i--)
 	{
-		Writing    *writing = list_nth(writings, i);
+		OpenWrite    *open_write = list_nth(open_writes, i);
 
-		if (writing->source != source)
+		if (open_write->source != source)
 			continue;
-		writings = list_delete_nth_cell(writings, i);
-		pfree(writing);
+		open_writes = list_delete_nth_cell(open_writes, i);
+		pfree(open_write);
 		return;
 	}
 }
 
 /* Whether a statement of this backend is writing to a table. */
 bool
-is_writing(const Seen *seen)
+is_being_written(const KeptRow *kept_row)
 {
 	ListCell   *cell;
 
-	foreach(cell, writings)
-		if (list_member_oid(seen->sources, ((Writing *) lfirst(cell))->source))
+	foreach(cell, open_writes)
+		if (list_member_oid(kept_row->sources, ((OpenWrite *) lfirst(cell))->source))
 			return true;
 	return false;
 }
@@ -74,8 +74,8 @@ on_transaction_end(XactEvent event, void *argument)
 {
 	if (event == XACT_EVENT_COMMIT || event == XACT_EVENT_ABORT || event == XACT_EVENT_PREPARE)
 	{
-		list_free_deep(writings);
-		writings = NIL;
+		list_free_deep(open_writes);
+		open_writes = NIL;
 	}
 }
 
@@ -87,14 +87,14 @@ on_subtransaction_end(SubXactEvent event, SubTransactionId mine, SubTransactionI
 
 	if (event != SUBXACT_EVENT_ABORT_SUB)
 		return;
-	foreach(cell, writings)
+	foreach(cell, open_writes)
 	{
-		Writing    *writing = lfirst(cell);
+		OpenWrite    *open_write = lfirst(cell);
 
-		if (writing->subtransaction != mine)
+		if (open_write->subtransaction != mine)
 			continue;
-		writings = foreach_delete_current(writings, cell);
-		pfree(writing);
+		open_writes = foreach_delete_current(open_writes, cell);
+		pfree(open_write);
 	}
 }
 
@@ -115,7 +115,7 @@ mark_not_counted(Oid relation)
 	write_delta(relation, NOT_COUNTED, &none);
 }
 
-/* The table to which a replica applied rows last. With it, marks aren't written for each row. */
+/* The table to which a replica last applied rows. It was marked then, so its next row needs no mark. */
 static Oid	applied_relation;
 static TransactionId applying_transaction;
 
@@ -129,10 +129,10 @@ mark_applied(Oid relation)
 		return;
 	foreach(cell, followers_of(relation))
 	{
-		Seen	   *seen = lfirst(cell);
+		KeptRow	   *kept_row = lfirst(cell);
 
-		if (seen->relation == relation || is_part_of(relation, seen->relation))
-			mark_not_counted(seen->relation);
+		if (kept_row->relation == relation || is_part_of(relation, kept_row->relation))
+			mark_not_counted(kept_row->relation);
 	}
 	applied_relation = relation;
 	applying_transaction = GetCurrentTransactionId();
@@ -140,7 +140,7 @@ mark_applied(Oid relation)
 
 /* Counting a table deletes its marks. So rows that are applied later have to mark it again. */
 void
-marks_are_gone(void)
+forget_marks(void)
 {
 	applied_relation = InvalidOid;
 }
@@ -148,14 +148,14 @@ marks_are_gone(void)
 /* The rows that a statement wrote to the table, to a table from which it inherits, or to a part of it. */
 typedef struct NewRows
 {
-	const Seen *seen;			/* the table */
+	const KeptRow *kept_row;			/* the table */
 	Oid			written;		/* the table that the statement names */
 	TupleDesc	desc;
 	Tuplestorestate *rows;
 	TupleTableSlot *slot;
 	uint64		length;
-	bool	   *counts;			/* by row: whether the row counts; NULL: all rows count */
-	uint64		counted;
+	bool	   *is_counted;			/* by row: whether the row counts; NULL: all rows count */
+	uint64		counted_rows;
 } NewRows;
 
 static void
@@ -169,8 +169,8 @@ rewind_rows(Tuplestorestate *rows)
 static Form_pg_attribute
 column_of(const NewRows *new, AttrNumber number)
 {
-	const char *name = number > 0 ? get_attname(new->seen->relation, number, true) : NULL;
-	AttrNumber	there = new->written == new->seen->relation ? number : name ? get_attnum(new->written, name) : 0;
+	const char *name = number > 0 ? get_attname(new->kept_row->relation, number, true) : NULL;
+	AttrNumber	there = new->written == new->kept_row->relation ? number : name ? get_attnum(new->written, name) : 0;
 	Form_pg_attribute attribute = there > 0 && there <= new->desc->natts ? TupleDescAttr(new->desc, there - 1) : NULL;
 
 	return attribute && !attribute->attisdropped ? attribute : NULL;
@@ -180,7 +180,7 @@ column_of(const NewRows *new, AttrNumber number)
 static bool
 same_values(const NewRows *new, TupleTableSlot *one, TupleTableSlot *other)
 {
-	Bitmapset  *columns = bms_union(new->seen->joined, new->seen->filters);
+	Bitmapset  *columns = bms_union(new->kept_row->joined, new->kept_row->filters);
 	bool		same = true;
 	int			number = -1;
 
@@ -211,8 +211,8 @@ leave_unchanged(NewRows *new, Tuplestorestate *old_rows)
 
 	if (tuplestore_tuple_count(old_rows) != (int64) new->length)
 		return;
-	new->counts = MemoryContextAllocHuge(CurrentMemoryContext, new->length + 1);
-	new->counted = 0;
+	new->is_counted = MemoryContextAllocHuge(CurrentMemoryContext, new->length + 1);
+	new->counted_rows = 0;
 	rewind_rows(new->rows);
 	rewind_rows(old_rows);
 	for (uint64 row = 0; row < new->length; row++)
@@ -220,8 +220,8 @@ leave_unchanged(NewRows *new, Tuplestorestate *old_rows)
 		CHECK_FOR_INTERRUPTS();
 		if (!tuplestore_gettupleslot(new->rows, true, false, new->slot) || !tuplestore_gettupleslot(old_rows, true, false, old))
 			elog(ERROR, "a transition table ends too early");
-		new->counts[row] = !same_values(new, new->slot, old);
-		new->counted += new->counts[row];
+		new->is_counted[row] = !same_values(new, new->slot, old);
+		new->counted_rows += new->is_counted[row];
 	}
 	ExecDropSingleTupleTableSlot(old);
 }
@@ -240,7 +240,7 @@ sort_values(NewRows *new, AttrNumber number, Tuplesortstate *sort)
 		Datum		value = slot_getattr(new->slot, number, &null);
 
 		CHECK_FOR_INTERRUPTS();
-		if (null || (new->counts && !new->counts[row]))
+		if (null || (new->is_counted && !new->is_counted[row]))
 			continue;
 		tuplesort_putdatum(sort, value, false);
 		length++;
@@ -282,12 +282,12 @@ list_of_column(NewRows *new, Form_pg_attribute attribute)
 												 work_mem, NULL, TUPLESORT_NONE);
 	uint64		length = sort_values(new, attribute->attnum, sort);
 	uint64	   *codes = MemoryContextAllocHuge(CurrentMemoryContext, (length + 1) * sizeof(uint64));
-	DegreeList	list = {new->counted, 0, NULL};
+	DegreeList	list = {new->counted_rows, 0, NULL};
 
 	code_values(sort, attribute, codes);
 	tuplesort_end(sort);
 	if (length > 0)
-		list = degrees_of(codes, length, new->counted);
+		list = degrees_of(codes, length, new->counted_rows);
 	pfree(codes);
 	return list;
 }
@@ -314,7 +314,7 @@ put_column(StringInfo into, NewRows *new, AttrNumber number)
 
 	if (attribute == NULL)
 		return;
-	list = new->length == 1 ? list_of_one(new, attribute->attnum) : compressed(list_of_column(new, attribute), new->seen->accuracy);
+	list = new->length == 1 ? list_of_one(new, attribute->attnum) : compressed(list_of_column(new, attribute), new->kept_row->accuracy);
 	put_number(into, number);
 	put_list(into, &list);
 }
@@ -322,24 +322,24 @@ put_column(StringInfo into, NewRows *new, AttrNumber number)
 /* Writes the delta of a table for a statement's rows. The statement is on the table itself, on a table from which it inherits, or on a part
    of it. */
 static void
-count_rows(const Seen *seen, TriggerData *trigger)
+count_rows(const KeptRow *kept_row, TriggerData *trigger)
 {
 	Oid			written = RelationGetRelid(trigger->tg_relation);
-	NewRows		new = {.seen = seen,.written = written,.desc = RelationGetDescr(trigger->tg_relation),.rows = trigger->tg_newtable};
-	bool		own = written == seen->relation || is_part_of(written, seen->relation);
+	NewRows		new = {.kept_row = kept_row,.written = written,.desc = RelationGetDescr(trigger->tg_relation),.rows = trigger->tg_newtable};
+	bool		own = written == kept_row->relation || is_part_of(written, kept_row->relation);
 	StringInfoData lists;
 	int			number = -1;
 
-	new.length = new.counted = tuplestore_tuple_count(new.rows);
+	new.length = new.counted_rows = tuplestore_tuple_count(new.rows);
 	new.slot = MakeSingleTupleTableSlot(new.desc, &TTSOpsMinimalTuple);
 	if (own && new.length > 0 && trigger->tg_oldtable)
 		leave_unchanged(&new, trigger->tg_oldtable);
 	initStringInfo(&lists);
 	/* It isn't known which rows of the inherited-from table belong to this table, so their delta has no lists. */
-	while (own && new.counted > 0 && (number = bms_next_member(seen->joined, number)) >= 0)
+	while (own && new.counted_rows > 0 && (number = bms_next_member(kept_row->joined, number)) >= 0)
 		put_column(&lists, &new, number);
-	if (new.counted > 0)
-		write_delta(seen->relation, new.counted, &lists);
+	if (new.counted_rows > 0)
+		write_delta(kept_row->relation, new.counted_rows, &lists);
 	ExecDropSingleTupleTableSlot(new.slot);
 }
 

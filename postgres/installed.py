@@ -15,9 +15,9 @@ import tempfile
 
 HERE = os.path.dirname(os.path.abspath(__file__))
 sys.path[:0] = [os.path.join(HERE, "..", "engines", "servers")]
-from server import Alone, programs
+from server import TemporaryServer, programs
 
-__all__ = ("SETTINGS", "Alone", "Installed", "lay_server", "missing", "programs")
+__all__ = ("SETTINGS", "TemporaryServer", "Installed", "copy_server", "missing", "programs")
 
 # Settings of a test server: plans don't depend on the compiler, and each session loads the extension.
 SETTINGS = ("session_preload_libraries=safebound", "jit=off")
@@ -45,8 +45,9 @@ def link_all(source: str, into: str) -> None:
         os.symlink(os.path.join(source, name), os.path.join(into, name))
 
 
-def lay_server(root: str) -> str:
-    """The folder of the copied programs, below `root`."""
+def copy_server(root: str) -> str:
+    """Copies the server's programs below `root`, and links all else there. Returns the folder of the copied programs.
+    """
     folder = root + pg_config("--bindir")
     shutil.copytree(pg_config("--bindir"), folder)
     headers = pg_config("--includedir")
@@ -66,13 +67,13 @@ def install() -> None:
         subprocess.run(["make", "-s", "-C", HERE, target], check=True)
 
 
-class Installed(Alone):
+class Installed(TemporaryServer):
     """A server with the extension for a `with`. It starts on entering, and is removed on leaving."""
 
     def __init__(self, settings: tuple[str, ...] = ()) -> None:
         self.root = tempfile.mkdtemp(prefix="safebound-installed-")
         os.chmod(self.root, 0o755)
-        os.environ["PATH"] = lay_server(self.root) + os.pathsep + os.environ["PATH"]
+        os.environ["PATH"] = copy_server(self.root) + os.pathsep + os.environ["PATH"]
         install()
         super().__init__(SETTINGS + settings)
 

@@ -33,9 +33,9 @@ entry_of(BoundedQuery *query, int relid)
 	return relid > 0 && relid < query->root->simple_rel_array_size && query->entries[relid].table ? &query->entries[relid] : NULL;
 }
 
-/* A list gets longer with each condition, so a long list is compressed. */
+/* A list gets longer with each condition. */
 static DegreeList
-shortened(DegreeList list)
+compressed_if_long(DegreeList list)
 {
 	return list.length > MOST_RUNS ? compressed(list, PLANNING_ACCURACY) : list;
 }
@@ -56,7 +56,7 @@ joined_column(BoundedQuery *query, Var *var)
 	query->columns[query->columns_length] = (JoinedColumn) {
 		.relid = var->varno,
 		.number = var->varattno,
-		.list = shortened(list_under(entry->table, entry->rel, var->varattno, &entry->used))
+		.list = compressed_if_long(list_under(entry->table, entry->rel, var->varattno, &entry->used))
 	};
 	return query->columns_length++;
 }
@@ -132,12 +132,12 @@ add_carried(BoundedQuery *query, const EqualColumns *equal, const JoinedColumn *
 	Entry	   *referring = &query->entries[along->relid];
 	Entry	   *referred = &query->entries[key->relid];
 	Reference	reference = {along->number, referred->table->relation, key->number};
-	Carried    *carried;
+	CarrierReference *carried;
 
 	if (along->relid == key->relid || referred->rel->baserestrictinfo == NIL || !has_pairs_along(referring->table, &reference))
 		return;
-	carried = palloc0(sizeof(Carried));
-	*carried = (Carried) {.referring = along->relid,.referred = key->relid,.required = equal->required,.reference = reference};
+	carried = palloc0(sizeof(CarrierReference));
+	*carried = (CarrierReference) {.referring = along->relid,.referred = key->relid,.required = equal->required,.reference = reference};
 	query->carried = lappend(query->carried, carried);
 }
 
@@ -157,39 +157,39 @@ make_room_for_carried(BoundedQuery *query)
 
 	foreach(cell, query->carried)
 	{
-		Carried    *carried = lfirst(cell);
+		CarrierReference *carried = lfirst(cell);
 
-		carried->looked = palloc0((query->columns_length + 1) * sizeof(bool));
+		carried->looked_up = palloc0((query->columns_length + 1) * sizeof(bool));
 		carried->lists = palloc0((query->columns_length + 1) * sizeof(DegreeList *));
 	}
 }
 
-/* The list of a referring relation's column under the conditions of the referred relation, or NULL. `column` is a place in `columns`, or the place
-   after the last one for the number of rows alone. */
+/* The list of a referring relation's column under the conditions of the referred relation, or NULL. `column` is a place in `columns`. The place
+   after the last one stands for the number of rows. */
 const DegreeList *
-carried_list(BoundedQuery *query, Carried *carried, int column)
+carried_list(BoundedQuery *query, CarrierReference *carried, int column)
 {
 	AttrNumber	joined = column < query->columns_length ? query->columns[column].number : 0;
 	DegreeList	list;
 
-	if (!carried->looked[column] &&
-		list_along(query->entries[carried->referring].table, &carried->reference, query->entries[carried->referred].rel, joined, &list, &carried->used, &carried->loose))
+	if (!carried->looked_up[column] &&
+		list_along(query->entries[carried->referring].table, &carried->reference, query->entries[carried->referred].rel, joined, &list, &carried->used, &carried->may_overcount))
 	{
 		carried->lists[column] = palloc(sizeof(DegreeList));
-		*carried->lists[column] = shortened(list);
+		*carried->lists[column] = compressed_if_long(list);
 	}
-	carried->looked[column] = true;
+	carried->looked_up[column] = true;
 	return carried->lists[column];
 }
 
 /* Whether a join of these relations joins along the reference. If so, the referred relation's conditions apply to the referring rows. */
 bool
-is_carried(const Carried *carried, Relids relids)
+is_carried(const CarrierReference *carried, Relids relids)
 {
 	return bms_is_member(carried->referring, relids) && bms_is_member(carried->referred, relids) && bms_is_subset(carried->required, relids);
 }
 
-/* The relation's references along which a join of the set joins, as places in `carried`. */
+/* The relation's references that are also equalities within the set, as indexes into `carried`. */
 static Bitmapset *
 held_in_set(BoundedQuery *query, Relids relids, Index relid)
 {
@@ -197,14 +197,14 @@ held_in_set(BoundedQuery *query, Relids relids, Index relid)
 	ListCell   *cell;
 
 	foreach(cell, query->carried)
-		if (((Carried *) lfirst(cell))->referring == relid && is_carried(lfirst(cell), relids))
+		if (((CarrierReference *) lfirst(cell))->referring == relid && is_carried(lfirst(cell), relids))
 			held = bms_add_member(held, foreach_current_index(cell));
 	return held;
 }
 
 /* The lesser of a column's list and its lists along these references. */
 static DegreeList
-narrowed(BoundedQuery *query, const Bitmapset *held, int column, DegreeList list)
+narrowed_list(BoundedQuery *query, const Bitmapset *held, int column, DegreeList list)
 {
 	int			place = -1;
 
@@ -225,17 +225,17 @@ list_in_set(BoundedQuery *query, Relids relids, int column)
 {
 	JoinedColumn *joined = &query->columns[column];
 	Bitmapset  *held = held_in_set(query, relids, joined->relid);
-	Narrowed   *made;
+	NarrowedList   *made;
 	ListCell   *cell;
 
 	if (held == NULL)
 		return joined->list;
-	foreach(cell, joined->narrowed)
-		if (bms_equal(((Narrowed *) lfirst(cell))->held, held))
-			return ((Narrowed *) lfirst(cell))->list;
-	made = palloc(sizeof(Narrowed));
-	*made = (Narrowed) {held, narrowed(query, held, column, joined->list)};
-	joined->narrowed = lappend(joined->narrowed, made);
+	foreach(cell, joined->narrowed_lists)
+		if (bms_equal(((NarrowedList *) lfirst(cell))->held, held))
+			return ((NarrowedList *) lfirst(cell))->list;
+	made = palloc(sizeof(NarrowedList));
+	*made = (NarrowedList) {held, narrowed_list(query, held, column, joined->list)};
+	joined->narrowed_lists = lappend(joined->narrowed_lists, made);
 	return made->list;
 }
 
@@ -243,7 +243,7 @@ list_in_set(BoundedQuery *query, Relids relids, int column)
 static uint64
 rows_in_set(BoundedQuery *query, Relids relids, Index relid)
 {
-	return narrowed(query, held_in_set(query, relids, relid), query->columns_length, (DegreeList) {query->entries[relid].rows, 0, NULL}).rows;
+	return narrowed_list(query, held_in_set(query, relids, relid), query->columns_length, (DegreeList) {query->entries[relid].rows, 0, NULL}).rows;
 }
 
 static bool

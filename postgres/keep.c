@@ -58,12 +58,12 @@ write_own(const char *statement, int length, Oid *types, Datum *values)
 }
 
 void
-save_pair(const Making *making, const Column *joined, const Column *filter, StringInfo bytes)
+save_pair(const TableCount *table_count, const Column *joined, const Column *filter, StringInfo bytes)
 {
 	Oid			types[] = {REGCLASSOID, INT2OID, INT2OID, INT2OID, OIDOID, INT2OID, REGTYPEOID, REGTYPEOID, OIDOID, OIDOID, BYTEAOID};
 	bytea	   *lists = palloc(VARHDRSZ + bytes->len);
 	Datum		values[] = {
-		ObjectIdGetDatum(RelationGetRelid(making->relation)),
+		ObjectIdGetDatum(RelationGetRelid(table_count->relation)),
 		Int16GetDatum(joined ? joined->number : 0), Int16GetDatum(filter ? filter->number : 0),
 		Int16GetDatum(filter && filter->along ? filter->along->number : 0), ObjectIdGetDatum(filter ? filter->referred : InvalidOid),
 		Int16GetDatum(filter ? filter->key : 0),
@@ -124,33 +124,33 @@ all_columns(Relation relation)
 }
 
 static void
-choose_columns(Making *making, Bitmapset *joined, Bitmapset *filters)
+choose_columns(TableCount *table_count, Bitmapset *joined, Bitmapset *filters)
 {
-	Bitmapset  *all = all_columns(making->relation);
+	Bitmapset  *all = all_columns(table_count->relation);
 	Bitmapset  *joins = joined ? joined : all;
 	Bitmapset  *conditions = filters ? filters : all;
 	int			number = -1;
 
-	making->columns = palloc0(sizeof(Column) * (bms_num_members(all) + 1));
+	table_count->columns = palloc0(sizeof(Column) * (bms_num_members(all) + 1));
 	while ((number = bms_next_member(all, number)) >= 0)
 	{
-		Column		column = {.number = number, .joined = bms_is_member(number, joins), .filter = bms_is_member(number, conditions)};
+		Column		column = {.number = number, .is_joined = bms_is_member(number, joins), .is_filter = bms_is_member(number, conditions)};
 
-		column.attribute = TupleDescAttr(RelationGetDescr(making->relation), number - 1);
-		if (column.joined || column.filter)
-			making->columns[making->length++] = column;
+		column.attribute = TupleDescAttr(RelationGetDescr(table_count->relation), number - 1);
+		if (column.is_joined || column.is_filter)
+			table_count->columns[table_count->length++] = column;
 	}
 }
 
-/* Whether there can be lists along a reference. The user may read the whole referred table, both columns have the same =, which is also the one
-   between them, and numbers of their values fit in memory. */
+/* Whether there can be lists along a reference. For this the user may read the whole referred table, and numbers for the columns' values fit in
+   memory. Both columns have the same =, which is also the = of the reference. */
 static bool
-may_follow(const Making *making, const Column *along, const ForeignKeyCacheInfo *reference)
+may_follow(const TableCount *table_count, const Column *along, const ForeignKeyCacheInfo *reference)
 {
 	Relation	referred = table_open(reference->confrelid, AccessShareLock);
 	Form_pg_attribute key = TupleDescAttr(RelationGetDescr(referred), reference->confkey[0] - 1);
 	bool		may = referred->rd_rel->relkind == RELKIND_RELATION && !referred->rd_rel->relrowsecurity &&
-		!making->relation->rd_rel->relrowsecurity && reference->nkeys == 1 &&
+		!table_count->relation->rd_rel->relrowsecurity && reference->nkeys == 1 &&
 		pg_class_aclcheck(reference->confrelid, GetUserId(), ACL_SELECT) == ACLCHECK_OK &&
 		key->atttypid == along->attribute->atttypid && key->attcollation == along->attribute->attcollation &&
 		get_op_opfamily_strategy(reference->conpfeqop[0], lookup_type_cache(key->atttypid, TYPECACHE_BTREE_OPFAMILY)->btree_opf) == BTEqualStrategyNumber &&
@@ -162,32 +162,32 @@ may_follow(const Making *making, const Column *along, const ForeignKeyCacheInfo 
 
 /* Makes lists of this table's rows under conditions on a table to which they refer. */
 static void
-keep_along(Making *making, const Column *along, ForeignKeyCacheInfo *reference)
+keep_along(TableCount *table_count, const Column *along, ForeignKeyCacheInfo *reference)
 {
 	MemoryContext own = AllocSetContextCreate(CurrentMemoryContext, "safebound reference", ALLOCSET_DEFAULT_SIZES);
 	MemoryContext before = MemoryContextSwitchTo(own);
 	int			length;
-	Column	   *columns = referred_columns(making, along, reference, &length);
+	Column	   *columns = referred_columns(table_count, along, reference, &length);
 
-	keep_filters(making, columns, length);
+	keep_filters(table_count, columns, length);
 	end_columns(columns, length);
 	MemoryContextSwitchTo(before);
 	MemoryContextDelete(own);
 }
 
 static void
-keep_references(Making *making)
+keep_references(TableCount *table_count)
 {
-	List	   *references = copyObject(RelationGetFKeyList(making->relation));
+	List	   *references = copyObject(RelationGetFKeyList(table_count->relation));
 	ListCell   *cell;
 
 	foreach(cell, references)
 	{
 		ForeignKeyCacheInfo *reference = lfirst(cell);
 
-		for (int i = 0; i < making->length; i++)
-			if (making->columns[i].joined && making->columns[i].number == reference->conkey[0] && may_follow(making, &making->columns[i], reference))
-				keep_along(making, &making->columns[i], reference);
+		for (int i = 0; i < table_count->length; i++)
+			if (table_count->columns[i].is_joined && table_count->columns[i].number == reference->conkey[0] && may_follow(table_count, &table_count->columns[i], reference))
+				keep_along(table_count, &table_count->columns[i], reference);
 	}
 }
 
@@ -216,10 +216,10 @@ forget_table(Oid relation)
 }
 
 static void
-save_table(const Making *making)
+save_table(const TableCount *table_count)
 {
 	Oid			types[] = {REGCLASSOID, INT8OID, INT2OID, INT2OID, INT2OID};
-	Datum		values[] = {ObjectIdGetDatum(RelationGetRelid(making->relation)), Int64GetDatum(making->rows), Int16GetDatum(making->accuracy), Int16GetDatum(making->most_common), Int16GetDatum(making->most_leaves)};
+	Datum		values[] = {ObjectIdGetDatum(RelationGetRelid(table_count->relation)), Int64GetDatum(table_count->rows), Int16GetDatum(table_count->accuracy), Int16GetDatum(table_count->most_common), Int16GetDatum(table_count->most_leaves)};
 
 	write_own("INSERT INTO safebound.kept_table VALUES ($1, $2, $3, $4, $5, now())", 5, types, values);
 }
@@ -236,24 +236,24 @@ within(int value, int least, int most, const char *name)
 int64
 keep_table(Oid relation, Bitmapset *joined, Bitmapset *filters, int most_common, int most_leaves, int accuracy, bool folding)
 {
-	Making		making = {.most_common = most_common,.most_leaves = most_leaves,.accuracy = accuracy,.relation = open_owned(relation)};
+	TableCount	table_count = {.most_common = most_common,.most_leaves = most_leaves,.accuracy = accuracy,.relation = open_owned(relation)};
 	bool		followed;
-	Seen		before;
+	KeptRow		before;
 
 	SPI_connect();
-	choose_columns(&making, joined, filters);
-	begin_counting(making.relation, folding, &before, &followed);
+	choose_columns(&table_count, joined, filters);
+	begin_counting(table_count.relation, folding, &before, &followed);
 	forget_table(relation);
-	read_columns(&making);
-	keep_whole(&making);
-	keep_filters(&making, making.columns, making.length);
-	keep_references(&making);
-	end_columns(making.columns, making.length);
-	save_table(&making);
+	read_columns(&table_count);
+	keep_whole(&table_count);
+	keep_filters(&table_count, table_count.columns, table_count.length);
+	keep_references(&table_count);
+	end_columns(table_count.columns, table_count.length);
+	save_table(&table_count);
 	end_counting(&before, followed);
 	SPI_finish();
-	relation_close(making.relation, NoLock);
-	return making.lists;
+	relation_close(table_count.relation, NoLock);
+	return table_count.lists;
 }
 
 static Bitmapset *

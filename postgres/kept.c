@@ -120,7 +120,7 @@ read_pair(Datum *row)
 }
 
 static int
-compared(uint64 one, uint64 other)
+compare(uint64 one, uint64 other)
 {
 	return (one > other) - (one < other);
 }
@@ -130,10 +130,10 @@ by_columns(const void *left, const void *right)
 {
 	const KeptPair *one = left;
 	const KeptPair *other = right;
-	int			order = compared(one->referred, other->referred);
+	int			order = compare(one->referred, other->referred);
 
 	if (order == 0)
-		order = compared(((uint64) (uint16) one->along << 48) | ((uint64) (uint16) one->key << 32) | ((uint64) (uint16) one->joined << 16) | (uint16) one->filter,
+		order = compare(((uint64) (uint16) one->along << 48) | ((uint64) (uint16) one->key << 32) | ((uint64) (uint16) one->joined << 16) | (uint16) one->filter,
 						 ((uint64) (uint16) other->along << 48) | ((uint64) (uint16) other->key << 32) | ((uint64) (uint16) other->joined << 16) | (uint16) other->filter);
 	return order;
 }
@@ -169,15 +169,15 @@ read_table(KeptTable *table, Relation lists, Snapshot snapshot)
 
 /* Reads the statistics into a memory context below the current one, so that an error leaves nothing of them in memory. */
 static KeptTable *
-loaded(const Seen *seen, Snapshot snapshot)
+load_table(const KeptRow *kept_row, Snapshot snapshot)
 {
 	Oid			lists_oid = extension_table("kept_lists");
 	MemoryContext context = AllocSetContextCreate(CurrentMemoryContext, "safebound statistics", ALLOCSET_SMALL_SIZES);
 	MemoryContext before = MemoryContextSwitchTo(context);
 	KeptTable  *table = palloc0(sizeof(KeptTable));
 
-	table->relation = seen->relation;
-	table->version = seen->version;
+	table->relation = kept_row->relation;
+	table->version = kept_row->version;
 	table->context = context;
 	if (OidIsValid(lists_oid))
 	{
@@ -204,7 +204,7 @@ drop_deltas(Deltas *deltas)
 }
 
 static void
-drop(KeptTable *table)
+drop_table(KeptTable *table)
 {
 	table->next = dropped;
 	dropped = table;
@@ -246,27 +246,27 @@ kept_free_dropped(void)
 }
 
 static KeptTable *
-table_of_version(const Seen *seen, Snapshot snapshot)
+table_of_version(const KeptRow *kept_row, Snapshot snapshot)
 {
 	bool		found;
-	TableEntry *entry = hash_search(tables, &seen->relation, HASH_FIND, &found);
+	TableEntry *entry = hash_search(tables, &kept_row->relation, HASH_FIND, &found);
 	KeptTable  *table;
 
-	if (found && entry->table->version == seen->version)
+	if (found && entry->table->version == kept_row->version)
 		return entry->table;
-	table = loaded(seen, snapshot);
-	entry = hash_search(tables, &seen->relation, HASH_ENTER, &found);
+	table = load_table(kept_row, snapshot);
+	entry = hash_search(tables, &kept_row->relation, HASH_ENTER, &found);
 	if (found)
-		drop(entry->table);
+		drop_table(entry->table);
 	MemoryContextSetParent(table->context, CacheMemoryContext);
 	entry->table = table;
 	return table;
 }
 
 static void
-take_deltas(KeptTable *table, const Seen *seen, Snapshot snapshot)
+take_deltas(KeptTable *table, const KeptRow *kept_row, Snapshot snapshot)
 {
-	Deltas	   *deltas = see_deltas(seen, snapshot, table->deltas);
+	Deltas	   *deltas = find_deltas(kept_row, snapshot, table->deltas);
 	MemoryContext before = MemoryContextSwitchTo(CacheMemoryContext);
 
 	if (deltas != table->deltas)
@@ -281,9 +281,9 @@ bool		kept_fresh_only = false;
 /* Whether a partitioned table still has the parts with which it was counted. A part is attached without waiting for readers. So an older snapshot
    sees the part's rows, but not the mark that a part was attached. */
 static bool
-same_parts(const Seen *seen)
+same_parts(const KeptRow *kept_row)
 {
-	return seen->sources == NIL || get_rel_relkind(seen->relation) != RELKIND_PARTITIONED_TABLE || equal(written_through(seen->relation), seen->sources);
+	return kept_row->sources == NIL || get_rel_relkind(kept_row->relation) != RELKIND_PARTITIONED_TABLE || equal(tables_writing_to(kept_row->relation), kept_row->sources);
 }
 
 /* The statistics of a table as the active snapshot sees them, or NULL. Statistics dropped meanwhile stay in memory until no plan is being made.
@@ -294,20 +294,20 @@ kept_table(Oid relation)
 	Snapshot	snapshot = ActiveSnapshotSet() ? GetActiveSnapshot() : GetTransactionSnapshot();
 	KeptTable  *table,
 			   *view;
-	Seen		seen;
+	KeptRow		kept_row;
 
-	if (!see_table(relation, snapshot, &seen) || (kept_fresh_only && seen.sources == NIL) || is_writing(&seen) || !same_parts(&seen))
+	if (!find_kept_row(relation, snapshot, &kept_row) || (kept_fresh_only && kept_row.sources == NIL) || is_being_written(&kept_row) || !same_parts(&kept_row))
 		return NULL;
-	table = table_of_version(&seen, snapshot);
+	table = table_of_version(&kept_row, snapshot);
 	if (!table->known)
 		return NULL;
-	if (seen.sources != NIL)
-		take_deltas(table, &seen, snapshot);
+	if (kept_row.sources != NIL)
+		take_deltas(table, &kept_row, snapshot);
 	if (table->deltas && table->deltas->not_counted)
 		return NULL;
 	view = palloc(sizeof(KeptTable));
 	*view = *table;
-	view->unchanged = unchanged_references(&seen, snapshot);
+	view->unchanged = unchanged_references(&kept_row, snapshot);
 	return view;
 }
 
@@ -316,11 +316,11 @@ char *
 why_not_known(Oid relation)
 {
 	char	   *name = DatumGetCString(DirectFunctionCall1(regclassout, ObjectIdGetDatum(relation)));
-	Seen		seen;
+	KeptRow		kept_row;
 
-	if (!see_table(relation, GetActiveSnapshot(), &seen) || seen.sources == NIL)
+	if (!find_kept_row(relation, GetActiveSnapshot(), &kept_row) || kept_row.sources == NIL)
 		return psprintf("%s isn't watched: SELECT safebound.watch(%s) counts and follows it.", name, quote_literal_cstr(name));
-	if (is_writing(&seen))
+	if (is_being_written(&kept_row))
 		return psprintf("%s is being written to: its rows are counted once that statement ends.", name);
 	return psprintf("%s is unknown, since something changed it that isn't followed: SELECT safebound.watch(%s) counts it anew.", name, quote_literal_cstr(name));
 }
@@ -358,7 +358,7 @@ has_pairs_along(const KeptTable *table, const Reference *reference)
 static void
 drop_entry(TableEntry *entry)
 {
-	drop(entry->table);
+	drop_table(entry->table);
 	hash_search(tables, &entry->relation, HASH_REMOVE, NULL);
 }
 

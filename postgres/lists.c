@@ -13,7 +13,7 @@ library_check(safebound_status status, uint64 detail, const char *call)
 		elog(ERROR, "%s: %s, at %llu", call, safebound_status_text(status), (unsigned long long) detail);
 }
 
-/* The degree sequence of keys. They come from a part of a table with `rows` rows. */
+/* The degree sequence of keys. The part of the table from which they come has `rows` rows, NULLs included. */
 DegreeList
 degrees_of(const uint64 *keys, size_t length, uint64 rows)
 {

@@ -13,7 +13,7 @@
 typedef struct Scans
 {
 	Bitmapset  *numbers;
-	bool		told;			/* false: some rows may come from no scan */
+	bool		complete;			/* false: some rows may come from no scan */
 } Scans;
 
 /* The origin of an entry of the range table. */
@@ -24,14 +24,14 @@ typedef struct Origin
 	Index		relid;
 } Origin;
 
-typedef struct Search
+typedef struct JoinSearch
 {
 	PlannedStmt *plan;
 	HTAB	   *origins;
 	List	   *joins;			/* of PlanJoin */
-} Search;
+} JoinSearch;
 
-static Scans scans_below(Search *search, Plan *plan);
+static Scans scans_below(JoinSearch *search, Plan *plan);
 
 /* The entries that a single scan joins, for example on a foreign server or by another extension. */
 static Bitmapset *
@@ -113,7 +113,7 @@ is_empty(Plan *plan)
 
 /* The entry that a scan reads; 0 if the node isn't a scan of a single entry. */
 static Index
-scanned(Plan *plan)
+scanned_entry(Plan *plan)
 {
 	switch (nodeTag(plan))
 	{
@@ -142,8 +142,8 @@ scanned(Plan *plan)
 static Scans
 leaf_scans(Plan *plan)
 {
-	if (scanned(plan))
-		return (Scans) {bms_make_singleton(scanned(plan)), true};
+	if (scanned_entry(plan))
+		return (Scans) {bms_make_singleton(scanned_entry(plan)), true};
 	if (IsA(plan, ForeignScan))
 		return (Scans) {((ForeignScan *) plan)->fs_relids, true};
 	if (IsA(plan, CustomScan))
@@ -151,8 +151,8 @@ leaf_scans(Plan *plan)
 	return (Scans) {NULL, is_empty(plan)};
 }
 
-/* The parent of a child in its own PlannerInfo, or 0 if it isn't a child. In a finished plan the numbers of both are shifted, like those of all
-   entries of this PlannerInfo, but the array still has the child at its old number. */
+/* The parent of a child in its own PlannerInfo, or 0 if it isn't a child. In a finished plan both numbers are shifted by one amount; the array is
+   still indexed by the child's old number. */
 static Index
 parent_of(PlannerInfo *root, Index child)
 {
@@ -187,7 +187,7 @@ relid_in(PlannerInfo *root, const Origin *origin)
 }
 
 static const Origin *
-origin_of(Search *search, int number)
+origin_of(JoinSearch *search, int number)
 {
 	Alias	   *names = list_nth_node(RangeTblEntry, search->plan->rtable, number - 1)->eref;
 
@@ -196,7 +196,7 @@ origin_of(Search *search, int number)
 
 /* The numbers in `root` of all these scans; NULL if one of them isn't below `root`. */
 static Relids
-relids_in(Search *search, PlannerInfo *root, Bitmapset *numbers)
+relids_in(JoinSearch *search, PlannerInfo *root, Bitmapset *numbers)
 {
 	Relids		relids = NULL;
 	int			number = -1;
@@ -215,14 +215,14 @@ relids_in(Search *search, PlannerInfo *root, Bitmapset *numbers)
 
 /* Finds the PlannerInfo that made a join: the innermost one in which all scans of both sides have numbers. */
 static void
-note_join(Search *search, Bitmapset *outer, Bitmapset *inner, bool told)
+note_join(JoinSearch *search, Bitmapset *outer, Bitmapset *inner, bool complete)
 {
 	PlanJoin   *join = palloc0(sizeof(PlanJoin));
 	int			first = bms_next_member(outer ? outer : inner, -1);
 	const Origin *origin = first > 0 ? origin_of(search, first) : NULL;
 
 	search->joins = lappend(search->joins, join);
-	for (PlannerInfo *root = told && origin ? origin->root : NULL; root != NULL; root = root->parent_root)
+	for (PlannerInfo *root = complete && origin ? origin->root : NULL; root != NULL; root = root->parent_root)
 	{
 		Relids		left = relids_in(search, root, outer);
 		Relids		right = relids_in(search, root, inner);
@@ -238,17 +238,17 @@ note_join(Search *search, Bitmapset *outer, Bitmapset *inner, bool told)
 }
 
 static Scans
-scans_of_join(Search *search, Plan *plan)
+scans_of_join(JoinSearch *search, Plan *plan)
 {
 	Scans		outer = scans_below(search, outerPlan(plan));
 	Scans		inner = scans_below(search, innerPlan(plan));
 
-	note_join(search, outer.numbers, inner.numbers, outer.told && inner.told);
-	return (Scans) {bms_union(outer.numbers, inner.numbers), outer.told && inner.told};
+	note_join(search, outer.numbers, inner.numbers, outer.complete && inner.complete);
+	return (Scans) {bms_union(outer.numbers, inner.numbers), outer.complete && inner.complete};
 }
 
 static Scans
-scans_below(Search *search, Plan *plan)
+scans_below(JoinSearch *search, Plan *plan)
 {
 	Scans		all = {NULL, true};
 	List	   *children;
@@ -265,14 +265,14 @@ scans_below(Search *search, Plan *plan)
 		Scans		some = scans_below(search, lfirst(cell));
 
 		all.numbers = bms_union(all.numbers, some.numbers);
-		all.told = all.told && some.told;
+		all.complete = all.complete && some.complete;
 	}
-	/* A scan covers all that is below it. */
-	return children == NIL || scanned(plan) || IsA(plan, CustomScan) ? leaf_scans(plan) : all;
+	/* A scan stands for all nodes below it. */
+	return children == NIL || scanned_entry(plan) || IsA(plan, CustomScan) ? leaf_scans(plan) : all;
 }
 
 static void
-note_origins(Search *search, PlannerInfo *root)
+note_origins(JoinSearch *search, PlannerInfo *root)
 {
 	for (int i = 1; root->simple_rte_array && i < root->simple_rel_array_size; i++)
 	{
@@ -292,7 +292,7 @@ List *
 joins_of_plan(PlannedStmt *plan, List *roots)
 {
 	HASHCTL		control = {.keysize = sizeof(Alias *),.entrysize = sizeof(Origin),.hcxt = CurrentMemoryContext};
-	Search		search = {plan, hash_create("safebound origins", 64, &control, HASH_ELEM | HASH_BLOBS | HASH_CONTEXT), NIL};
+	JoinSearch		search = {plan, hash_create("safebound origins", 64, &control, HASH_ELEM | HASH_BLOBS | HASH_CONTEXT), NIL};
 	ListCell   *cell;
 
 	foreach(cell, roots)

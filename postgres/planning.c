@@ -25,14 +25,14 @@ static join_search_hook_type join_search_before;
 static create_upper_paths_hook_type upper_paths_before;
 
 /* One call of the planner. A function that the planner evaluates may call the planner again. */
-typedef struct Planning
+typedef struct PlannerCall
 {
-	struct Planning *outer;
+	struct PlannerCall *outer;
 	List	   *queries;		/* of BoundedQuery, one for each PlannerInfo that has joins or scans */
 	List	  **queries_out;	/* where the queries are stored at its end; NULL: nowhere */
-} Planning;
+} PlannerCall;
 
-static Planning *planning;
+static PlannerCall *planner_call;
 
 /* Where the next call of the planner stores its queries. */
 static List **next_queries_out;
@@ -113,7 +113,7 @@ query_of(PlannerInfo *root, bool make)
 	MemoryContext before;
 	ListCell   *cell;
 
-	foreach(cell, planning->queries)
+	foreach(cell, planner_call->queries)
 		if (((BoundedQuery *) lfirst(cell))->root == root)
 			return lfirst(cell);
 	if (!make)
@@ -121,7 +121,7 @@ query_of(PlannerInfo *root, bool make)
 	before = MemoryContextSwitchTo(root->planner_cxt);
 	query = bounded_query(root);
 	query->estimates = own_rows_table();
-	planning->queries = lappend(planning->queries, query);
+	planner_call->queries = lappend(planner_call->queries, query);
 	set_base_rows(query);
 	MemoryContextSwitchTo(before);
 	return query;
@@ -131,7 +131,7 @@ query_of(PlannerInfo *root, bool make)
 BoundedQuery *
 query_being_planned(PlannerInfo *root)
 {
-	return estimates_mode != ESTIMATES_OFF && planning ? query_of(root, false) : NULL;
+	return estimates_mode != ESTIMATES_OFF && planner_call ? query_of(root, false) : NULL;
 }
 
 /* Makes the paths that PostgreSQL's allpaths.c makes for a plain table. */
@@ -223,7 +223,7 @@ set_append_rows(BoundedQuery *query, RelOptInfo *rel)
 static void
 on_rel_paths(PlannerInfo *root, RelOptInfo *rel, Index rti, RangeTblEntry *rte)
 {
-	if (planning != NULL && (estimates_mode != ESTIMATES_OFF || planning->queries_out))
+	if (planner_call != NULL && (estimates_mode != ESTIMATES_OFF || planner_call->queries_out))
 	{
 		bool		first = query_of(root, false) == NULL;
 		BoundedQuery *query = query_of(root, true);
@@ -243,7 +243,7 @@ on_rel_paths(PlannerInfo *root, RelOptInfo *rel, Index rti, RangeTblEntry *rte)
 static void
 on_upper_paths(PlannerInfo *root, UpperRelationKind stage, RelOptInfo *input, RelOptInfo *output, void *extra)
 {
-	BoundedQuery *query = estimates_mode != ESTIMATES_OFF && planning && input->reloptkind == RELOPT_BASEREL ? query_of(root, false) : NULL;
+	BoundedQuery *query = estimates_mode != ESTIMATES_OFF && planner_call && input->reloptkind == RELOPT_BASEREL ? query_of(root, false) : NULL;
 
 	if (query != NULL && query->entries[input->relid].rel == input && query->entries[input->relid].table && root->simple_rte_array[input->relid]->inh)
 		set_append_rows(query, input);
@@ -364,20 +364,20 @@ on_join_search(PlannerInfo *root, int levels, List *initial)
 static PlannedStmt *
 on_planner(Query *parse, const char *text, int options, ParamListInfo parameters)
 {
-	Planning	mine = {.outer = planning,.queries_out = next_queries_out};
+	PlannerCall	mine = {.outer = planner_call,.queries_out = next_queries_out};
 	PlannedStmt *plan;
 
-	if (planning == NULL)
+	if (planner_call == NULL)
 		kept_free_dropped();
 	next_queries_out = NULL;
-	planning = &mine;
+	planner_call = &mine;
 	PG_TRY();
 	{
 		plan = planner_before ? planner_before(parse, text, options, parameters) : standard_planner(parse, text, options, parameters);
 	}
 	PG_FINALLY();
 	{
-		planning = mine.outer;
+		planner_call = mine.outer;
 	}
 	PG_END_TRY();
 	if (mine.queries_out)
@@ -387,7 +387,7 @@ on_planner(Query *parse, const char *text, int options, ParamListInfo parameters
 
 /* Plans a query as this session would. Stores in `queries` the relations and equalities of each part of the query. */
 PlannedStmt *
-plan_and_tell(Query *query, const char *text, List **queries)
+plan_and_store(Query *query, const char *text, List **queries)
 {
 	PlannedStmt *plan;
 

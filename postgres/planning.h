@@ -29,7 +29,7 @@ typedef struct Entry
 	RelOptInfo *rel;
 	uint64		rows;			/* its row bound */
 	int			number;			/* its number among the known relations */
-	Bitmapset  *used;			/* the columns whose conditions have lists */
+	Bitmapset  *used;			/* the columns for whose conditions lists were found */
 	struct CountedStatistics *statistics;	/* by column; NULL: none was asked for */
 } Entry;
 
@@ -39,18 +39,18 @@ typedef struct JoinedColumn
 	Index		relid;
 	AttrNumber	number;
 	DegreeList	list;
-	List	   *narrowed;		/* of Narrowed: its lists in sets so far */
+	List	   *narrowed_lists;		/* of NarrowedList: its lists in sets so far */
 } JoinedColumn;
 
 /* A joined column's list in sets where its relation is joined to relations to which it refers. The list takes the conditions on these relations
    into account. */
-typedef struct Narrowed
+typedef struct NarrowedList
 {
-	Bitmapset  *held;			/* the references along which the set joins, by their places in `carried` */
+	Bitmapset  *held;			/* the references that are equalities within the set, as indexes into `carried` */
 	DegreeList	list;
-} Narrowed;
+} NarrowedList;
 
-/* Columns that are equal in each row in which `required` are joined. */
+/* Columns that are equal in each joined row that has a row of every relation in `required`. */
 typedef struct EqualColumns
 {
 	Relids		required;		/* NULL: no relation is required, as in an equivalence class */
@@ -60,18 +60,18 @@ typedef struct EqualColumns
 
 /* A reference of a relation to another one, along an equality of the query. The referring relation has lists under the conditions on the
    other one. */
-typedef struct Carried
+typedef struct CarrierReference
 {
 	Index		referring;
 	Index		referred;
 	Relids		required;		/* as in the equality */
 	Reference	reference;
-	bool	   *looked;			/* by column, then for the number of rows: whether the list was looked for */
+	bool	   *looked_up;			/* for each column, and at last for the number of rows: whether the list was looked for */
 	DegreeList **lists;			/* NULL where there is none */
-	Bitmapset  *used;			/* the columns of the referred relation whose conditions have lists */
-	bool		loose;			/* the lists may have more rows than refer */
+	Bitmapset  *used;			/* the columns of the referred relation for whose conditions lists were found */
+	bool		may_overcount;	/* the lists may have more rows than refer */
 	double		share;			/* from expected.c; 0: not computed */
-} Carried;
+} CarrierReference;
 
 typedef struct BoundedQuery
 {
@@ -81,7 +81,7 @@ typedef struct BoundedQuery
 	int			columns_capacity;
 	JoinedColumn *columns;
 	List	   *equalities;		/* of EqualColumns */
-	List	   *carried;		/* of Carried */
+	List	   *carried;		/* of CarrierReference */
 	HTAB	   *bounds;			/* of the sets that were asked for */
 	HTAB	   *estimates;		/* PostgreSQL's own rows, by relation */
 } BoundedQuery;
@@ -93,8 +93,8 @@ extern BoundedQuery *bounded_query(PlannerInfo *root);
 extern uint64 bound_of_set(BoundedQuery *query, Relids relids);
 extern List *special_joins_within(BoundedQuery *query, Relids relids);
 extern uint64 bound_of_join(BoundedQuery *query, Relids relids);
-extern const DegreeList *carried_list(BoundedQuery *query, Carried *carried, int column);
-extern bool is_carried(const Carried *carried, Relids relids);
+extern const DegreeList *carried_list(BoundedQuery *query, CarrierReference *carried, int column);
+extern bool is_carried(const CarrierReference *carried, Relids relids);
 
 /* expected.c */
 extern double expected_rows(BoundedQuery *query, RelOptInfo *rel);
@@ -104,7 +104,7 @@ extern void expected_init(void);
 /* planning.c */
 extern BoundedQuery *query_being_planned(PlannerInfo *root);
 extern double own_rows(BoundedQuery *query, RelOptInfo *rel);
-extern PlannedStmt *plan_and_tell(Query *query, const char *text, List **queries);
+extern PlannedStmt *plan_and_store(Query *query, const char *text, List **queries);
 extern void planning_init(void);
 
 #endif

@@ -1,7 +1,7 @@
 -- complain if script is sourced in psql, rather than via CREATE EXTENSION
 \echo Use "CREATE EXTENSION safebound" to load this file. \quit
 
--- The statistics of tables: kept_table has a row for each kept table, and kept_lists one for each joined column with each filter column.
+-- The statistics of tables: kept_table has a row for each kept table, and kept_lists a row for each pair of a joined column and a filter column.
 -- Statistics contain values of the tables, so only the extension's owner may read them.
 -- accuracy, common and ranges are the arguments of `keep`.
 -- joined and filters are the numbers of the table's own columns that were counted as joined columns and as filter columns.
@@ -45,7 +45,7 @@ CREATE TABLE kept_lists (
 );
 REVOKE ALL ON kept_lists FROM PUBLIC;
 
--- The rows that came after a table was counted, one delta for each statement. If rows is -1, some of them weren't counted.
+-- Deltas: the rows that came after a table was counted, one delta for each statement. If rows is -1, some rows came without being counted.
 CREATE TABLE kept_delta (
     relation oid NOT NULL,
     id bigint NOT NULL,

@@ -29,7 +29,7 @@ typedef enum ListKind
 	LIST_OTHER = 'o',			/* dominates the list of any value that isn't common */
 	LIST_ANY = 'a',				/* dominates the list of any value */
 	LIST_LEAF = 'l',			/* a range of values in the column's order, up to `value` */
-	LIST_NODE = 'm'				/* two neighbouring ranges of the level below, or its last one alone */
+	LIST_NODE = 'm'				/* two neighbouring ranges of the level below, or the last range of that level */
 } ListKind;
 
 typedef struct KeptList
@@ -97,7 +97,7 @@ extern uint64 write_own(const char *statement, int length, Oid *types, Datum *va
 extern int64 keep_table(Oid relation, Bitmapset *joined, Bitmapset *filters, int most_common, int most_leaves, int accuracy, bool folding);
 
 /* watch.c: all tables on which a statement may write rows to this table, including the table itself. */
-extern List *written_through(Oid relation);
+extern List *tables_writing_to(Oid relation);
 
 /* admit.c: while this is true, no query is refused. */
 extern bool admission_paused;
@@ -122,6 +122,6 @@ extern void kept_init(void);
 extern Oid	equality_family(Oid relation, AttrNumber column, Oid collation);
 extern bool is_equality(Oid relation, AttrNumber column, Oid operator, Oid collation);
 extern DegreeList list_under(const KeptTable *table, RelOptInfo *rel, AttrNumber joined, Bitmapset **used);
-extern bool list_along(const KeptTable *table, const Reference *reference, RelOptInfo *referred, AttrNumber joined, DegreeList *list, Bitmapset **used, bool *loose);
+extern bool list_along(const KeptTable *table, const Reference *reference, RelOptInfo *referred, AttrNumber joined, DegreeList *list, Bitmapset **used, bool *may_overcount);
 
 #endif

@@ -44,7 +44,7 @@ static ProcessUtility_hook_type utility_before;
 
 /* A table, all tables from which it inherits, and the parts of a partitioned table. A statement on any of these may write to the table. */
 List *
-written_through(Oid relation)
+tables_writing_to(Oid relation)
 {
 	Relation	inherits = table_open(InheritsRelationId, AccessShareLock);
 	List	   *sources = list_make1_oid(relation);
@@ -110,11 +110,11 @@ has_triggers(Oid source, bool applies)
 	return statements == 3 && (rows == 1 || !applies);
 }
 
-/* Whether all tables that bring rows to a table are still followed. */
+/* Whether `followed` has all tables on which a statement may write rows of this one, and each of them has its triggers. */
 static bool
 is_intact(Oid relation, List *followed)
 {
-	List	   *sources = written_through(relation);
+	List	   *sources = tables_writing_to(relation);
 	ListCell   *cell;
 
 	if (!equal(sources, followed))
@@ -148,13 +148,13 @@ lock_whole(Oid relation, LOCKMODE mode)
 /* Locks a table against others that count it, and takes a new snapshot. If the columns may differ from those counted before, this waits for all
    writers too, since their triggers read the columns. The deltas that the snapshot sees are deleted, since their rows are now counted. */
 void
-begin_counting(Relation relation, bool folding, Seen *before, bool *was_followed)
+begin_counting(Relation relation, bool folding, KeptRow *before, bool *was_followed)
 {
 	Oid			id = RelationGetRelid(relation);
 
 	lock_whole(id, ShareUpdateExclusiveLock);
-	*before = (Seen) {.relation = id};
-	*was_followed = see_table(id, NULL, before) && before->sources != NIL;
+	*before = (KeptRow) {.relation = id};
+	*was_followed = find_kept_row(id, NULL, before) && before->sources != NIL;
 	if (*was_followed && !folding)
 		lock_whole(id, ShareRowExclusiveLock);
 	if (*was_followed)
@@ -168,7 +168,7 @@ begin_counting(Relation relation, bool folding, Seen *before, bool *was_followed
 	else
 		PushActiveSnapshot(GetTransactionSnapshot());
 	delete_deltas(id, GetActiveSnapshot());
-	marks_are_gone();
+	forget_marks();
 }
 
 static Datum
@@ -182,7 +182,7 @@ oid_array(List *oids)
 	return PointerGetDatum(construct_array(values, list_length(oids), OIDOID, 4, true, TYPALIGN_INT));
 }
 
-/* Stores with the new statistics which columns they count, and which tables bring rows. */
+/* Stores with the new statistics which columns they count, and the tables on which a statement may write rows. */
 static void
 note_sources(Oid relation, List *sources)
 {
@@ -197,34 +197,34 @@ note_sources(Oid relation, List *sources)
 
 /* The columns of a table whose changes are followed. NULL unless the table is watched and known. */
 static Bitmapset *
-columns_told(Oid relation, Seen *seen)
+followed_columns(Oid relation, KeptRow *kept_row)
 {
-	if (!see_table(relation, GetActiveSnapshot(), seen) || seen->sources == NIL || has_mark(relation, GetActiveSnapshot()))
+	if (!find_kept_row(relation, GetActiveSnapshot(), kept_row) || kept_row->sources == NIL || has_mark(relation, GetActiveSnapshot()))
 		return NULL;
-	return bms_union(seen->joined, seen->filters);
+	return bms_union(kept_row->joined, kept_row->filters);
 }
 
 /* The referred tables that have lists along a reference, as the active snapshot sees them. A table is left out if changes of a column that was used
    aren't followed. */
 static List *
-references_told(Oid relation, uint64 rows, SPITupleTable *lists)
+followed_references(Oid relation, uint64 rows, SPITupleTable *lists)
 {
-	List	   *told = NIL;
+	List	   *followed = NIL;
 
 	for (uint64 at = 0; at < rows; at++)
 	{
 		bool		null;
 		Oid			referred = DatumGetObjectId(SPI_getbinval(lists->vals[at], lists->tupdesc, 1, &null));
-		Seen		seen;
-		Bitmapset  *columns = columns_told(referred, &seen);
+		KeptRow		kept_row;
+		Bitmapset  *columns = followed_columns(referred, &kept_row);
 		ReferredTable *table = palloc(sizeof(ReferredTable));
 
-		if (columns == NULL || !bms_is_subset(array_numbers(SPI_getbinval(lists->vals[at], lists->tupdesc, 2, &null)), columns))
+		if (columns == NULL || !bms_is_subset(numbers_in_array(SPI_getbinval(lists->vals[at], lists->tupdesc, 2, &null)), columns))
 			continue;
-		*table = (ReferredTable) {referred, seen.version, count_deltas(referred, GetActiveSnapshot())};
-		told = lappend(told, table);
+		*table = (ReferredTable) {referred, kept_row.version, count_deltas(referred, GetActiveSnapshot())};
+		followed = lappend(followed, table);
 	}
-	return told;
+	return followed;
 }
 
 static void
@@ -232,16 +232,16 @@ note_references(Oid relation)
 {
 	Oid			types[] = {REGCLASSOID, INT8ARRAYOID};
 	Datum		values[2] = {ObjectIdGetDatum(relation)};
-	List	   *told;
+	List	   *followed;
 	Datum	   *numbers;
 	ListCell   *cell;
 	int			length = 0;
 
 	write_own("SELECT referred, array_agg(DISTINCT filter) || array_agg(DISTINCT key) FROM safebound.kept_lists"
 			  " WHERE relation = $1 AND along > 0 GROUP BY referred", 1, types, values);
-	told = references_told(relation, SPI_processed, SPI_tuptable);
-	numbers = palloc(sizeof(Datum) * 3 * (list_length(told) + 1));
-	foreach(cell, told)
+	followed = followed_references(relation, SPI_processed, SPI_tuptable);
+	numbers = palloc(sizeof(Datum) * 3 * (list_length(followed) + 1));
+	foreach(cell, followed)
 	{
 		ReferredTable *table = lfirst(cell);
 
@@ -254,7 +254,7 @@ note_references(Oid relation)
 }
 
 void
-end_counting(const Seen *before, bool was_followed)
+end_counting(const KeptRow *before, bool was_followed)
 {
 	note_references(before->relation);
 	PopActiveSnapshot();
@@ -313,7 +313,7 @@ drop_triggers(Oid source)
 	ListCell   *cell;
 
 	foreach(cell, followers_of(source))
-		applies = applies || applies_rows(source, ((Seen *) lfirst(cell))->relation);
+		applies = applies || applies_rows(source, ((KeptRow *) lfirst(cell))->relation);
 	if (!applies && get_rel_relkind(source) == RELKIND_RELATION)
 		execute("DROP TRIGGER IF EXISTS safebound_applied ON %s", name);
 	if (followers_of(source) != NIL)
@@ -327,12 +327,12 @@ drop_triggers(Oid source)
 static int64
 keep_again(Oid relation, bool folding)
 {
-	Seen		seen;
+	KeptRow		kept_row;
 
-	if (!see_table(relation, NULL, &seen))
+	if (!find_kept_row(relation, NULL, &kept_row))
 		return keep_table(relation, NULL, NULL, COMMON, RANGES, ACCURACY, folding);
 	/* With 0 as a member, a set without columns isn't NULL. NULL would mean all columns. */
-	return keep_table(relation, bms_add_member(seen.joined, 0), bms_add_member(seen.filters, 0), seen.common, seen.ranges, seen.accuracy, folding);
+	return keep_table(relation, bms_add_member(kept_row.joined, 0), bms_add_member(kept_row.filters, 0), kept_row.most_common, kept_row.most_leaves, kept_row.accuracy, folding);
 }
 
 /* Checks that the caller may count a table. Returns whether the table can have triggers: a materialized view can't. */
@@ -355,7 +355,7 @@ safebound_watch(PG_FUNCTION_ARGS)
 {
 	Oid			relation = PG_GETARG_OID(0);
 	bool		triggers = may_have_triggers(relation);
-	List	   *sources = written_through(relation);
+	List	   *sources = tables_writing_to(relation);
 	int64		lists;
 	ListCell   *cell;
 
@@ -379,14 +379,14 @@ safebound_unwatch(PG_FUNCTION_ARGS)
 {
 	Oid			relation = PG_GETARG_OID(0);
 	bool		triggers = may_have_triggers(relation);
-	Seen		seen = {0};
-	bool		were = see_table(relation, NULL, &seen) && seen.sources != NIL;
+	KeptRow		kept_row = {0};
+	bool		were = find_kept_row(relation, NULL, &kept_row) && kept_row.sources != NIL;
 	ListCell   *cell;
 
 	SPI_connect();
 	if (were)
 		note_sources(relation, NIL);
-	foreach(cell, triggers ? written_through(relation) : NIL)
+	foreach(cell, triggers ? tables_writing_to(relation) : NIL)
 		if (lfirst_oid(cell) == relation || is_part_of(lfirst_oid(cell), relation))
 			drop_triggers(lfirst_oid(cell));
 	SPI_finish();
@@ -397,9 +397,9 @@ Datum
 safebound_fold(PG_FUNCTION_ARGS)
 {
 	Oid			relation = PG_GETARG_OID(0);
-	Seen		seen;
+	KeptRow		kept_row;
 
-	if (!see_table(relation, NULL, &seen))
+	if (!find_kept_row(relation, NULL, &kept_row))
 		ereport(ERROR, (errcode(ERRCODE_OBJECT_NOT_IN_PREREQUISITE_STATE), errmsg("no statistics of \"%s\" are kept", get_rel_name(relation))));
 	PG_RETURN_INT64(keep_again(relation, true));
 }
@@ -412,12 +412,12 @@ fold_full(List *named)
 
 	foreach(cell, followers_of(InvalidOid))
 	{
-		Seen	   *seen = lfirst(cell);
+		KeptRow	   *kept_row = lfirst(cell);
 
-		if (seen->sources != NIL && (named == NIL || list_member_oid(named, seen->relation)) &&
-			SearchSysCacheExists1(RELOID, ObjectIdGetDatum(seen->relation)) &&
-			pg_class_ownercheck(seen->relation, GetUserId()) && count_deltas(seen->relation, NULL) >= MANY_DELTAS)
-			keep_again(seen->relation, true);
+		if (kept_row->sources != NIL && (named == NIL || list_member_oid(named, kept_row->relation)) &&
+			SearchSysCacheExists1(RELOID, ObjectIdGetDatum(kept_row->relation)) &&
+			pg_class_ownercheck(kept_row->relation, GetUserId()) && count_deltas(kept_row->relation, NULL) >= MANY_DELTAS)
+			keep_again(kept_row->relation, true);
 	}
 }
 
@@ -494,12 +494,12 @@ check_all(void)
 
 	foreach(cell, followers_of(InvalidOid))
 	{
-		Seen	   *seen = lfirst(cell);
+		KeptRow	   *kept_row = lfirst(cell);
 
-		if (!SearchSysCacheExists1(RELOID, ObjectIdGetDatum(seen->relation)))
-			forget_dropped(seen->relation);
-		else if (seen->sources != NIL && !is_intact(seen->relation, seen->sources))
-			mark_broken(seen->relation);
+		if (!SearchSysCacheExists1(RELOID, ObjectIdGetDatum(kept_row->relation)))
+			forget_dropped(kept_row->relation);
+		else if (kept_row->sources != NIL && !is_intact(kept_row->relation, kept_row->sources))
+			mark_broken(kept_row->relation);
 	}
 }
 
@@ -513,9 +513,9 @@ mark_refreshed(void)
 	{
 		bool		null;
 		Oid			relation = DatumGetObjectId(SPI_getbinval(SPI_tuptable->vals[i], SPI_tuptable->tupdesc, 1, &null));
-		Seen		seen;
+		KeptRow		kept_row;
 
-		if (see_table(relation, NULL, &seen))
+		if (find_kept_row(relation, NULL, &kept_row))
 			mark_not_counted(relation);
 	}
 }
@@ -525,14 +525,14 @@ static void
 mark_rewritten(void)
 {
 	Oid			relation = DatumGetObjectId(OidFunctionCall0(F_PG_EVENT_TRIGGER_TABLE_REWRITE_OID));
-	Seen		seen;
+	KeptRow		kept_row;
 	ListCell   *cell;
 
-	if (see_table(relation, NULL, &seen))
+	if (find_kept_row(relation, NULL, &kept_row))
 		mark_not_counted(relation);
 	foreach(cell, followers_of(relation))
-		if (is_part_of(relation, ((Seen *) lfirst(cell))->relation))
-			mark_not_counted(((Seen *) lfirst(cell))->relation);
+		if (is_part_of(relation, ((KeptRow *) lfirst(cell))->relation))
+			mark_not_counted(((KeptRow *) lfirst(cell))->relation);
 }
 
 Datum

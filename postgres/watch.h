@@ -35,7 +35,7 @@ enum
 /* The value of DELTA_ROWS if rows came or changed without being counted. */
 #define NOT_COUNTED (-1)
 
-/* A table to which another one refers, as it was when the other one was counted. */
+/* A table that a counted table refers to, as it was at the time of the count. */
 typedef struct ReferredTable
 {
 	Oid			relation;
@@ -44,18 +44,18 @@ typedef struct ReferredTable
 } ReferredTable;
 
 /* The row of a table in safebound.kept_table, as a snapshot sees it. */
-typedef struct Seen
+typedef struct KeptRow
 {
 	Oid			relation;
 	int64		version;
-	int			common;
-	int			ranges;
+	int			most_common;
+	int			most_leaves;
 	int			accuracy;
-	List	   *sources;		/* the tables on which statements may bring rows; NIL if they aren't followed */
+	List	   *sources;		/* all tables on which a statement may write rows of this one; NIL if new rows aren't followed */
 	Bitmapset  *joined;			/* the columns with lists */
-	Bitmapset  *filters;		/* the columns whose conditions have lists */
+	Bitmapset  *filters;		/* the columns for whose conditions lists are kept */
 	List	   *referred;		/* of ReferredTable */
-} Seen;
+} KeptRow;
 
 /* The rows that came later, as far as a snapshot sees them. */
 struct Deltas
@@ -66,32 +66,32 @@ struct Deltas
 	int64	   *ids;
 	uint64		rows;
 	int			lists_length;
-	AttrNumber *numbers;		/* of which columns */
-	DegreeList *lists;
+	AttrNumber *numbers;		/* the columns that have lists */
+	DegreeList *lists;			/* of these columns, in the same order */
 };
 
 /* deltas.c */
-extern Bitmapset *array_numbers(Datum array);
-extern bool see_table(Oid relation, Snapshot snapshot, Seen *seen);
-extern Deltas *see_deltas(const Seen *seen, Snapshot snapshot, Deltas *known);
+extern Bitmapset *numbers_in_array(Datum array);
+extern bool find_kept_row(Oid relation, Snapshot snapshot, KeptRow *kept_row);
+extern Deltas *find_deltas(const KeptRow *kept_row, Snapshot snapshot, Deltas *known);
 extern void write_delta(Oid relation, int64 rows, StringInfo lists);
 extern void delete_deltas(Oid relation, Snapshot snapshot);
 extern List *followers_of(Oid source);
 
 extern bool has_mark(Oid relation, Snapshot snapshot);
 extern int64 count_deltas(Oid relation, Snapshot snapshot);
-extern List *unchanged_references(const Seen *seen, Snapshot snapshot);
+extern List *unchanged_references(const KeptRow *kept_row, Snapshot snapshot);
 
 /* watch.c */
-extern void begin_counting(Relation relation, bool folding, Seen *before, bool *was_followed);
-extern void end_counting(const Seen *before, bool was_followed);
+extern void begin_counting(Relation relation, bool folding, KeptRow *before, bool *was_followed);
+extern void end_counting(const KeptRow *before, bool was_followed);
 extern void watch_init(void);
 
 /* followed.c: the triggers */
-extern bool is_writing(const Seen *seen);
+extern bool is_being_written(const KeptRow *kept_row);
 extern bool is_part_of(Oid relation, Oid whole);
 extern void mark_not_counted(Oid relation);
-extern void marks_are_gone(void);
+extern void forget_marks(void);
 extern void followed_init(void);
 
 #endif

@@ -1,5 +1,5 @@
-"""What the explanation of each of these faults has to say: place, cause and remedy. The list was written before these
-faults were run, but after the code of the explanations was read.
+"""What the explanation of each of these faults has to say: place, cause and remedy. The author of the list had read the
+code of the explanations, but hadn't run these faults.
 
 A string of a list may have several alternatives, separated by `|`; the explanation must have one of them. Cause and
 remedy are searched in the sentences only, and not in the excerpt, which shows the user's own text anyway.

@@ -66,7 +66,7 @@ def look_at_places(driver: Any) -> list[tuple[str, float, float, float, float]]:
     return texts
 
 
-def opened(room: str) -> Any:
+def open_browser(room: str) -> Any:
     """The browser, or None if a part of it isn't installed."""
     try:
         from selenium import webdriver
@@ -114,7 +114,7 @@ class Pictures(unittest.TestCase):
         cls.environment = {**os.environ, "SAFEBOUND_PROGRAM": program}
         cls.room = tempfile.mkdtemp(prefix="browser-")
         cls.addClassCleanup(shutil.rmtree, cls.room)
-        cls.driver = opened(cls.room)
+        cls.driver = open_browser(cls.room)
         if cls.driver is None:
             raise unittest.SkipTest("Debian's chromium, chromium-driver or python3-selenium isn't here")
         cls.addClassCleanup(cls.driver.quit)

@@ -61,14 +61,14 @@ def want(is_so: object, what: object) -> None:
         raise AssertionError(what)
 
 
-def squeezed(text: str) -> str:
+def on_one_line(text: str) -> str:
     return " ".join(text.split())
 
 
-class Bench:
-    """The installed command, and a room with a folder for the files of a test."""
+class TestSetup:
+    """The installed command, and a temporary folder with a folder for the files of a test."""
 
-    room: str
+    temp_folder: str
     folder: str
     temporary: str
     environment: dict[str, str]
@@ -87,13 +87,13 @@ class Bench:
         self.usr = os.path.join(self.installed, "usr")
         self.command, self.program = (os.path.join(self.usr, "bin", name) for name in ("safebound", "safebound_cli"))
 
-    def beside(self) -> Bench:
-        """The same command with a room of its own, so that tests can run side by side."""
+    def beside(self) -> TestSetup:
+        """The same command with a temporary folder of its own, so that tests can run side by side."""
         other = copy.copy(self)
-        other.room = tempfile.mkdtemp(prefix="room-", dir=self.installed)
+        other.temp_folder = tempfile.mkdtemp(prefix="room-", dir=self.installed)
         # A test with unreadable files runs the program as the user nobody.
-        os.chmod(other.room, 0o755)
-        other.folder, other.temporary = (os.path.join(other.room, name) for name in ("folder", "temporary"))
+        os.chmod(other.temp_folder, 0o755)
+        other.folder, other.temporary = (os.path.join(other.temp_folder, name) for name in ("folder", "temporary"))
         os.mkdir(other.temporary)
         other.environment = {
             **{k: v for k, v in os.environ.items() if k != "SAFEBOUND_PROGRAM"},
@@ -101,8 +101,8 @@ class Bench:
         }
         return other
 
-    def of_each(self, test: Callable[[Bench, _Case], _Found], cases: Iterable[_Case]) -> list[_Found]:
-        """A test's result for each case. Cases run in parallel, each in a room of its own."""
+    def results_of(self, test: Callable[[TestSetup, _Case], _Found], cases: Iterable[_Case]) -> list[_Found]:
+        """A test's result for each case. Cases run in parallel, each in a temporary folder of its own."""
         with ThreadPoolExecutor(os.cpu_count()) as pool:
             return list(pool.map(lambda case: test(self.beside(), case), cases))
 
@@ -180,45 +180,45 @@ class Bench:
 
 
 class Installed(unittest.TestCase):
-    """Tests over the installed command, each in a room of its own."""
+    """Tests over the installed command, each in a temporary folder of its own."""
 
-    installed: Bench
+    installed: TestSetup
 
     def setUp(self) -> None:
-        self.bench = self.installed.beside()
+        self.setup = self.installed.beside()
 
 
 def setUpModule() -> None:
     program = os.path.abspath(os.environ.get("PROGRAM") or BUILT)
     if not os.path.isfile(program):
         raise AssertionError(f"no program {program}: make build")
-    Installed.installed = Bench(program)
+    Installed.installed = TestSetup(program)
     unittest.addModuleCleanup(shutil.rmtree, Installed.installed.installed)
 
 
 # ---- explanations
 
 
-def explained(bench: Bench, mistake: Mistake) -> None:
+def check_explained(setup: TestSetup, mistake: Mistake) -> None:
     """Checks a mistake: the program's line comes first and is unchanged, the status is the program's, and the
     explanation has its words.
     """
-    bench.lay(mistake.files)
-    bare = bench.run(*mistake.words, command=bench.program)
-    status, out, told = bench.run("--explain", *mistake.words)
+    setup.lay(mistake.files)
+    bare = setup.run(*mistake.words, command=setup.program)
+    status, out, told = setup.run("--explain", *mistake.words)
     notes = told.decode()
     assert mistake.line is not None
     want(bare[2].decode() == mistake.line + "\n", f"the program says {bare[2]!r}, and not {mistake.line!r}")
     want(notes.startswith(mistake.line + "\n"), f"the line is not first: {notes!r}")
     want((status, out) == bare[:2], f"status or output differ: {status}, {bare[0]}")
     for words in mistake.says:
-        want(squeezed(words) in squeezed(notes), f"{words!r} is not said in:\n{notes}")
+        want(on_one_line(words) in on_one_line(notes), f"{words!r} is not said in:\n{notes}")
 
 
-def failure(test: Callable[[Bench, _Case], object], bench: Bench, case: _Case) -> str:
+def failure(test: Callable[[TestSetup, _Case], object], setup: TestSetup, case: _Case) -> str:
     """The failure of a test, or ""."""
     try:
-        test(bench, case)
+        test(setup, case)
     except AssertionError as fault:
         return str(fault)
     return ""
@@ -232,18 +232,17 @@ def without_excerpt(notes: str) -> str:
 
 
 def words_missing(notes: str, words: Iterable[str]) -> list[str]:
-    """The words that occur in the text in no form."""
-    said = squeezed(notes)
-    return [
-        word for word in words if not any(squeezed(form) in said for form in word.split(" | " if "||" in word else "|"))
-    ]
+    """The words of which no form occurs in the text. Forms of a word are separated by |."""
+    said = on_one_line(notes)
+    forms = {word: word.split(" | " if "||" in word else "|") for word in words}
+    return [word for word in forms if not any(on_one_line(form) in said for form in forms[word])]
 
 
-def judged(bench: Bench, fault: Fault) -> tuple[list[str], str]:
+def missing_parts(setup: TestSetup, fault: Fault) -> tuple[list[str], str]:
     """The missing parts of a fault's explanation (line, place, cause or remedy), and the whole explanation."""
     mistake = fault.mistake
-    bench.lay(mistake.files)
-    notes = bench.run("--explain", *mistake.words)[2].decode()
+    setup.lay(mistake.files)
+    notes = setup.run("--explain", *mistake.words)[2].decode()
     sentences = without_excerpt(notes)
     line = [] if mistake.line is None or notes.startswith(mistake.line + "\n") else [mistake.line]
     parts = {
@@ -255,12 +254,12 @@ def judged(bench: Bench, fault: Fault) -> tuple[list[str], str]:
     return [f"{part} {words}" for part, words in parts.items() if words], notes
 
 
-def of_the_first_hour(bench: Bench, fault: Fault) -> tuple[list[str], str]:
+def of_the_first_hour(setup: TestSetup, fault: Fault) -> tuple[list[str], str]:
     """Makes a mistake over the school's files, in the folder above theirs. Returns the missing parts of the explanation
     below the proposed schema, and all of standard error.
     """
-    bench.lay(fault.mistake.files, of=SCHOOL)
-    notes = bench.run("--explain", *fault.mistake.words, cwd=bench.room)[2].decode()
+    setup.lay(fault.mistake.files, of=SCHOOL)
+    notes = setup.run("--explain", *fault.mistake.words, cwd=setup.temp_folder)[2].decode()
     told = without_excerpt(re.split(r"^CREATE TABLE .*\n", notes, flags=re.M)[-1])
     line = fault.mistake.line
     parts = {
@@ -272,18 +271,18 @@ def of_the_first_hour(bench: Bench, fault: Fault) -> tuple[list[str], str]:
     return [f"{part} {words}" for part, words in parts.items() if words], notes
 
 
-def pasted(bench: Bench, fault: Fault) -> None:
+def check_pasted(setup: TestSetup, fault: Fault) -> None:
     """For a mistake whose explanation has one command to paste: the command works, and then the user's own command
     works too.
     """
-    environment = {**bench.environment, "PATH": f"{os.path.dirname(bench.command)}:{os.environ['PATH']}"}
-    notes = of_the_first_hour(bench, fault)[1]
+    environment = {**setup.environment, "PATH": f"{os.path.dirname(setup.command)}:{os.environ['PATH']}"}
+    notes = of_the_first_hour(setup, fault)[1]
     lines = re.findall(r"^ {4}((?:safebound|mv) .*)$", notes, re.M)
     want(len(lines) == 1, f"{fault.name} has {len(lines)} lines to paste:\n{notes}")
     for line in (
         lines if lines[0].startswith("safebound run") else [*lines, shlex.join(["safebound", *fault.mistake.words])]
     ):
-        done = subprocess.run(["bash", "-c", line], cwd=bench.room, capture_output=True, env=environment)
+        done = subprocess.run(["bash", "-c", line], cwd=setup.temp_folder, capture_output=True, env=environment)
         want(done.returncode == 0, f"{fault.name}: {line}: {done}")
 
 
@@ -292,49 +291,50 @@ class Explanations(Installed):
         alone = [kind for kind, mistakes in KINDS if len(mistakes) < 2]
         want(not alone, f"less than two variants: {alone}")
         cases = [(kind, mistake) for kind, mistakes in KINDS for mistake in mistakes]
-        found = self.bench.of_each(lambda bench, case: failure(explained, bench, case[1]), cases)
+        found = self.setup.results_of(lambda setup, case: failure(check_explained, setup, case[1]), cases)
         wrong = [f"{kind}: {mistake.line}: {fault}" for (kind, mistake), fault in zip(cases, found) if fault]
         want(not wrong, "\n".join(wrong))
 
     def test_each_fault_has_its_place_cause_and_remedy(self) -> None:
-        found = zip(FAULTS, self.bench.of_each(judged, FAULTS))
+        found = zip(FAULTS, self.setup.results_of(missing_parts, FAULTS))
         wrong = [f"{fault.name} lacks {'; '.join(lacks)}:\n{notes}" for fault, (lacks, notes) in found if lacks]
         want(not wrong, f"{len(wrong)} of {len(FAULTS)} faults\n" + "\n".join(wrong))
 
     def test_the_first_hour(self) -> None:
-        found = zip(first_hour.FIRST_HOUR, self.bench.of_each(of_the_first_hour, first_hour.FIRST_HOUR))
+        found = zip(first_hour.FIRST_HOUR, self.setup.results_of(of_the_first_hour, first_hour.FIRST_HOUR))
         wrong = [f"{fault.name} lacks {'; '.join(lacks)}:\n{notes}" for fault, (lacks, notes) in found if lacks]
         want(not wrong, f"{len(wrong)} of {len(first_hour.FIRST_HOUR)} mistakes\n" + "\n".join(wrong))
 
     def test_remedies_of_the_first_hour_work_when_pasted(self) -> None:
         faults = [fault for fault in first_hour.FIRST_HOUR if fault.name in first_hour.PASTED]
         want(len(faults) == len(first_hour.PASTED), "a name of PASTED is none of the mistakes")
-        wrong = [
-            found for found in self.bench.of_each(lambda bench, fault: failure(pasted, bench, fault), faults) if found
-        ]
+        results = self.setup.results_of(lambda setup, fault: failure(check_pasted, setup, fault), faults)
+        wrong = [found for found in results if found]
         want(not wrong, "\n".join(wrong))
 
     def test_decimals_are_compared_as_cents(self) -> None:
         """Pastes the advised command, and runs the query with the advised comparison. Its rows were counted by hand."""
-        environment = {**self.bench.environment, "PATH": f"{os.path.dirname(self.bench.command)}:{os.environ['PATH']}"}
+        environment = {**self.setup.environment, "PATH": f"{os.path.dirname(self.setup.command)}:{os.environ['PATH']}"}
         for name, rows in (
             ("decimals beside a whole number", b"2 3 5"),
             ("decimals beside a decimal", b"2 3"),
             ("decimals with a comma", b"1 3 4"),
         ):
             fault = next(fault for fault in first_hour.FIRST_HOUR if fault.name == name)
-            notes = of_the_first_hour(self.bench, fault)[1]
+            notes = of_the_first_hour(self.setup, fault)[1]
             want(not re.search("'(9|10)'", notes), f"a number in quotes is advised:\n{notes}")
             lines = re.findall(r"^ {4}(safebound .*)$", notes.rpartition("error query")[2], re.M)
             want(len(lines) == 1, f"{name} has {len(lines)} lines to paste:\n{notes}")
-            done = subprocess.run(["bash", "-c", lines[0]], cwd=self.bench.room, capture_output=True, env=environment)
+            done = subprocess.run(
+                ["bash", "-c", lines[0]], cwd=self.setup.temp_folder, capture_output=True, env=environment
+            )
             want(done.returncode == 0, f"{lines[0]}: {done}")
             advised = re.search(r"Then the query says (.*)\.$", notes, re.M)
             assert advised
             says = advised[1]
-            with open(os.path.join(self.bench.folder, "query.sql"), "w") as f:
+            with open(os.path.join(self.setup.folder, "query.sql"), "w") as f:
                 f.write(f"SELECT id FROM jobs WHERE {says}")
-            status, out, told = self.bench.run("run", "query.sql", "--data", self.bench.folder)
+            status, out, told = self.setup.run("run", "query.sql", "--data", self.setup.folder)
             want(status == 0 and sorted(out.split()[1:]) == rows.split(), f"{says}: {out + told!r}")
 
     def test_ten_questions_of_the_first_hour(self) -> None:
@@ -346,27 +346,27 @@ class Explanations(Installed):
                 rows = list(csv.reader(f))[1:]
             base.executemany(f"INSERT INTO {table} VALUES ({', '.join('?' * len(rows[0]))})", rows)
         for question in first_hour.QUESTIONS:
-            self.bench.lay({"query.sql": question.encode()}, of=SCHOOL)
-            status, out, notes = self.bench.run("run", "query.sql", "--data", self.bench.folder)
+            self.setup.lay({"query.sql": question.encode()}, of=SCHOOL)
+            status, out, notes = self.setup.run("run", "query.sql", "--data", self.setup.folder)
             found = sorted(tuple(row) for row in list(csv.reader(out.decode().splitlines()))[1:])
             wanted = sorted(tuple(map(str, row)) for row in base.execute(question))
             want(status == 0 and found == wanted and found, f"{question}: {found}, and not {wanted}\n{notes.decode()}")
 
     def test_a_plan_of_entries_that_are_not_connected(self) -> None:
-        self.bench.lay({"query.sql": b"SELECT R.NAME FROM READER R, LOAN L, BOOK B WHERE L.BOOK = B.ID"})
-        status, _, notes = self.bench.run("plan", "schema.sql", "query.sql", "--explain")
+        self.setup.lay({"query.sql": b"SELECT R.NAME FROM READER R, LOAN L, BOOK B WHERE L.BOOK = B.ID"})
+        status, _, notes = self.setup.run("plan", "schema.sql", "query.sql", "--explain")
         want(status == 0 and b"aren't connected: R; L and B" in notes, notes)
-        self.bench.lay()
+        self.setup.lay()
         want(
-            b"connected" not in self.bench.run("plan", "schema.sql", "query.sql", "--explain")[2],
+            b"connected" not in self.setup.run("plan", "schema.sql", "query.sql", "--explain")[2],
             "a connected query is warned of",
         )
 
     def test_what_is_advised_for_rows_works(self) -> None:
         """Runs the advised commands after `run .. |`: they sort the rows, remove duplicates, or end lines in LF."""
-        sys.path.insert(0, os.path.join(self.bench.usr, "lib", "safebound"))
+        sys.path.insert(0, os.path.join(self.setup.usr, "lib", "safebound"))
         ADVICE: dict[str, str] = importlib.import_module("safebound_lib.explain.query_advice").WORDS
-        self.bench.lay({"query.sql": b"SELECT TOWN FROM READER"})
+        self.setup.lay({"query.sql": b"SELECT TOWN FROM READER"})
         page = shown("docs/USING.md", "To get LF: `safebound run schema.sql query.sql", "$//'")
         for advice, rows in (
             (ADVICE["ORDER"].partition("run ..")[2], b"TOWN\r\nHamar\r\nHamar\r\nMoss\r\n"),
@@ -374,18 +374,18 @@ class Explanations(Installed):
             (page, b"TOWN\nHamar\nHamar\nMoss\n"),
         ):
             done = subprocess.run(
-                ["bash", "-c", f"{self.bench.command} run schema.sql query.sql 2> notes {advice.strip()}"],
-                cwd=self.bench.folder,
+                ["bash", "-c", f"{self.setup.command} run schema.sql query.sql 2> notes {advice.strip()}"],
+                cwd=self.setup.folder,
                 capture_output=True,
-                env=self.bench.environment,
+                env=self.setup.environment,
             )
             want(done.stdout == rows and not done.stderr, f"{advice}: {done}")
 
     def test_a_reader_that_has_gone(self) -> None:
-        self.bench.lay()
+        self.setup.lay()
         reader, writer = os.pipe()
         os.close(reader)
-        status, _, notes = self.bench.run(
+        status, _, notes = self.setup.run(
             "run", "schema.sql", "query.sql", "--explain", capture_output=False, stdout=writer, stderr=subprocess.PIPE
         )
         os.close(writer)
@@ -396,22 +396,22 @@ class Explanations(Installed):
             notes,
         )
         with open("/dev/full", "wb") as full:
-            status, _, notes = self.bench.run(
+            status, _, notes = self.setup.run(
                 "run", "schema.sql", "query.sql", "--explain", capture_output=False, stdout=full, stderr=subprocess.PIPE
             )
         want(status == 10 and b"disk is full" in notes, notes)
 
     def test_control_characters_of_a_file_do_not_reach_the_terminal(self) -> None:
-        self.bench.lay(
+        self.setup.lay(
             {
                 "query.sql": b"SELECT TITLE FROM BOOK WHERE TITLE = '\x1b[31m' X",
                 "genre.csv": b"ID,NAME\r\n\x1b[2J,x\r\n",
             }
         )
         for words in (("run", "schema.sql", "query.sql"), ("run", "schema.sql", "genre.sql")):
-            with open(os.path.join(self.bench.folder, "genre.sql"), "wb") as f:
+            with open(os.path.join(self.setup.folder, "genre.sql"), "wb") as f:
                 f.write(b"SELECT * FROM GENRE")
-            notes = self.bench.run(*words, "--explain")[2]
+            notes = self.setup.run(*words, "--explain")[2]
             want(b"\x1b" not in notes and b"\\x1b" in notes, notes)
 
 
@@ -421,20 +421,20 @@ class Explanations(Installed):
 class PassedThrough(Installed):
     def test_the_cases_pass_through(self) -> None:
         done = subprocess.run(
-            [os.path.join(ROOT, "cases", "run-cases"), "--features", FEATURES, self.bench.command],
+            [os.path.join(ROOT, "cases", "run-cases"), "--features", FEATURES, self.setup.command],
             capture_output=True,
             text=True,
-            env=self.bench.environment,
+            env=self.setup.environment,
         )
         want(done.returncode == 0 and ", 0 failed" in done.stdout, done.stdout)
 
     def test_broken_streams_files_and_words_pass_through(self) -> None:
         # cases/process copies the program. A copy of the command wouldn't find its package, so a wrapper calls it by
         # its path.
-        wrapper = os.path.join(self.bench.room, "wrapper")
+        wrapper = os.path.join(self.setup.temp_folder, "wrapper")
         with open(wrapper, "w") as f:
             f.write(
-                f"#!/usr/bin/env python3\nimport os, sys\nos.execv({self.bench.command!r}, [{self.bench.command!r},"
+                f"#!/usr/bin/env python3\nimport os, sys\nos.execv({self.setup.command!r}, [{self.setup.command!r},"
                 " *sys.argv[1:]])\n"
             )
         os.chmod(wrapper, 0o755)
@@ -442,38 +442,38 @@ class PassedThrough(Installed):
             [os.path.join(ROOT, "cases", "process"), wrapper],
             capture_output=True,
             text=True,
-            env=self.bench.environment,
+            env=self.setup.environment,
         )
         want(done.returncode == 0, done.stdout)
 
     def test_the_examples_pass_through(self) -> None:
         done = subprocess.run(
-            [os.path.join(ROOT, "examples", "check"), self.bench.command],
+            [os.path.join(ROOT, "examples", "check"), self.setup.command],
             capture_output=True,
             text=True,
-            env=self.bench.environment,
+            env=self.setup.environment,
         )
         want(done.returncode == 0, done.stdout)
 
     def test_own_options_are_taken_out_and_nothing_else(self) -> None:
-        self.bench.lay({"--explain": b"SELECT TITLE FROM BOOK"})
-        plain = self.bench.run("run", "schema.sql", "query.sql", "--budget", "9", command=self.bench.program)
+        self.setup.lay({"--explain": b"SELECT TITLE FROM BOOK"})
+        plain = self.setup.run("run", "schema.sql", "query.sql", "--budget", "9", command=self.setup.program)
         want(
-            self.bench.run("run", "--explain", "schema.sql", "query.sql", "--budget", "9") == plain,
+            self.setup.run("run", "--explain", "schema.sql", "query.sql", "--budget", "9") == plain,
             "--explain changes a run",
         )
-        behind = self.bench.run("plan", "schema.sql", "--", "--explain")
+        behind = self.setup.run("plan", "schema.sql", "--", "--explain")
         want(
-            behind == self.bench.run("plan", "schema.sql", "--", "--explain", command=self.bench.program)
+            behind == self.setup.run("plan", "schema.sql", "--", "--explain", command=self.setup.program)
             and behind[0] == 0,
             "a word behind -- is not the program's",
         )
-        value = self.bench.run("plan", "schema.sql", "query.sql", "--budget", "--data")
+        value = self.setup.run("plan", "schema.sql", "query.sql", "--budget", "--data")
         want(value == (2, b"", b"error usage\n"), value)
 
     def test_a_misspelled_explain_is_explained(self) -> None:
-        self.bench.lay()
-        status, _, notes = self.bench.run("run", "schema.sql", "query.sql", "--explian")
+        self.setup.lay()
+        status, _, notes = self.setup.run("run", "schema.sql", "query.sql", "--explian")
         want(
             status == 2
             and notes.startswith(b"error usage\n")
@@ -481,18 +481,18 @@ class PassedThrough(Installed):
             notes,
         )
         want(
-            self.bench.run("run", "schema.sql", "query.sql", "--budjet", "5") == (2, b"", b"error usage\n"),
+            self.setup.run("run", "schema.sql", "query.sql", "--budjet", "5") == (2, b"", b"error usage\n"),
             "another option is explained too",
         )
 
     def test_a_signal_ends_the_command_too(self) -> None:
-        self.bench.lay()
+        self.setup.lay()
         child = subprocess.Popen(
-            [self.bench.command, "demo", "7", "--explain"],
-            cwd=self.bench.folder,
+            [self.setup.command, "demo", "7", "--explain"],
+            cwd=self.setup.folder,
             stdout=subprocess.DEVNULL,
             stderr=subprocess.PIPE,
-            env=self.bench.environment,
+            env=self.setup.environment,
         )
         assert child.stderr
         child.stderr.read(5)
@@ -528,8 +528,8 @@ def shown(page: str, first: str, last: str) -> str:
 
 class ATerminal(Installed):
     def test_a_terminal_is_explained_to(self) -> None:
-        self.bench.lay({"query.sql": b"SELECT R.NME FROM READER R"})
-        status, shown = self.bench.at_terminal("run", "schema.sql", "query.sql")
+        self.setup.lay({"query.sql": b"SELECT R.NME FROM READER R"})
+        status, shown = self.setup.at_terminal("run", "schema.sql", "query.sql")
         want(
             status == 5
             and shown.startswith(
@@ -537,26 +537,26 @@ class ATerminal(Installed):
             ),
             shown,
         )
-        status, shown = self.bench.at_terminal("run", "schema.sql", "query.sql", out_too=False)
-        want(status == 5 and "Did you mean NAME?" in squeezed(shown), shown)
+        status, shown = self.setup.at_terminal("run", "schema.sql", "query.sql", out_too=False)
+        want(status == 5 and "Did you mean NAME?" in on_one_line(shown), shown)
         want(
-            self.bench.run("run", "schema.sql", "query.sql") == (5, b"", b"error query name 7\n"),
+            self.setup.run("run", "schema.sql", "query.sql") == (5, b"", b"error query name 7\n"),
             "explained where standard error is no terminal",
         )
 
     def test_a_terminal_shows_the_plan_before_the_rows(self) -> None:
-        self.bench.lay(of=os.path.join(ROOT, "examples", "films"))
+        self.setup.lay(of=os.path.join(ROOT, "examples", "films"))
         wanted = ""
         for name in ("notes", "out"):
             with open(os.path.join(ROOT, "examples", "films", "expected", "run", name), encoding="utf-8") as f:
                 wanted += f.read()
         for _ in range(3):
-            status, shown = self.bench.at_terminal("run", "schema.sql", "query.sql")
+            status, shown = self.setup.at_terminal("run", "schema.sql", "query.sql")
             want(status == 0 and shown == wanted, shown)
 
     def test_help_alone(self) -> None:
-        self.bench.lay()
-        status, shown = self.bench.at_terminal()
+        self.setup.lay()
+        status, shown = self.setup.at_terminal()
         want(
             status == 2
             and "error usage" not in shown
@@ -565,7 +565,7 @@ class ATerminal(Installed):
             shown,
         )
         want(
-            self.bench.run() == (2, b"", b"error usage\n"),
+            self.setup.run() == (2, b"", b"error usage\n"),
             "where standard error is no terminal it is the program's line",
         )
 
@@ -587,10 +587,10 @@ class ATerminal(Installed):
             ["convert", "none.csv"],
         ]
         for words in lines:
-            self.bench.lay(files)
+            self.setup.lay(files)
             # Command lines are never wrapped, and neither are the paths of pages.
             for wide in (64, 80, 200) if "errors" in words else (40, 64, 80, 200):
-                shown = self.bench.at_terminal(*words, wide=wide)[1]
+                shown = self.setup.at_terminal(*words, wide=wide)[1]
                 long = [
                     line
                     for line in shown.splitlines()
@@ -600,39 +600,39 @@ class ATerminal(Installed):
                     not long and len(shown.splitlines()) > (0 if words[:1] == ["convert"] else 2),
                     f"{words} at {wide} columns:\n" + "\n".join(long),
                 )
-        self.bench.lay(of=os.path.join(ROOT, "examples", "budget"))
-        shown = self.bench.at_terminal("run", "schema.sql", "query.sql", "--budget", "2500", wide=50)[1]
+        self.setup.lay(of=os.path.join(ROOT, "examples", "budget"))
+        shown = self.setup.at_terminal("run", "schema.sql", "query.sql", "--budget", "2500", wide=50)[1]
         want(max(map(len, shown.splitlines())) <= 50 and "it fits" in shown, shown)
 
     def test_colours(self) -> None:
-        self.bench.lay({"query.sql": b"SELECT R.NME FROM READER R"})
+        self.setup.lay({"query.sql": b"SELECT R.NME FROM READER R"})
         words = ("run", "schema.sql", "query.sql")
-        coloured = self.bench.at_terminal(*words, TERM="xterm")[1]
+        coloured = self.setup.at_terminal(*words, TERM="xterm")[1]
         want(
             coloured.startswith("error query name 7\n\033[1mquery.sql, line 1, column 8\033[0m\n")
             and "           \033[1;31m^^^^^\033[0m\n" in coloured,
             repr(coloured),
         )
         plain = [
-            self.bench.at_terminal(*words, TERM="xterm", NO_COLOR="1")[1],
-            self.bench.at_terminal(*words, TERM="dumb")[1],
-            self.bench.run(*words, "--explain")[2].decode(),
+            self.setup.at_terminal(*words, TERM="xterm", NO_COLOR="1")[1],
+            self.setup.at_terminal(*words, TERM="dumb")[1],
+            self.setup.run(*words, "--explain")[2].decode(),
         ]
         want(all("\033" not in shown and shown == plain[0] for shown in plain), plain)
         want(
-            "\033[1m" in self.bench.at_terminal(*words, TERM="xterm", NO_COLOR="")[1], "an empty NO_COLOR says nothing"
+            "\033[1m" in self.setup.at_terminal(*words, TERM="xterm", NO_COLOR="")[1], "an empty NO_COLOR says nothing"
         )
 
     def test_other_options_are_tried_in_sight(self) -> None:
-        self.bench.lay(of=os.path.join(ROOT, "examples", "budget"))
-        shown = self.bench.at_terminal("run", "schema.sql", "query.sql", "--budget", "2500", TERM="xterm")[1]
+        self.setup.lay(of=os.path.join(ROOT, "examples", "budget"))
+        shown = self.setup.at_terminal("run", "schema.sql", "query.sql", "--budget", "2500", TERM="xterm")[1]
         first, _, rest = shown.partition("\r\033[Ktrying other options ..\r\033[K")
         want(first == "error budget 3120\n" and rest.startswith("The best order"), repr(shown))
 
     def test_progress_of_a_read(self) -> None:
         """A table is read slowly, through a named pipe."""
-        self.bench.lay({"genre.csv": None, "query.sql": b"SELECT NAME FROM GENRE"})
-        pipe = os.path.join(self.bench.folder, "genre.csv")
+        self.setup.lay({"genre.csv": None, "query.sql": b"SELECT NAME FROM GENRE"})
+        pipe = os.path.join(self.setup.folder, "genre.csv")
         os.mkfifo(pipe)
         writer: int | None = os.open(pipe, os.O_RDWR)
 
@@ -645,7 +645,7 @@ class ATerminal(Installed):
                 os.close(reader)
                 writer = None
 
-        status, shown = self.bench.at_terminal("run", "schema.sql", "query.sql", seen=seen, TERM="xterm")
+        status, shown = self.setup.at_terminal("run", "schema.sql", "query.sql", seen=seen, TERM="xterm")
         want(status == 0 and shown.endswith("\r\033[Kscan GENRE 1\nlevel 1 GENRE 1\nNAME\nNovel\n"), repr(shown))
 
     def test_progress_of_rows(self) -> None:
@@ -653,7 +653,7 @@ class ATerminal(Installed):
         written.
         """
         many = b"X\r\n" + 400 * b"1\r\n"
-        self.bench.lay(
+        self.setup.lay(
             {
                 "schema.sql": b"CREATE TABLE R (X INTEGER NOT NULL); CREATE TABLE S (X INTEGER NOT NULL)",
                 "query.sql": b"SELECT R.X, S.X FROM R, S WHERE R.X = S.X",
@@ -673,7 +673,7 @@ class ATerminal(Installed):
                 writer = None
                 rows.start()
 
-        status, shown = self.bench.at_terminal(
+        status, shown = self.setup.at_terminal(
             "run", "schema.sql", "query.sql", out_too=False, out=written, seen=seen, TERM="xterm"
         )
         want(writer is None, f"no rows are told of: {shown!r}")
@@ -686,11 +686,11 @@ class ATerminal(Installed):
     def test_pages_show_what_is_printed(self) -> None:
         trips = os.path.join(ROOT, "examples", "trips")
         with open(os.path.join(trips, "query.sql"), "rb") as f:
-            self.bench.lay({"query.sql": f.read().replace(b"PRICE FROM", b"PRICE, TRIP.DAY FROM")}, of=trips)
-        notes = self.bench.run("run", "schema.sql", "query.sql", "--explain")[2].decode()
+            self.setup.lay({"query.sql": f.read().replace(b"PRICE FROM", b"PRICE, TRIP.DAY FROM")}, of=trips)
+        notes = self.setup.run("run", "schema.sql", "query.sql", "--explain")[2].decode()
         want(notes == shown("docs/USING.md", "$ safebound run schema.sql query.sql", "CITY, GUIDE and PRICE."), notes)
-        self.bench.lay(of=os.path.join(ROOT, "examples", "budget"))
-        notes = self.bench.run("run", "schema.sql", "query.sql", "--budget", "2500", "--explain")[2].decode()
+        self.setup.lay(of=os.path.join(ROOT, "examples", "budget"))
+        notes = self.setup.run("run", "schema.sql", "query.sql", "--budget", "2500", "--explain")[2].decode()
         want(
             notes == shown("docs/USING.md", "$ safebound run schema.sql query.sql --budget 2500", "= or a range."),
             notes,
@@ -700,11 +700,11 @@ class ATerminal(Installed):
 # ---- its own commands
 
 
-def completed(bench: Bench, words: list[str]) -> list[str]:
-    script = os.path.join(bench.usr, "share", "bash-completion", "completions", "safebound")
+def completed(setup: TestSetup, words: list[str]) -> list[str]:
+    script = os.path.join(setup.usr, "share", "bash-completion", "completions", "safebound")
     code = 'source "$1"; shift; COMP_WORDS=("$@"); COMP_CWORD=$(($# - 1)); _safebound; printf "%s\\n" "${COMPREPLY[@]}"'
     return subprocess.run(
-        ["bash", "-c", code, "bash", script, "safebound", *words], cwd=bench.folder, capture_output=True, text=True
+        ["bash", "-c", code, "bash", script, "safebound", *words], cwd=setup.folder, capture_output=True, text=True
     ).stdout.split()
 
 
@@ -821,18 +821,18 @@ OTHER_FILES = {
 }
 
 
-def copy_with_a_release(bench: Bench, name: str) -> str:
+def copy_with_a_release(setup: TestSetup, name: str) -> str:
     """A copy of all files that `make run` and the command need. Nothing is built in it, and this program is its
     release.
     """
-    alone = os.path.join(bench.room, name)
+    alone = os.path.join(setup.temp_folder, name)
     for part in ("bin", "python", "tools", os.path.join("examples", "trips")):
         shutil.copytree(
             os.path.join(ROOT, part), os.path.join(alone, part), ignore=shutil.ignore_patterns("__pycache__")
         )
     os.makedirs(os.path.join(alone, "dist"))
     shutil.copy2(os.path.join(ROOT, "Makefile"), alone)
-    shutil.copy2(bench.program, os.path.join(alone, "dist", "safebound_cli"))
+    shutil.copy2(setup.program, os.path.join(alone, "dist", "safebound_cli"))
     with open(os.path.join(alone, "dist", "RELEASE"), "w") as f:
         f.write("version 1.2.3\ncommit 0123456789abcdef0123456789abcdef01234567\n")
     return alone
@@ -840,35 +840,35 @@ def copy_with_a_release(bench: Bench, name: str) -> str:
 
 class OwnCommands(Installed):
     def test_help(self) -> None:
-        self.bench.lay()
-        status, text, _ = self.bench.run("help")
+        self.setup.lay()
+        status, text, _ = self.setup.run("help")
         for words in (["--help"], ["-h"]):
-            want(self.bench.run(*words) == (0, text, b""), f"{words} is another help")
+            want(self.setup.run(*words) == (0, text, b""), f"{words} is another help")
         for word in (b"run SCHEMA QUERY", b"check SCHEMA [QUERY]", b"help errors", b"64 MiB", b"20,000,000"):
             want(word in text, word)
         for command in ("run", "plan", "audit", "demo", "check", "picture", "new", "completion"):
-            status, text, _ = self.bench.run("help", command)
-            want(status == 0 and b"Examples:" in text and text == self.bench.run(command, "--help")[1], command)
-        status, text, _ = self.bench.run("help", "errors")
+            status, text, _ = self.setup.run("help", command)
+            want(status == 0 and b"Examples:" in text and text == self.setup.run(command, "--help")[1], command)
+        status, text, _ = self.setup.run("help", "errors")
         with open(os.path.join(ROOT, "docs", "ERRORS.md")) as f:
             for line in re.findall(r"^\| `(error [^`]*)`", f.read(), re.M):
                 want(line in text.decode(), line)
-        status, _, notes = self.bench.run("help", "rum")
+        status, _, notes = self.setup.run("help", "rum")
         want(status == 2 and b"Did you mean run?" in notes, notes)
 
     def test_version(self) -> None:
-        self.bench.lay()
+        self.setup.lay()
         for words in (["--version"], ["version"]):
-            status, text, _ = self.bench.run(*words)
+            status, text, _ = self.setup.run(*words)
             want(
                 status == 0
                 and re.match(rb"safebound [0-9.]+\nprogram: ", text)
-                and self.bench.program.encode() in text,
+                and self.setup.program.encode() in text,
                 text,
             )
 
     def test_man_page(self) -> None:
-        path = os.path.join(self.bench.usr, "share", "man", "man1", "safebound.1")
+        path = os.path.join(self.setup.usr, "share", "man", "man1", "safebound.1")
         with open(path) as f:
             text = f.read()
         for words in (".TH SAFEBOUND 1", ".SH SYNOPSIS", "\\-\\-budget N", "12 entries"):
@@ -886,129 +886,129 @@ class OwnCommands(Installed):
             )
 
     def test_completion(self) -> None:
-        self.bench.lay()
-        want(completed(self.bench, ["pl"]) == ["plan"], completed(self.bench, ["pl"]))
-        want(completed(self.bench, ["run", "schema.sql", "--a"]) == ["--accuracy"], "an option of run")
-        want(completed(self.bench, ["demo", "--"]) == ["--explain", "--help"], completed(self.bench, ["demo", "--"]))
-        want(completed(self.bench, ["run", "sch"]) == ["schema.sql"], "a file")
-        want("errors" in completed(self.bench, ["help", ""]), "a topic of help")
-        want(completed(self.bench, ["run", "--budget", ""]) == [], "a value")
-        zsh = os.path.join(self.bench.usr, "share", "zsh", "site-functions", "_safebound")
+        self.setup.lay()
+        want(completed(self.setup, ["pl"]) == ["plan"], completed(self.setup, ["pl"]))
+        want(completed(self.setup, ["run", "schema.sql", "--a"]) == ["--accuracy"], "an option of run")
+        want(completed(self.setup, ["demo", "--"]) == ["--explain", "--help"], completed(self.setup, ["demo", "--"]))
+        want(completed(self.setup, ["run", "sch"]) == ["schema.sql"], "a file")
+        want("errors" in completed(self.setup, ["help", ""]), "a topic of help")
+        want(completed(self.setup, ["run", "--budget", ""]) == [], "a value")
+        zsh = os.path.join(self.setup.usr, "share", "zsh", "site-functions", "_safebound")
         with open(zsh) as f:
             want(f.readline() == "#compdef safebound\n", "zsh finds its completion by its first line")
         if shutil.which("zsh"):
             want(subprocess.run(["zsh", "-n", zsh]).returncode == 0, "zsh can't read its completion")
-        want(self.bench.run("completion", "fish")[0] == 2, "a shell without completion")
+        want(self.setup.run("completion", "fish")[0] == 2, "a shell without completion")
 
     def test_data(self) -> None:
-        self.bench.lay()
-        inside = self.bench.run("run", "schema.sql", "query.sql")
-        for words in (("--data", self.bench.folder), (f"--data={self.bench.folder}",)):
-            want(self.bench.run("run", "schema.sql", "query.sql", *words, cwd="/") == inside and inside[0] == 0, words)
-        status, _, notes = self.bench.run("run", "schema.sql", "query.sql", "--data", "nowhere")
+        self.setup.lay()
+        inside = self.setup.run("run", "schema.sql", "query.sql")
+        for words in (("--data", self.setup.folder), (f"--data={self.setup.folder}",)):
+            want(self.setup.run("run", "schema.sql", "query.sql", *words, cwd="/") == inside and inside[0] == 0, words)
+        status, _, notes = self.setup.run("run", "schema.sql", "query.sql", "--data", "nowhere")
         want(status == 2 and b"nowhere" in notes, notes)
-        want(self.bench.run("run", "schema.sql", "query.sql", "--data")[0] == 2, "--data without its value")
-        notes = self.bench.run(
-            "run", "folder/schema.sql", "query.sql", "--data", "folder", "--explain", cwd=self.bench.room
+        want(self.setup.run("run", "schema.sql", "query.sql", "--data")[0] == 2, "--data without its value")
+        notes = self.setup.run(
+            "run", "folder/schema.sql", "query.sql", "--data", "folder", "--explain", cwd=self.setup.temp_folder
         )[2]
         want(b"With --data every file is looked up in that folder" in notes, notes)
 
     def test_new(self) -> None:
-        self.bench.lay()
-        status, text, _ = self.bench.run("new", "mine")
+        self.setup.lay()
+        status, text, _ = self.setup.run("new", "mine")
         want(status == 0 and b"safebound run schema.sql query.sql" in text, text)
         line = text.decode().split("\n    ")[1]
         done = subprocess.run(
-            ["bash", "-c", line], cwd=self.bench.folder, capture_output=True, env=self.bench.environment
+            ["bash", "-c", line], cwd=self.setup.folder, capture_output=True, env=self.setup.environment
         )
         want(done.returncode == 0, f"{line}: {done}")
         with open(os.path.join(ROOT, "examples", "trips", "expected", "run", "out"), "rb") as f:
             want(
-                self.bench.run("run", "schema.sql", "query.sql", "--data", "mine")[:2] == (0, f.read()),
+                self.setup.run("run", "schema.sql", "query.sql", "--data", "mine")[:2] == (0, f.read()),
                 "the example doesn't run",
             )
-        status, _, notes = self.bench.run("new", "mine")
+        status, _, notes = self.setup.run("new", "mine")
         want(status == 2 and b"isn't empty" in notes, notes)
-        want(self.bench.run("new")[0] == 2, "new without a folder")
+        want(self.setup.run("new")[0] == 2, "new without a folder")
 
     def test_check(self) -> None:
         tables = {name: None for name in os.listdir(LIBRARY) if name.endswith(".csv")}
-        self.bench.lay(tables)
-        status, text, notes = self.bench.run("check", "schema.sql", "query.sql")
+        self.setup.lay(tables)
+        status, text, notes = self.setup.run("check", "schema.sql", "query.sql")
         want(
             (status, notes) == (0, b"")
             and b"query.sql: right. Entries: R (table READER), L (table LOAN) and B (table BOOK)" in text,
             text + notes,
         )
-        status, text, notes = self.bench.run("check", "schema.sql")
+        status, text, notes = self.setup.run("check", "schema.sql")
         want((status, notes) == (0, b"") and b"schema.sql: right. Tables: AUTHOR (3 columns)" in text, text + notes)
-        self.bench.lay({"query.sql": b"SELECT NAM FROM GENRE"})
-        status, _, notes = self.bench.run("check", "schema.sql", "query.sql")
+        self.setup.lay({"query.sql": b"SELECT NAM FROM GENRE"})
+        status, _, notes = self.setup.run("check", "schema.sql", "query.sql")
         want(
             status == 5
             and notes.startswith(b"error query name 7\nquery.sql, line 1, column 8\n")
             and b"GENRE.NAME" in notes,
             notes,
         )
-        self.bench.lay({"schema.sql": b"CREATE TABLE X (Y TEXT)"})
-        status, _, notes = self.bench.run("check", "schema.sql")
+        self.setup.lay({"schema.sql": b"CREATE TABLE X (Y TEXT)"})
+        status, _, notes = self.setup.run("check", "schema.sql")
         want(status == 4 and notes.startswith(b"error schema syntax 18\n"), notes)
-        status, _, notes = self.bench.run("check", "schema.sql", "none.sql")
+        status, _, notes = self.setup.run("check", "schema.sql", "none.sql")
         want(status == 4, notes)
-        status, _, notes = self.bench.run("check", "none.sql")
+        status, _, notes = self.setup.run("check", "none.sql")
         want(
             status == 3 and notes.startswith(b"error read none.sql\n") and b"There is no file none.sql" in notes, notes
         )
-        self.bench.lay({"query.sql": b"SELECT A.NAME FROM AUTHOR A, GENRE G"})
+        self.setup.lay({"query.sql": b"SELECT A.NAME FROM AUTHOR A, GENRE G"})
         want(
-            b"aren't connected: A; G" in self.bench.run("check", "schema.sql", "query.sql")[1], "a forgotten condition"
+            b"aren't connected: A; G" in self.setup.run("check", "schema.sql", "query.sql")[1], "a forgotten condition"
         )
 
     def test_schema(self) -> None:
-        self.bench.lay()
-        status, text, notes = self.bench.run("schema", *TABLES)
+        self.setup.lay()
+        status, text, notes = self.setup.run("schema", *TABLES)
         want((status, notes) == (0, b"") and text.decode().endswith(".\n" + PROPOSED), text.decode() + notes.decode())
-        want(self.bench.run("schema", ".")[1] == text, "a folder stands for its files")
+        want(self.setup.run("schema", ".")[1] == text, "a folder stands for its files")
         for file, data, says, has in IN_THE_WAY:
-            self.bench.lay({file: data} if data is not None else {})
-            status, text, notes = self.bench.run("schema", file)
+            self.setup.lay({file: data} if data is not None else {})
+            status, text, notes = self.setup.run("schema", file)
             want(
                 status == (6 if has is None else 0) and bool(text) == (has is not None),
                 f"{file} {data!r}: {status} {text!r}",
             )
             for words in (f"{file}: ", *says):
                 want(
-                    squeezed(words) in squeezed(notes.decode()) or not says,
+                    on_one_line(words) in on_one_line(notes.decode()) or not says,
                     f"{words!r} is not said in:\n{notes.decode()}",
                 )
             want(has is None or has in text.decode(), f"{has!r} is not in:\n{text.decode()}")
             if has and text:
-                with open(os.path.join(self.bench.folder, "schema.sql"), "wb") as f:
+                with open(os.path.join(self.setup.folder, "schema.sql"), "wb") as f:
                     f.write(text)
-                want(self.bench.run("check", "schema.sql")[0] == 0, f"no schema: {text.decode()}")
+                want(self.setup.run("check", "schema.sql")[0] == 0, f"no schema: {text.decode()}")
 
     def test_schema_writes_nothing_over(self) -> None:
-        self.bench.lay({"mine.sql": b"mine"})
-        status, _, notes = self.bench.run("schema", "book.csv", "--output", "mine.sql")
+        self.setup.lay({"mine.sql": b"mine"})
+        status, _, notes = self.setup.run("schema", "book.csv", "--output", "mine.sql")
         want(status == 2 and b"nothing is written over" in notes, notes)
-        with open(os.path.join(self.bench.folder, "mine.sql"), "rb") as f:
+        with open(os.path.join(self.setup.folder, "mine.sql"), "rb") as f:
             want(f.read() == b"mine", "it was written over")
         want(
-            self.bench.run("schema", *TABLES, "--output", "new.sql")[0] == 0
-            and self.bench.run("run", "new.sql", "query.sql")[1] == self.bench.run("run", "schema.sql", "query.sql")[1],
+            self.setup.run("schema", *TABLES, "--output", "new.sql")[0] == 0
+            and self.setup.run("run", "new.sql", "query.sql")[1] == self.setup.run("run", "schema.sql", "query.sql")[1],
             "another schema gives other rows",
         )
         want(
-            self.bench.run("schema")[0] == 2 and self.bench.run("schema", "--foo")[0] == 2,
+            self.setup.run("schema")[0] == 2 and self.setup.run("schema", "--foo")[0] == 2,
             "no file, and a strange option",
         )
 
     def test_a_run_without_a_schema(self) -> None:
-        self.bench.lay()
-        rows = self.bench.run("run", "schema.sql", "query.sql")
-        plan = self.bench.run("plan", "schema.sql", "query.sql")[2]
-        os.remove(os.path.join(self.bench.folder, "schema.sql"))
-        status, out, notes = self.bench.run("run", "query.sql", "--data", self.bench.folder, cwd="/")
+        self.setup.lay()
+        rows = self.setup.run("run", "schema.sql", "query.sql")
+        plan = self.setup.run("plan", "schema.sql", "query.sql")[2]
+        os.remove(os.path.join(self.setup.folder, "schema.sql"))
+        status, out, notes = self.setup.run("run", "query.sql", "--data", self.setup.folder, cwd="/")
         want(
             (status, out) == rows[:2]
             and notes.endswith(plan)
@@ -1016,30 +1016,30 @@ class OwnCommands(Installed):
             and b"AUTHOR (" not in notes,
             notes,
         )
-        want(self.bench.run("audit", "--data", ".", "query.sql", "--accuracy", "2")[0] == 0, "options beside it")
-        want(json.loads(self.bench.run("plan", "query.sql", "--data", ".", "--json")[1])["widest"] > 0, "as JSON")
-        want(self.bench.run("picture", "query.sql", "--data", ".", "--output", "-")[1].startswith(b"<svg"), "a picture")
-        want(self.bench.run("run", "query.sql") == (2, b"", b"error usage\n"), "without --data it is the program's")
-        self.bench.lay({"query.sql": b"SELECT R.NAME FROM READER R, LOANS L"})
-        status, _, notes = self.bench.run("run", "query.sql", "--data", ".", "--explain")
+        want(self.setup.run("audit", "--data", ".", "query.sql", "--accuracy", "2")[0] == 0, "options beside it")
+        want(json.loads(self.setup.run("plan", "query.sql", "--data", ".", "--json")[1])["widest"] > 0, "as JSON")
+        want(self.setup.run("picture", "query.sql", "--data", ".", "--output", "-")[1].startswith(b"<svg"), "a picture")
+        want(self.setup.run("run", "query.sql") == (2, b"", b"error usage\n"), "without --data it is the program's")
+        self.setup.lay({"query.sql": b"SELECT R.NAME FROM READER R, LOANS L"})
+        status, _, notes = self.setup.run("run", "query.sql", "--data", ".", "--explain")
         want(status == 5 and b"Did you mean LOAN?" in notes, notes)
-        want(self.bench.run("run", "query.sql", "--data", "..")[0] == 2, "a folder without tables")
-        want(os.listdir(self.bench.temporary) == [], "something was left over")
+        want(self.setup.run("run", "query.sql", "--data", "..")[0] == 2, "a folder without tables")
+        want(os.listdir(self.setup.temporary) == [], "something was left over")
 
     def test_convert(self) -> None:
         for name, data in OTHER_FILES.items():
-            self.bench.lay({"reader.csv": data, "query.sql": b"SELECT NAME, TOWN FROM READER"})
-            status, out, notes = self.bench.run("convert", "reader.csv")
+            self.setup.lay({"reader.csv": data, "query.sql": b"SELECT NAME, TOWN FROM READER"})
+            status, out, notes = self.setup.run("convert", "reader.csv")
             want((status, notes) == (0, b"") and b"reader.csv.original" in out, f"{name}: {out + notes!r}")
-            with open(os.path.join(self.bench.folder, "reader.csv.original"), "rb") as f:
+            with open(os.path.join(self.setup.folder, "reader.csv.original"), "rb") as f:
                 want(f.read() == data, f"{name}: the file as it was is lost")
-            rows = self.bench.run("run", "schema.sql", "query.sql")
+            rows = self.setup.run("run", "schema.sql", "query.sql")
             want(rows[:2] == (0, 'NAME,TOWN\r\nÅse,Ha;mar\r\nBo,"Moss, by"\r\n'.encode()), f"{name}: {rows}")
-            want(b"nothing was written" in self.bench.run("convert", "reader.csv")[1], f"{name}: converted twice")
+            want(b"nothing was written" in self.setup.run("convert", "reader.csv")[1], f"{name}: converted twice")
 
     def test_convert_writes_nothing_over(self) -> None:
         latin = "A;B\n1;å\n".encode("latin-1")
-        self.bench.lay(
+        self.setup.lay(
             {
                 "new.csv": latin,
                 "new.csv.original": b"mine",
@@ -1053,52 +1053,53 @@ class OwnCommands(Installed):
             ["new.csv", "--encoding", "utf-8"], ["new.csv", "--encoding", "no-such"], [],
         ]
         for words in lines:
-            status, _, notes = self.bench.run("convert", *words)
+            status, _, notes = self.setup.run("convert", *words)
             want(status == 2 and notes.startswith(b"safebound: "), f"{words}: {notes!r}")
         for file, wanted in (("new.csv", latin), ("new.csv.original", b"mine"), ("export.csv", b"mine")):
-            with open(os.path.join(self.bench.folder, file), "rb") as f:
+            with open(os.path.join(self.setup.folder, file), "rb") as f:
                 want(f.read() == wanted, f"{file} was written over")
         want(
-            self.bench.run("convert", "new.csv", "--output", "-") == (0, "A,B\r\n1,å\r\n".encode(), b""),
+            self.setup.run("convert", "new.csv", "--output", "-") == (0, "A,B\r\n1,å\r\n".encode(), b""),
             "to standard output",
         )
         want(
-            self.bench.run("convert", "new.csv", "--output", "made.csv", "--encoding", "cp850")[0] == 0
-            and os.path.exists(os.path.join(self.bench.folder, "made.csv")),
+            self.setup.run("convert", "new.csv", "--output", "made.csv", "--encoding", "cp850")[0] == 0
+            and os.path.exists(os.path.join(self.setup.folder, "made.csv")),
             "another name and encoding",
         )
 
     def test_picture(self) -> None:
-        self.bench.lay(of=os.path.join(ROOT, "examples", "films"))
+        self.setup.lay(of=os.path.join(ROOT, "examples", "films"))
         with open(os.path.join(ROOT, "docs", "films-plan.svg"), "rb") as f:
             wanted = f.read()
-        status, svg, _ = self.bench.run("picture", "schema.sql", "query.sql", "--output", "-")
+        status, svg, _ = self.setup.run("picture", "schema.sql", "query.sql", "--output", "-")
         want((status, svg) == (0, wanted), "not the picture of docs/")
-        status, out, _ = self.bench.run("picture", "schema.sql", "query.sql")
-        with open(os.path.join(self.bench.folder, "plan.svg"), "rb") as f:
+        status, out, _ = self.setup.run("picture", "schema.sql", "query.sql")
+        with open(os.path.join(self.setup.folder, "plan.svg"), "rb") as f:
             want((status, out, f.read()) == (0, b"", wanted), "plan.svg is another picture")
-        status, _, notes = self.bench.run(
-            "picture", "schema.sql", "query.sql", "--data", "folder", "--output", "films.svg", cwd=self.bench.room
+        status, _, notes = self.setup.run(
+            "picture", "schema.sql", "query.sql", "--data", "folder", "--output", "films.svg",
+            cwd=self.setup.temp_folder,
         )
         want(
             status == 0
             and notes.startswith(b"folder/films.svg: the picture")
-            and os.path.exists(os.path.join(self.bench.folder, "films.svg")),
+            and os.path.exists(os.path.join(self.setup.folder, "films.svg")),
             notes,
         )
-        os.remove(os.path.join(self.bench.folder, "plan.svg"))
-        status, out, notes = self.bench.run("picture", "schema.sql", "query.sql", "--budget", "1000")
+        os.remove(os.path.join(self.setup.folder, "plan.svg"))
+        status, out, notes = self.setup.run("picture", "schema.sql", "query.sql", "--budget", "1000")
         want(status == 8 and notes.startswith(b"error budget 1304\n") and b"With --reduce it fits" in notes, notes)
-        with open(os.path.join(self.bench.folder, "plan.svg")) as f:
+        with open(os.path.join(self.setup.folder, "plan.svg")) as f:
             drawn = f.read()
         is_refused = "is refused" in drawn and "budget 1,000" in drawn and drawn.count('fill="#e08a7d"') == 3
         want(is_refused and "its true rows" not in drawn, "not the picture of a refused plan: " + drawn)
 
     def test_a_picture_has_no_marks_of_a_query(self) -> None:
-        self.bench.lay({"query.sql": b"SELECT R.NAME FROM READER R WHERE R.NAME <> '<b>&\x1b' AND R.TOWN <> '\"'"})
+        self.setup.lay({"query.sql": b"SELECT R.NAME FROM READER R WHERE R.NAME <> '<b>&\x1b' AND R.TOWN <> '\"'"})
         for output in ("plan.svg", "plan.html"):
-            status, _, notes = self.bench.run("picture", "schema.sql", "query.sql", "--output", output)
-            with open(os.path.join(self.bench.folder, output)) as f:
+            status, _, notes = self.setup.run("picture", "schema.sql", "query.sql", "--output", output)
+            with open(os.path.join(self.setup.folder, output)) as f:
                 text = f.read()
             want(
                 status == 0 and "R.NAME &lt;&gt; '&lt;b&gt;&amp;\\x1b'" in text and "\x1b" not in text,
@@ -1106,7 +1107,7 @@ class OwnCommands(Installed):
             )
 
     def test_picture_as_a_page(self) -> None:
-        self.bench.lay(of=os.path.join(ROOT, "examples", "trips"))
+        self.setup.lay(of=os.path.join(ROOT, "examples", "trips"))
         cases: list[tuple[list[str], str]] = [
             ([], "TRIP.CITY</b> of rows with PRICE up to 100"),
             (["--keys"], "further lists"),
@@ -1115,8 +1116,8 @@ class OwnCommands(Installed):
             (["--bushy", "--accuracy", "4"], "node 3, of"),
         ]
         for flags, said in cases:
-            status, _, notes = self.bench.run("picture", "schema.sql", "query.sql", *flags, "--output", "plan.html")
-            with open(os.path.join(self.bench.folder, "plan.html")) as f:
+            status, _, notes = self.setup.run("picture", "schema.sql", "query.sql", *flags, "--output", "plan.html")
+            with open(os.path.join(self.setup.folder, "plan.html")) as f:
                 text = f.read()
             want(
                 status == 0 and said in text and "TRIP.CITY = CITY.NAME" in text and "<script" not in text,
@@ -1124,8 +1125,8 @@ class OwnCommands(Installed):
             )
 
     def test_json(self) -> None:
-        self.bench.lay(of=os.path.join(ROOT, "examples", "trips"))
-        status, text, notes = self.bench.run("plan", "schema.sql", "query.sql", "--json")
+        self.setup.lay(of=os.path.join(ROOT, "examples", "trips"))
+        status, text, notes = self.setup.run("plan", "schema.sql", "query.sql", "--json")
         plan = json.loads(text)
         want((status, notes) == (0, b""), notes)
         want(
@@ -1145,51 +1146,51 @@ class OwnCommands(Installed):
         )
         rows = [
             level["rows"]
-            for level in json.loads(self.bench.run("audit", "schema.sql", "query.sql", "--json")[1])["levels"]
+            for level in json.loads(self.setup.run("audit", "schema.sql", "query.sql", "--json")[1])["levels"]
         ]
         with open(os.path.join(ROOT, "examples", "trips", "expected", "audit", "out")) as f:
             want(rows == [int(line.split()[-1]) for line in f], rows)
         want(
-            self.bench.run("plan", "schema.sql", "query.sql", "--json", "--budget", "2")
+            self.setup.run("plan", "schema.sql", "query.sql", "--json", "--budget", "2")
             == (8, b"", b"error budget 6\n"),
             "a fault with --json",
         )
-        want(self.bench.run("run", "schema.sql", "query.sql", "--json")[0] == 2, "run has no --json")
+        want(self.setup.run("run", "schema.sql", "query.sql", "--json")[0] == 2, "run has no --json")
 
     def test_without_a_program(self) -> None:
-        self.bench.lay()
-        alone = os.path.join(self.bench.room, "alone")
+        self.setup.lay()
+        alone = os.path.join(self.setup.temp_folder, "alone")
         for part in ("bin", "python"):
             shutil.copytree(
                 os.path.join(ROOT, part), os.path.join(alone, part), ignore=shutil.ignore_patterns("__pycache__")
             )
-        status, _, notes = self.bench.run(
+        status, _, notes = self.setup.run(
             "run", "schema.sql", "query.sql", command=os.path.join(alone, "bin", "safebound")
         )
         want(status == 1 and b"make build" in notes and b"make run DATA=" in notes, notes)
-        want(self.bench.run("help", command=os.path.join(alone, "bin", "safebound"))[0] == 0, "help needs no program")
+        want(self.setup.run("help", command=os.path.join(alone, "bin", "safebound"))[0] == 0, "help needs no program")
 
     def test_the_release_runs_where_nothing_is_built(self) -> None:
-        self.bench.lay()
-        command = os.path.join(copy_with_a_release(self.bench, "released"), "bin", "safebound")
+        self.setup.lay()
+        command = os.path.join(copy_with_a_release(self.setup, "released"), "bin", "safebound")
         said = (
             "The program of release 1.2.3 (dist/, built from commit 0123456789ab) runs. `make build` proves and builds"
             " one here.\n"
         )
-        status, seen = self.bench.at_terminal("plan", "schema.sql", "query.sql", command=command)
+        status, seen = self.setup.at_terminal("plan", "schema.sql", "query.sql", command=command)
         want(status == 0 and seen.startswith(said + "scan "), seen)
-        plain = self.bench.run("plan", "schema.sql", "query.sql", command=self.bench.program)
+        plain = self.setup.run("plan", "schema.sql", "query.sql", command=self.setup.program)
         want(
-            self.bench.run("plan", "schema.sql", "query.sql", command=command) == plain,
+            self.setup.run("plan", "schema.sql", "query.sql", command=command) == plain,
             "what is no terminal gets other bytes than the program's",
         )
         want(
-            b"release 1.2.3" in self.bench.run("--version", command=command)[1], "the version doesn't name the release"
+            b"release 1.2.3" in self.setup.run("--version", command=command)[1], "the version doesn't name the release"
         )
 
     def test_make_run_takes_the_release_where_nothing_is_built(self) -> None:
-        alone = copy_with_a_release(self.bench, "running")
-        folders = os.path.join(self.bench.room, "commands")
+        alone = copy_with_a_release(self.setup, "running")
+        folders = os.path.join(self.setup.temp_folder, "commands")
         os.makedirs(folders)
         for name in ("make", "python3", "sh", "env"):
             found = sys.executable if name == "python3" else shutil.which(name)
@@ -1199,7 +1200,7 @@ class OwnCommands(Installed):
             "cwd": alone,
             "capture_output": True,
             "text": True,
-            "env": {**self.bench.environment, "PATH": folders},
+            "env": {**self.setup.environment, "PATH": folders},
         }
         done = subprocess.run(["make", "-s", "run"], **run)
         want(
@@ -1221,14 +1222,14 @@ class OwnCommands(Installed):
 
     def test_what_is_installed(self) -> None:
         for path in ("bin/safebound", "bin/safebound_cli"):
-            want(os.stat(os.path.join(self.bench.usr, path)).st_mode & stat.S_IXOTH, f"{path} may not be run by others")
-        named = re.findall(r"[^\s(]*/(?:docs|share)/\S+\.md", self.bench.run("help", "errors", cwd="/")[1].decode())
+            want(os.stat(os.path.join(self.setup.usr, path)).st_mode & stat.S_IXOTH, f"{path} may not be run by others")
+        named = re.findall(r"[^\s(]*/(?:docs|share)/\S+\.md", self.setup.run("help", "errors", cwd="/")[1].decode())
         want(
-            len(named) > 3 and all(path.startswith(self.bench.usr) and os.path.isfile(path) for path in named),
+            len(named) > 3 and all(path.startswith(self.setup.usr) and os.path.isfile(path) for path in named),
             f"help names pages that aren't installed: {named}",
         )
         for page in ("ERRORS.md", "USING.md"):
-            want(os.path.isfile(os.path.join(self.bench.usr, "share", "safebound", page)), f"{page} is not installed")
+            want(os.path.isfile(os.path.join(self.setup.usr, "share", "safebound", page)), f"{page} is not installed")
 
 
 if __name__ == "__main__":

@@ -46,11 +46,11 @@ def questions(folder: str = os.path.join(places.QUERIES, "profile")) -> list[Que
 def is_cyclic(query: reading.Query) -> bool:
     """Whether some equality joins two entries that other equalities already connect."""
     equals = reading.equalities(query)
-    return len(reading.kept(equals)) < len(equals)
+    return len(reading.kept_equalities(equals)) < len(equals)
 
 
 def is_connected(query: reading.Query) -> bool:
-    return len(reading.kept(reading.equalities(query))) == len(query.entries) - 1
+    return len(reading.kept_equalities(reading.equalities(query))) == len(query.entries) - 1
 
 
 def is_equality(cond: Condition) -> bool:
@@ -60,14 +60,14 @@ def is_equality(cond: Condition) -> bool:
 
 def own_conjuncts(query: reading.Query, entry: int) -> list[Condition]:
     """The conjuncts that name this entry and no other."""
-    return [cond for cond in query.conjuncts if reading.named(cond) == {entry}]
+    return [cond for cond in query.conjuncts if reading.entries_in(cond) == {entry}]
 
 
 def restricted(query: reading.Query, entries: tuple[int, ...]) -> reading.Query:
     """The query over some of its entries, with the conjuncts that name only these."""
     place, inner = {entry: at for at, entry in enumerate(entries)}, copy.copy(query)
     inner.entries = [query.entries[entry] for entry in entries]
-    inner.conjuncts = [renumbered(cond, place) for cond in query.conjuncts if reading.named(cond) <= set(entries)]
+    inner.conjuncts = [renumbered(cond, place) for cond in query.conjuncts if reading.entries_in(cond) <= set(entries)]
     inner.outputs = []
     return inner
 

@@ -1,4 +1,4 @@
-"""Answers one question over the tables: `make archive`, which someone new to the project runs first."""
+"""Answers one question over the tables, for `make archive`."""
 
 from __future__ import annotations
 

@@ -34,7 +34,7 @@ TRIED = (*COMPUTED, COUNT)
 
 
 class Bounder:
-    """Bounds of sets. Each set is taken as a query of its own, and is bounded once even if several questions have it.
+    """Bounds of sets. Each set is a query of its own. It is bounded only once, even if several questions have it.
     """
 
     def __init__(self, tables: Tables) -> None:
@@ -42,7 +42,7 @@ class Bounder:
         self.known: dict[str, dict[Flags, int]] = {}
         self.statistics = {flags.accuracy: degrees.Statistics(tables, flags.accuracy) for flags in COMPUTED}
 
-    def lists(self, query: reading.Query, flags: Flags, rows: Rows) -> degrees.Known:
+    def lists(self, query: reading.Query, flags: Flags, rows: Rows) -> degrees.ColumnLists:
         if flags.source == "reduce":
             return degrees.known_reduced(rows, flags.accuracy)
         known = degrees.known_by_keys if flags.source == "keys" else degrees.known

@@ -21,7 +21,7 @@ from .columns import Rows, Tables
 Runs = List[Tuple[int, int]]
 
 
-def falling(keys: np.ndarray) -> np.ndarray:
+def degree_sequence(keys: np.ndarray) -> np.ndarray:
     """The degrees of keys: how often each occurs."""
     return np.sort(np.unique(keys, return_counts=True)[1])[::-1]
 
@@ -34,7 +34,7 @@ def runs_of(degrees: np.ndarray) -> Runs:
 
 
 def compressed(degrees: np.ndarray, accuracy: int) -> np.ndarray:
-    """Replaces each degree by its head, a degree that is greater by at most one K-th, until the sum is reached."""
+    """Replaces each degree by its head, at most one K-th greater, and ends the list once it has the degrees' sum."""
     parts, done, end, total = [np.zeros(0, np.int64)], 0, 0, int(degrees.sum())
     for head, rows in heads_of(degrees, accuracy):
         end += rows
@@ -92,11 +92,11 @@ class Pair:
         ordered = np.sort(self.filters)
         return np.array([ordered[len(ordered) * i // 32] for i in range(32)])
 
-    def over(self, rows: np.ndarray) -> np.ndarray:
-        return compressed(falling(self.joined[rows]), self.accuracy)
+    def list_of(self, rows: np.ndarray) -> np.ndarray:
+        return compressed(degree_sequence(self.joined[rows]), self.accuracy)
 
     def of_value(self, value: float) -> np.ndarray:
-        return self.over(self.filters == value) if value in self.frequent else self.rest
+        return self.list_of(self.filters == value) if value in self.frequent else self.rest
 
     @cached_property
     def rest(self) -> np.ndarray:
@@ -134,7 +134,7 @@ class Pair:
 
     @lru_cache(None)
     def of_node(self, size: int, number: int) -> np.ndarray:
-        return self.over(self.leaves // size == number)
+        return self.list_of(self.leaves // size == number)
 
 
 class Reference(NamedTuple):
@@ -146,14 +146,14 @@ class Reference(NamedTuple):
 
 
 class Statistics:
-    """The lists of all tables at one accuracy; each pair of columns is looked at once."""
+    """The lists of all tables at one accuracy. The lists of a pair of columns are made only once."""
 
     def __init__(self, tables: Tables, accuracy: int) -> None:
         self.tables, self.accuracy = tables, accuracy
 
     @lru_cache(None)
     def whole(self, table: str, joined: int) -> np.ndarray:
-        return compressed(falling(self.tables.columns[table][joined]), self.accuracy)
+        return compressed(degree_sequence(self.tables.columns[table][joined]), self.accuracy)
 
     @lru_cache(None)
     def pair(self, table: str, joined: int, filters: int) -> Pair:
@@ -172,7 +172,7 @@ class Statistics:
     @lru_cache(None)
     def whole_referring(self, table: str, joined: int, reference: Reference) -> np.ndarray:
         rows, _ = self.referring(table, reference)
-        return compressed(falling(self.tables.columns[table][joined][rows]), self.accuracy)
+        return compressed(degree_sequence(self.tables.columns[table][joined][rows]), self.accuracy)
 
     @lru_cache(None)
     def pair_referring(self, table: str, joined: int, reference: Reference, filters: int) -> Pair:
@@ -187,10 +187,10 @@ class Filtered:
     def __init__(self, tables: Tables, whole: np.ndarray, pair_of: Callable[[int], Pair]) -> None:
         self.tables, self.whole, self.pair_of = tables, whole, pair_of
 
-    def of(self, conjuncts: list[Condition]) -> np.ndarray:
+    def list_under(self, conjuncts: list[Condition]) -> np.ndarray:
         if not conjuncts:
             return self.whole
-        return least_sums([self.of_cond(reading.pushed(("and", conjuncts))), self.whole])
+        return least_sums([self.of_cond(reading.without_not(("and", conjuncts))), self.whole])
 
     def of_cond(self, cond: Condition) -> np.ndarray:
         if cond[0] == "and":
@@ -208,7 +208,7 @@ class Filtered:
         return self.of_range([cond])
 
     def of_and(self, parts: list[Condition]) -> np.ndarray:
-        """The tests of a range are taken together, column by column."""
+        """The list under an AND. All tests of a column's range count as one range."""
         ranged: dict[int, list[Condition]] = {}
         for part in filter(reading.is_range, parts):
             ranged.setdefault(part[1][2], []).append(part)
@@ -227,7 +227,7 @@ Steps = List[Tuple[int, int]]
 
 
 def product(functions: list[Steps]) -> Steps:
-    """The product of step functions, as long as the shortest."""
+    """The product of step functions. It ends where the shortest function ends."""
     found: Steps = []
     places = [0] * len(functions)
     at, length = 0, min(function[-1][1] if function else 0 for function in functions)
@@ -249,7 +249,7 @@ def row_of(degrees: Runs, rank: int) -> int:
 
 
 def on_rows(degrees: Runs, by_rank: Steps) -> Steps:
-    """For each row the value of its rank."""
+    """A function of rows: for each row, the value that `by_rank` has at the row's rank."""
     steps = [(value, row_of(degrees, end)) for value, end in by_rank]
     found = [step for step, before in zip(steps, [0] + [end for _, end in steps]) if step[1] > before]
     rows = row_of(degrees, sum(keys for _, keys in degrees))
@@ -257,7 +257,7 @@ def on_rows(degrees: Runs, by_rank: Steps) -> Steps:
 
 
 def on_ranks(degrees: Runs, by_row: Steps) -> Steps:
-    """For each rank the sum over its rows."""
+    """A function of ranks: for each rank, the sum of `by_row` over the rows of this rank."""
     found: Steps = []
     row, rank, place = 0, 0, 0
     for degree, keys in degrees:
@@ -266,13 +266,13 @@ def on_ranks(degrees: Runs, by_row: Steps) -> Steps:
             while by_row[place][1] <= row:
                 place += 1
             within = min(last - rank, (by_row[place][1] - row) // degree)
-            value = by_row[place][0] * degree if within else over(by_row, place, row, row + degree)
+            value = by_row[place][0] * degree if within else sum_over(by_row, place, row, row + degree)
             rank, row = rank + max(within, 1), row + degree * max(within, 1)
             found.append((value, rank))
     return found
 
 
-def over(by_row: Steps, place: int, row: int, end: int) -> int:
+def sum_over(by_row: Steps, place: int, row: int, end: int) -> int:
     """The sum over the rows from `row` to `end`."""
     total = 0
     while row < end:
@@ -282,7 +282,7 @@ def over(by_row: Steps, place: int, row: int, end: int) -> int:
     return total
 
 
-class Known:
+class ColumnLists:
     """The lists of a query's joined columns. An entry's row bound is the sum of any of its lists."""
 
     def __init__(self, query: reading.Query, lists: dict[Column, np.ndarray]) -> None:
@@ -297,14 +297,15 @@ class Known:
         if any(not len(degrees) for degrees in self.lists.values()):
             return 0
         equals = reading.equalities(self.query)
-        return min(self.of_turn(reading.kept(equals[turn:] + equals[:turn])) for turn in range(min(len(equals), 16)))
+        turns = [reading.kept_equalities(equals[turn:] + equals[:turn]) for turn in range(min(len(equals), 16))]
+        return min(map(self.of_turn, turns))
 
     def of_turn(self, equals: list[Equality]) -> int:
         classes: list[set[Column]] = []
         for left, right in equals:
             classes = reading.merged(classes, left, right)
         weights = self.weights(0, None, classes)
-        return over(weights, 0, 0, weights[-1][1])
+        return sum_over(weights, 0, 0, weights[-1][1])
 
     def weights(self, entry: int, above: set[Column] | None, classes: list[set[Column]]) -> Steps:
         """The weight of each row of an entry, by the classes of its other columns."""
@@ -322,18 +323,18 @@ def joined_columns(query: reading.Query) -> set[Column]:
     return {side for equal in reading.equalities(query) for side in equal}
 
 
-def known(statistics: Statistics, query: reading.Query) -> Known:
+def known(statistics: Statistics, query: reading.Query) -> ColumnLists:
     """Lists from statistics of whole tables."""
     lists = {}
     for entry, column in joined_columns(query):
         table = query.entries[entry][0]
         pair_of = partial(statistics.pair, table, column)
         filtered = Filtered(statistics.tables, statistics.whole(table, column), pair_of)
-        lists[entry, column] = filtered.of(asked.own_conjuncts(query, entry))
-    return Known(query, lists)
+        lists[entry, column] = filtered.list_under(asked.own_conjuncts(query, entry))
+    return ColumnLists(query, lists)
 
 
-def known_by_keys(statistics: Statistics, query: reading.Query) -> Known:
+def known_by_keys(statistics: Statistics, query: reading.Query) -> ColumnLists:
     """Lists from statistics and from the conditions on referred entries. They are valid for the set of all entries."""
     found = known(statistics, query)
     for one, other in reading.equalities(query):
@@ -342,9 +343,9 @@ def known_by_keys(statistics: Statistics, query: reading.Query) -> Known:
     return found
 
 
-def carry(statistics: Statistics, found: Known, side: Column, carrier: Column) -> None:
-    """If one side refers to the other by a key, its entry gets the lists of the rows that refer to a row which
-    satisfies the other entry's own conditions.
+def carry(statistics: Statistics, found: ColumnLists, side: Column, carrier: Column) -> None:
+    """If `side` refers to the key `carrier`, lowers the lists of its entry: they then count only rows that refer to a
+    row which satisfies the carrier's own conjuncts.
     """
     query, (entry, column), (of, key) = found.query, side, carrier
     own, table, target = asked.own_conjuncts(query, of), query.entries[entry][0], query.entries[of][0]
@@ -355,13 +356,13 @@ def carry(statistics: Statistics, found: Known, side: Column, carrier: Column) -
     for joined in [joined for of_entry, joined in found.lists if of_entry == entry]:
         whole = statistics.whole_referring(table, joined, reference)
         filtered = Filtered(statistics.tables, whole, partial(statistics.pair_referring, table, joined, reference))
-        found.lists[entry, joined] = least_sums([found.lists[entry, joined], filtered.of(own)])
+        found.lists[entry, joined] = least_sums([found.lists[entry, joined], filtered.list_under(own)])
 
 
-def known_reduced(rows: Rows, accuracy: int) -> Known:
+def known_reduced(rows: Rows, accuracy: int) -> ColumnLists:
     """Lists from reduced scans."""
     lists = {}
     for entry, column in joined_columns(rows.query):
         keys = rows.columns[entry][column][rows.reduced[entry]]
-        lists[entry, column] = compressed(falling(keys), accuracy)
-    return Known(rows.query, lists)
+        lists[entry, column] = compressed(degree_sequence(keys), accuracy)
+    return ColumnLists(rows.query, lists)

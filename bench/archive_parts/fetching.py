@@ -11,7 +11,7 @@ from . import places
 
 SOURCES = ("/etc/apt/sources.list.d/debian.sources", "/etc/apt/sources.list")
 CONTENTS = "Acquire::IndexTargets::deb::Contents-deb::"
-SAID = "the package index (9 MB) and the list of contents (46 MB) of Debian's archive"
+DOWNLOAD_TEXT = "the package index (9 MB) and the list of contents (46 MB) of Debian's archive"
 
 
 def options() -> list[str]:
@@ -37,7 +37,7 @@ def fetch() -> None:
     """Fetches what has changed in the archive since the last time; the first time, all of it."""
     os.makedirs(os.path.join(places.LISTS, "partial"), exist_ok=True)
     os.makedirs(os.path.join(places.MADE, "cache"), exist_ok=True)
-    print(f"apt-get update fetches {SAID} into {places.LISTS}", file=sys.stderr, flush=True)
+    print(f"apt-get update fetches {DOWNLOAD_TEXT} into {places.LISTS}", file=sys.stderr, flush=True)
     subprocess.run(["apt-get", "update", "-q", *options()], check=True, stdout=sys.stderr)
 
 

@@ -30,7 +30,7 @@ class Grouping:
         self.query = query
         self.parts: list[str] = []
         self.number = self.variables()
-        between = [cond for cond in query.conjuncts if len(reading.named(cond)) > 1]
+        between = [cond for cond in query.conjuncts if len(reading.entries_in(cond)) > 1]
         self.pending: list[Condition] = [cond for cond in between if not asked.is_equality(cond)]
         self.factors = [self.scan(entry) for entry in range(len(query.entries))]
 
@@ -40,7 +40,7 @@ class Grouping:
         for left, right in reading.equalities(self.query):
             classes = reading.merged(classes, left, right)
         found = {side: number for number, one in enumerate(classes) for side in one}
-        between = [cond for cond in self.query.conjuncts if len(reading.named(cond)) > 1]
+        between = [cond for cond in self.query.conjuncts if len(reading.entries_in(cond)) > 1]
         for column in (column for cond in between for column in columns_of(cond)):
             found.setdefault(column, len(found) + len(classes))
         return found

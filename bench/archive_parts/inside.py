@@ -20,7 +20,7 @@ INSIDE = os.path.join(places.MADE, "inside.csv")
 INSIDE_COLUMNS = ("query", "half", "mode", "seconds", "cancelled", "planning")
 MODES = ("off", "mean", "bound")
 LONGEST = 30.0
-# Queries that take less than this are run again, and the least time counts.
+# A query that takes less than this many seconds is run again, and the lesser time counts.
 AGAIN_BELOW = 0.3
 
 
@@ -116,14 +116,14 @@ class Taken:
 
 
 def by_question(lines: list[dict[str, str]], half: str) -> dict[str, Taken]:
-    told: dict[str, Taken] = {}
+    times_by_question: dict[str, Taken] = {}
     for line in lines:
         if half in ("all", line["half"]):
-            one = told.setdefault(line["query"], Taken({}, {}, {}))
+            one = times_by_question.setdefault(line["query"], Taken({}, {}, {}))
             one.seconds[line["mode"]] = float(line["seconds"])
             one.cancelled[line["mode"]] = line["cancelled"] == "True"
             one.planning[line["mode"]] = float(line["planning"])
-    return {name: one for name, one in told.items() if len(one.seconds) == len(MODES)}
+    return {name: one for name, one in times_by_question.items() if len(one.seconds) == len(MODES)}
 
 
 def table(lines: list[dict[str, str]]) -> Iterator[str]:
@@ -133,17 +133,17 @@ def table(lines: list[dict[str, str]]) -> Iterator[str]:
     )
     yield "|---|---|---|---|---|---|---|---|"
     for half in ("all", "seen", "aside"):
-        told = list(by_question(lines, half).values())
-        yield from (f"| {half} ({len(told)}) | {mode} | {cells(told, mode)} |" for mode in MODES)
+        times = list(by_question(lines, half).values())
+        yield from (f"| {half} ({len(times)}) | {mode} | {cells(times, mode)} |" for mode in MODES)
 
 
-def cells(told: list[Taken], mode: str) -> str:
+def cells(times: list[Taken], mode: str) -> str:
     """The times of all questions in one mode, divided by those with PostgreSQL's own numbers of rows."""
-    ratios = sorted(one.seconds[mode] / one.seconds["off"] for one in told)
-    longer = sorted(one.planning[mode] - one.planning["off"] for one in told)
-    whole = sum(one.seconds[mode] for one in told)
-    ended = sum(one.seconds[mode] for one in told if not any(one.cancelled.values()))
-    cancelled = sum(one.cancelled[mode] for one in told)
+    ratios = sorted(one.seconds[mode] / one.seconds["off"] for one in times)
+    longer = sorted(one.planning[mode] - one.planning["off"] for one in times)
+    whole = sum(one.seconds[mode] for one in times)
+    ended = sum(one.seconds[mode] for one in times if not any(one.cancelled.values()))
+    cancelled = sum(one.cancelled[mode] for one in times)
     return (
         f"{whole:.1f} s | {ended:.1f} s | {statistics.median(ratios):.2f} | {ratios[-1]:.1f} | {cancelled} |"
         f" {statistics.median(longer):.2f} ms, {longer[len(longer) * 9 // 10]:.2f} ms"

@@ -22,8 +22,10 @@ def read(path: str) -> Lines:
         return list(csv.DictReader(f))
 
 
-def shown(value: float) -> str:
-    """Below ten, two digits; below a thousand, a whole number; then three digits; from a million on, a power of ten."""
+def number_text(value: float) -> str:
+    """A number as the tables show it: two digits below ten, a whole number below a thousand, then three digits. From a
+    million on it is a power of ten.
+    """
     if value < 10:
         return f"{value:.2g}"
     if value < 1000:
@@ -34,10 +36,10 @@ def shown(value: float) -> str:
 def spread(values: Iterable[float]) -> list[str]:
     """Median, 75th and 90th percentile, and the greatest."""
     found = list(values)
-    return [shown(np.percentile(found, share)) for share in SHARES] if found else ["-"] * len(SHARES)
+    return [number_text(np.percentile(found, share)) for share in SHARES] if found else ["-"] * len(SHARES)
 
 
-def three(values: Iterable[float]) -> str:
+def median_p90_most(values: Iterable[float]) -> str:
     """Median, 90th percentile and the greatest."""
     found = spread(values)
     return f"{found[0]}, {found[2]}, {found[3]}"
@@ -49,12 +51,12 @@ def table(header: list[str], rows: Iterable[list[str]]) -> None:
     print()
 
 
-def tried(found: Lines) -> list[Flags]:
+def flags_run(found: Lines) -> list[Flags]:
     """The sets of flags that were run."""
     return [flags for flags in TRIED if any(one["flags"] == flags.name for one in found)]
 
 
-def counted(runs: Lines, names: set[str]) -> list[float]:
+def counted_factors(runs: Lines, names: set[str]) -> list[float]:
     """For each whole query that `--count` admits, its printed bound divided by PostgreSQL's rows."""
     counts = [one for one in runs if one["flags"] == COUNT.name and one["question"] in names]
     both = [(one["last"], one["postgres_rows"]) for one in counts if one["last"] and one["postgres_rows"]]
@@ -65,7 +67,7 @@ def factor(one: dict[str, str], name: str) -> float:
     return int(one[name]) / max(int(one["rows"]), 1)
 
 
-def bounded(sets: Lines, name: str) -> list[float]:
+def bound_factors(sets: Lines, name: str) -> list[float]:
     return [factor(one, name) for one in sets if one["rows"] and one[name]]
 
 
@@ -103,12 +105,12 @@ WHOLE = ["whole query: bound / rows", "median", "75th", "90th percentile", "wors
 
 
 def whole_queries(sets: Lines, runs: Lines) -> None:
-    """Tables: the bound of each whole query divided by its rows, and how many queries budgets refuse."""
+    """Prints two tables: bounds of whole queries divided by their rows, and how many queries each budget refuses."""
     whole = [one for one in sets if one["whole"] == "1"]
     for title, chosen in (("all", ("0", "1")), ("without cycles", ("0",)), ("with cycles", ("1",))):
         asked = [one for one in whole if one["cyclic"] in chosen]
         print(f"{len({one['question'] for one in asked})} questions, {title}:\n")
-        table(WHOLE, [whole_by(flags, asked, runs) for flags in tried(runs)])
+        table(WHOLE, [whole_by(flags, asked, runs) for flags in flags_run(runs)])
 
 
 def whole_by(flags: Flags, asked: Lines, runs: Lines) -> list[str]:
@@ -116,7 +118,7 @@ def whole_by(flags: Flags, asked: Lines, runs: Lines) -> list[str]:
     names = {one["question"] for one in asked}
     cost = {one["question"]: int(one["cost"]) for one in runs if one["flags"] == flags.name and one["cost"]}
     refused = [sum(cost.get(name, budget + 1) > budget for name in names) for budget in (BUDGET, SMALL_BUDGET)]
-    factors = counted(runs, names) if flags == COUNT else bounded(asked, flags.name)
+    factors = counted_factors(runs, names) if flags == COUNT else bound_factors(asked, flags.name)
     return [flags.name, *spread(factors), *map(str, refused)]
 
 
@@ -125,7 +127,8 @@ def by_size(sets: Lines) -> None:
     print("Median, and 90th percentile, of bound / rows by the number of entries:\n")
     rows = []
     for flags in COMPUTED:
-        spreads = [spread(bounded([one for one in sets if int(one["size"]) == size], flags.name)) for size in sizes]
+        of_size = [[one for one in sets if int(one["size"]) == size] for size in sizes]
+        spreads = [spread(bound_factors(some, flags.name)) for some in of_size]
         rows.append([flags.name, *(f"{found[0]}, {found[2]}" for found in spreads)])
     counts = [str(sum(int(one["size"]) == size for one in sets)) for size in sizes]
     table(["entries", *map(str, sizes)], [["sets", *counts], *rows])
@@ -157,7 +160,7 @@ TIMES = [
 
 
 def times(runs: Lines) -> None:
-    table(TIMES, [times_by(flags, runs) for flags in tried(runs)])
+    table(TIMES, [times_by(flags, runs) for flags in flags_run(runs)])
 
 
 def times_by(flags: Flags, runs: Lines) -> list[str]:
@@ -190,7 +193,7 @@ def sums(runs: Lines) -> None:
     )
     took = {
         flags.name: {one["question"]: float(one["seconds"]) for one in ran if one["flags"] == flags.name}
-        for flags in tried(ran)
+        for flags in flags_run(ran)
     }
     admitted = set.intersection(*(set(own) for own in took.values()))
     by_flags = [f"{sum(own[name] for name in admitted):.1f} s with {flags}" for flags, own in took.items()]
@@ -212,7 +215,7 @@ def plans(found: Lines) -> None:
         f" {longest['run']:.1f} s. Median, 90th percentile, worst of the others:\n"
     )
     header = ["", "admitted", *(f"`{command}`, {title}" for title in FIGURES.values() for command in COMMANDS)]
-    table(header, [plans_by(flags, found) for flags in tried(found)])
+    table(header, [plans_by(flags, found) for flags in flags_run(found)])
     if any(one["plan_status"] != one["run_status"] for one in found):
         raise SystemExit("archive: a plan and its run end with different statuses")
 
@@ -220,7 +223,7 @@ def plans(found: Lines) -> None:
 def plans_by(flags: Flags, found: Lines) -> list[str]:
     ran = [one for one in found if one["flags"] == flags.name and one["run_status"] == "0"]
     columns = [f"{command}_{name}" for name in FIGURES for command in COMMANDS]
-    return [flags.name, str(len(ran)), *(three(float(one[column]) for one in ran) for column in columns)]
+    return [flags.name, str(len(ran)), *(median_p90_most(float(one[column]) for one in ran) for column in columns)]
 
 
 def beside_reduce(found: Lines) -> None:
@@ -230,7 +233,8 @@ def beside_reduce(found: Lines) -> None:
     ratios = [seconds / took[question, "`--reduce`"] for question, seconds in counts.items()]
     if ratios:
         print(
-            f"`plan --count` took {three(ratios)} times as long as `plan --reduce` (median, 90th percentile, worst).\n"
+            f"`plan --count` took {median_p90_most(ratios)} times as long as `plan --reduce` (median, 90th percentile,"
+            " worst).\n"
         )
 
 
@@ -242,7 +246,7 @@ def worst(sets: Lines, number: int = 10) -> None:
         loosest = sorted(found, key=lambda pair: -pair[0])[:number]
         print(f"{flags.name}:\n")
         header = ["question", "rows", "bound", "times"]
-        table(header, [[one["question"], one["rows"], one[flags.name], shown(times)] for times, one in loosest])
+        table(header, [[one["question"], one["rows"], one[flags.name], number_text(times)] for times, one in loosest])
 
 
 def report() -> None:

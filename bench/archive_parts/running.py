@@ -42,13 +42,13 @@ class Ended(NamedTuple):
 
 
 class Rows(NamedTuple):
-    """The rows of an answer in any order: their number, and a sum over all of them."""
+    """The number of an answer's rows, and a checksum of them that doesn't depend on their order."""
 
     number: int
     sum: int
 
 
-def ended(command: list[str], out: str, folder: str | None = None, env: dict[str, str] | None = None) -> Ended:
+def run_command(command: list[str], out: str, folder: str | None = None, env: dict[str, str] | None = None) -> Ended:
     """Runs a command in a folder, with its output in a file."""
     timed = os.path.join(os.path.dirname(os.path.abspath(__file__)), "timed.py")
     with open(out, "wb") as rows, tempfile.TemporaryFile() as notes, tempfile.NamedTemporaryFile("r") as told:
@@ -68,13 +68,14 @@ def ended(command: list[str], out: str, folder: str | None = None, env: dict[str
 
 def by_program(command: str, question: str, words: list[str], out: str) -> Ended:
     """`plan` or `run` over the tables, which are read again."""
-    return ended([places.PROGRAM, command, "schema.sql", question, "--budget", str(BUDGET), *words], out, places.TABLES)
+    program = [places.PROGRAM, command, "schema.sql", question, "--budget", str(BUDGET)]
+    return run_command([*program, *words], out, places.TABLES)
 
 
 def by_postgres(url: str, text: str, out: str, seconds: int) -> Ended:
     """The query over the loaded tables, its rows as CSV."""
     settings = dict(os.environ, PGOPTIONS=f"-c statement_timeout={seconds}s")
-    return ended(["psql", "-qX", url, "-c", f"COPY ({text}) TO STDOUT (FORMAT csv)"], out, env=settings)
+    return run_command(["psql", "-qX", url, "-c", f"COPY ({text}) TO STDOUT (FORMAT csv)"], out, env=settings)
 
 
 def rows_of(path: str, with_header: bool) -> Rows:

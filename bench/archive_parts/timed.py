@@ -1,6 +1,6 @@
 """Runs a command, and writes its status, seconds, seconds of processor and peak of memory in KiB into a file.
 
-It is a small process of its own, since the system's peak for a child is never below its parent's memory.
+It runs as a small process of its own, since the system's peak for a child is never below its parent's memory.
 
     timed.py FILE COMMAND WORD..
 """

@@ -12,7 +12,7 @@ import reading
 from . import asked, grouping, places, server
 from .columns import Rows, Tables
 
-# If groups give at most this many rows, PostgreSQL counts the rows too, and both numbers must be equal.
+# If counting by groups finds at most this many rows, PostgreSQL counts them too. Both counts must agree.
 COUNTED_TWICE = 3_000_000
 SETTINGS = ("work_mem = '256MB'", "jit = off", "statement_timeout = '{seconds}s'")
 KEPT = os.path.join(places.MADE, "truth.csv")
@@ -34,7 +34,7 @@ def number(connection: psycopg.Connection[Any], sql: str) -> int | None:
         return None
 
 
-def kept() -> dict[str, Truth]:
+def stored_counts() -> dict[str, Truth]:
     """The counts since the tables last changed, by statement."""
     if not os.path.exists(KEPT) or os.path.getmtime(KEPT) <= os.path.getmtime(os.path.join(places.TABLES, "file.csv")):
         return {}
@@ -47,7 +47,7 @@ class Counter:
     """Counts each set once, even if several questions have it, and stores the counts until the tables change."""
 
     def __init__(self, connection: psycopg.Connection[Any], tables: Tables, seconds: int) -> None:
-        self.connection, self.tables, self.known = connection, tables, kept()
+        self.connection, self.tables, self.known = connection, tables, stored_counts()
         self.keep()
         for setting in SETTINGS:
             connection.execute("SET " + setting.format(seconds=seconds))

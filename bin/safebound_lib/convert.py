@@ -14,10 +14,10 @@ from dataclasses import dataclass
 
 from . import program
 from .decimals import in_whole_numbers
-from .near import listed
+from .near import series
 from .spot import plain
 from .table import CENTS, DIGITS, ENCODING, OUTPUT
-from .words import Line, Misused, places
+from .words import Line, Misused, positional_words
 
 SEPARATORS = {",": "commas", ";": "semicolons", "\t": "tabs", "|": "bars"}
 LOOKED_AT = 100
@@ -60,13 +60,13 @@ class Sheet:
 
 
 def convert(line: Line) -> int:
-    files = places(line.words[1:])
+    files = positional_words(line.words[1:])
     if len(files) != 1:
         one = shlex.quote(files[0]) if files else "FILE"
         raise Misused(f"convert takes one file{' at a time' * (len(files) > 1)}:\n    safebound convert {plain(one)}")
     file, data = files[0], read(files[0])
     encoding = line.own.get(ENCODING.word) or encoding_of(data)
-    text = decoded(file, data, encoding)
+    text = decode(file, data, encoding)
     sheet = None if file.lower().endswith(".sql") else sheet_of(text)
     commas = " with commas" if sheet else ""
     output = line.own.get(OUTPUT.word)
@@ -75,10 +75,10 @@ def convert(line: Line) -> int:
     if output is None and not cents and is_right:
         program.write(1, f"{plain(file)}: is UTF-8{commas} already; nothing was written\n")
         return 0
-    new = (written(sheet) if sheet else text).encode()
+    new = (csv_text(sheet) if sheet else text).encode()
     was = ENCODING_NAMES.get(encoding, encoding) + (f", separated by {SEPARATORS[sheet.separator]}" if sheet else "")
     says = f"{was}; now it is UTF-8{commas}{cents}"
-    return write_result(file, data, new, output, says, ragged(sheet) if sheet else "", bool(cents))
+    return write_result(file, data, new, output, says, ragged_warning(sheet) if sheet else "", bool(cents))
 
 
 def in_cents(line: Line, file: str, sheet: Sheet | None) -> str:
@@ -98,7 +98,7 @@ def read(file: str) -> bytes:
         with open(file, "rb") as f:
             data = f.read()
     except IsADirectoryError:
-        raise Misused(of_folder(file)) from None
+        raise Misused(folder_message(file)) from None
     except OSError as fault:
         raise Misused(f"{plain(file)}: {fault.strerror}") from None
     if not_text_message(data):
@@ -111,7 +111,7 @@ def not_text_message(data: bytes) -> str:
     return next((says for start, says in NOT_TEXT if data.startswith(start)), "")
 
 
-def of_folder(folder: str) -> str:
+def folder_message(folder: str) -> str:
     tables = sorted(name for name in os.listdir(folder) if name.lower().endswith((".csv", ".txt", ".tsv")))
     file = os.path.join(folder, tables[0]) if tables else "FILE"
     return (
@@ -130,10 +130,10 @@ def encoding_of(data: bytes) -> str:
         part = data[first:2000:2]
         if len(part) > 1 and part.count(0) > len(part) // 2:
             return name
-    return next(name for name in ("utf-8", "cp1252", "latin-1") if is_in(data, name))
+    return next(name for name in ("utf-8", "cp1252", "latin-1") if is_encoded_in(data, name))
 
 
-def is_in(data: bytes, encoding: str) -> bool:
+def is_encoded_in(data: bytes, encoding: str) -> bool:
     try:
         data.decode(encoding)
     except UnicodeDecodeError:
@@ -141,7 +141,7 @@ def is_in(data: bytes, encoding: str) -> bool:
     return True
 
 
-def decoded(file: str, data: bytes, encoding: str) -> str:
+def decode(file: str, data: bytes, encoding: str) -> str:
     try:
         return data.decode(encoding).removeprefix("\ufeff")
     except LookupError:
@@ -159,12 +159,12 @@ def sheet_of(text: str) -> Sheet:
     first, _, rest = text.partition("\n")
     named = first.rstrip("\r").removeprefix("sep=")
     if first.startswith("sep=") and named in SEPARATORS:
-        return Sheet(named, 1, list(parsed(rest, named)))
+        return Sheet(named, 1, list(parse_records(rest, named)))
     separator = max(SEPARATORS, key=lambda one: evenness(text, one))
-    return Sheet(separator, 0, list(parsed(text, separator)))
+    return Sheet(separator, 0, list(parse_records(text, separator)))
 
 
-def parsed(text: str, separator: str) -> Iterator[list[str]]:
+def parse_records(text: str, separator: str) -> Iterator[list[str]]:
     csv.field_size_limit(2**31 - 1)
     return (record for record in csv.reader(io.StringIO(text, newline=""), delimiter=separator) if record)
 
@@ -173,22 +173,22 @@ def evenness(text: str, separator: str) -> tuple[bool, int, int]:
     """How well a separator fits, as a tuple to compare: whether it splits the header, how many records have as many
     fields as the header, and how many fields the header has.
     """
-    widths = [len(record) for _, record in zip(range(LOOKED_AT), parsed(text, separator))]
+    widths = [len(record) for _, record in zip(range(LOOKED_AT), parse_records(text, separator))]
     wide = widths[0] if widths else 1
     return wide > 1, widths.count(wide), wide
 
 
-def written(sheet: Sheet) -> str:
+def csv_text(sheet: Sheet) -> str:
     out = io.StringIO()
     csv.writer(out, lineterminator="\r\n").writerows(sheet.records)
     return out.getvalue()
 
 
-def ragged(sheet: Sheet) -> str:
+def ragged_warning(sheet: Sheet) -> str:
     """A warning that names the records with more or fewer fields than the header; "" if all have as many."""
     wide = len(sheet.records[0]) if sheet.records else 0
     found = [number for number, record in enumerate(sheet.records) if len(record) != wide]
-    said = f"record {found[0]}" if len(found) == 1 else f"records {listed(map(str, found), most=4)}"
+    said = f"record {found[0]}" if len(found) == 1 else f"records {series(map(str, found), most=4)}"
     return f"The header has {wide} fields, and {said} has another number.\n" if found else ""
 
 
@@ -220,7 +220,7 @@ def write_result(
     try:
         if kept:
             write_new(kept, old)
-        replace(target, new, os.stat(file).st_mode & 0o777)
+        replace_file(target, new, os.stat(file).st_mode & 0o777)
     except FileExistsError:
         raise Misused(
             f"{plain(kept or target)} is there already, and nothing is written over: give that file another name"
@@ -238,7 +238,7 @@ def write_new(file: str, data: bytes) -> None:
         f.write(data)
 
 
-def replace(target: str, data: bytes, mode: int) -> None:
+def replace_file(target: str, data: bytes, mode: int) -> None:
     """Replaces a file at once. After an error the target is unchanged."""
     number, name = tempfile.mkstemp(dir=os.path.dirname(target) or ".", prefix=".safebound-")
     try:

@@ -9,7 +9,7 @@ import shlex
 from safebound.decimals import CENTS, digits_of, first_decimal, has_thousands, scale_of, scaled
 from safebound.sql_texts import LEAST_NUMBER, MOST_NUMBER, folded, name_of, typed_name
 
-from .near import listed
+from .near import series
 from .records import column_place
 from .spot import plain
 from .words import Misused
@@ -21,7 +21,7 @@ def units(digits: int) -> str:
     return "cents" if digits == CENTS else f"{10 ** digits}ths"
 
 
-def called(name: str, digits: int) -> str:
+def new_column_name(name: str, digits: int) -> str:
     """The name of the new column of whole numbers."""
     unit = units(digits)
     return f"{name}{'_' if re.fullmatch('[A-Za-z0-9_]+', name) else ' '}{unit.upper() if name.isupper() else unit}"
@@ -44,7 +44,7 @@ def of_decimals(name: str, values: dict[str, int], word: str) -> str:
         f"{plain(name)} has decimals, as `{plain(first)}` on line {values[first]}, and numbers are integers here: so it"
         " is proposed as a text, and 12.5 and 12.50 would be two values. Store the smallest unit: this writes it in"
         f" {units(digits)}, {scaled(first, digits)} for {plain(first)}, as a column"
-        f" {plain(typed_name(called(name_of(name), digits)))}:{line_to_paste(word, name, digits)}"
+        f" {plain(typed_name(new_column_name(name_of(name), digits)))}:{line_to_paste(word, name, digits)}"
     )
 
 
@@ -52,13 +52,13 @@ def in_whole_numbers(file: str, records: list[list[str]], name: str, digits: int
     """Writes a column of the records in whole numbers, under a new name. Returns a sentence on what was done."""
     header = records[0] if records else []
     if folded(name) not in map(folded, header):
-        raise Misused(f"{plain(file)} has no column {plain(name)}. Its columns are {listed(map(plain, header))}")
+        raise Misused(f"{plain(file)} has no column {plain(name)}. Its columns are {series(map(plain, header))}")
     at = column_place(header, name)
     for number, record in enumerate(records[1:], 1):
         if at < len(record) and record[at]:
             refuse_value(file, number, record[at], name, digits)
             record[at] = scaled(record[at], digits)
-    records[0][at] = called(records[0][at], digits)
+    records[0][at] = new_column_name(records[0][at], digits)
     return f"{plain(name)} is now {plain(typed_name(records[0][at]))}, in {units(digits)}"
 
 

@@ -11,15 +11,15 @@ Read = TypeVar("Read")
 
 
 class Wrong(Exception):
-    """The tokens don't begin with a text of the grammar."""
+    """The tokens don't fit the grammar."""
 
 
 class Reader:
-    """Walks along the tokens. It remembers the furthest place that it tested, and everything that it expected there."""
+    """Walks along the tokens. It remembers the furthest token that it tested, and everything that it expected there."""
 
     def __init__(self, tokens: list[Token]) -> None:
         self.tokens, self.at, self.furthest = tokens, 0, 0
-        self.tested: list[str] = []
+        self.expected: list[str] = []
 
     @property
     def token(self) -> Token | None:
@@ -28,9 +28,9 @@ class Reader:
     def test(self, passes: Callable[[Token], bool], what: str) -> bool:
         """Whether the next token passes. `what` names the expected thing, and is remembered."""
         if self.at > self.furthest:
-            self.furthest, self.tested = self.at, []
-        if what not in self.tested:
-            self.tested.append(what)
+            self.furthest, self.expected = self.at, []
+        if what not in self.expected:
+            self.expected.append(what)
         return self.token is not None and passes(self.token)
 
     def has(self, *sources: str) -> bool:
@@ -41,7 +41,7 @@ class Reader:
         return self.next() if self.has(*sources) else None
 
     def take(self, *sources: str) -> Token:
-        return self.maybe(*sources) or self.wrong()
+        return self.maybe(*sources) or self.fail()
 
     def has_kind(self, kind: str, what: str) -> bool:
         return self.test(lambda token: token.kind == kind, what)
@@ -50,17 +50,17 @@ class Reader:
         return self.test(lambda token: token.is_name, what)
 
     def take_name(self, what: str) -> Token:
-        return self.next() if self.has_name(what) else self.wrong()
+        return self.next() if self.has_name(what) else self.fail()
 
     def next(self) -> Token:
         self.at += 1
         return self.tokens[self.at - 1]
 
-    def wrong(self) -> NoReturn:
+    def fail(self) -> NoReturn:
         raise Wrong()
 
-    def many(self, rule: Callable[[], Read], separator: str = ",") -> list[Read]:
-        """The results of a rule, read again and again with separators between."""
+    def separated(self, rule: Callable[[], Read], separator: str = ",") -> list[Read]:
+        """Reads by a rule one or more times, with separators between. Returns the results."""
         found = [rule()]
         while self.maybe(separator):
             found.append(rule())

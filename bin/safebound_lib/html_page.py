@@ -82,7 +82,7 @@ def bound_of(shown: Shown, at: int) -> int:
     return shown.plan.nodes[at].bound if shown.plan.is_tree else shown.plan.levels[at][1]
 
 
-def counted(bound: int, rows: int | None) -> str:
+def bound_and_rows(bound: int, rows: int | None) -> str:
     """A bound, and the true number of rows if an audit has counted them."""
     return f"at most {bound:,} rows" + ("" if rows is None else f", and there are {rows:,}")
 
@@ -96,7 +96,7 @@ def tree(shown: Shown, at: int) -> str:
     below = "".join(item(shown, number) for number in below_of(shown, at))
     return (
         f'<li><a{past} href="#{shown.step_id(at)}">{safe(shown.step_name(at))}</a>:'
-        f' {counted(bound_of(shown, at), rows)}<ul>{below}</ul></li>'
+        f' {bound_and_rows(bound_of(shown, at), rows)}<ul>{below}</ul></li>'
     )
 
 
@@ -115,7 +115,7 @@ def item(shown: Shown, one: int | str) -> str:
 def entry_item(shown: Shown, alias: str) -> str:
     return (
         f'<li><a href="#{shown.entry_id(alias)}">{named(shown, alias)}</a>:'
-        f' {counted(shown.plan.scans[alias], None)}</li>'
+        f' {bound_and_rows(shown.plan.scans[alias], None)}</li>'
     )
 
 
@@ -138,7 +138,7 @@ def step_part(shown: Shown, at: int) -> str:
     )
     return (
         f'<section id="{shown.step_id(at)}"><h2>{safe(shown.step_name(at))}</h2>'
-        f'<p>{counted(bound, rows).capitalize()}.</p>{past}<p>Joins {joined}.</p>'
+        f'<p>{bound_and_rows(bound, rows).capitalize()}.</p>{past}<p>Joins {joined}.</p>'
         + (f"<h3>Conditions that hold from here on</h3><ul>{conditions}</ul>" if conditions else "") + "</section>"
     )
 

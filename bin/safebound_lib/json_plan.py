@@ -9,7 +9,7 @@ from safebound.plan_texts import read_audit, read_plan
 
 from . import program
 from .explain import Run, read
-from .query import references_of, resolved
+from .query import references_of, resolved_column
 from .table import ACCURACY, BUDGET, COUNT, KEYS, REDUCE, USUAL_BUDGET
 from .words import option_of
 
@@ -39,7 +39,7 @@ def show(path: str, line: Line) -> int:
 
 @dataclass
 class Condition:
-    """A condition as written, the entries that it names, and the number of the first level or node where it holds."""
+    """A condition as written, the entries that it names, and the first level or node (by its number) where it holds."""
     text: str
     entries: list[str]
     step: int
@@ -50,7 +50,7 @@ def conditions_of(run: Run, plan: PlanText) -> list[Condition]:
     text, query, schema = read(run.query_file), run.query, run.schema
     steps = (
         [set(plan.leaves(number)) for number in range(len(plan.scans) + len(plan.nodes))] if plan.is_tree
-        else of_levels(plan)
+        else entries_of_levels(plan)
     )
     return [one_condition(text, query, schema, conjunct, steps, plan) for conjunct in query.conjuncts()]
 
@@ -89,7 +89,7 @@ def accuracy_in(file: str) -> int:
     return int(read(file).split(b"\n", 1)[0].rpartition(b" ")[2])
 
 
-def of_levels(plan: PlanText) -> list[set[str]]:
+def entries_of_levels(plan: PlanText) -> list[set[str]]:
     """The entries of each level."""
     order = [alias for alias, _ in plan.levels]
     return [set(order[:k + 1]) for k in range(len(order))]
@@ -118,7 +118,7 @@ def nodes_of(plan: PlanText, rows: list[int] | None, conditions: list[Condition]
 def one_condition(
     text: bytes, query: Query, schema: Schema, conjunct: Compound | Test, steps: list[set[str]], plan: PlanText
 ) -> Condition:
-    named = {resolved(query, reference, schema)[0].name for reference in references_of(conjunct)}
+    named = {resolved_column(query, reference, schema)[0].name for reference in references_of(conjunct)}
     entries = [entry.name for entry in query.entries if entry.name in named]
     first = next(number for number, step in enumerate(steps) if named <= step)
     written = " ".join(text[conjunct.start:conjunct.end].decode().split())

@@ -31,10 +31,10 @@ def main(words: list[str]) -> int:
             return with_schema(line, own_command)
         return with_schema(line, lambda whole: run_program(whole, is_last=whole is line))
     except Misused as fault:
-        return misused(f"safebound: {fault}")
+        return report_misuse(f"safebound: {fault}")
 
 
-def misused(text: str) -> int:
+def report_misuse(text: str) -> int:
     """Reports words that the friendly command can't take. On a terminal, lines are wrapped at its width."""
     if program.is_terminal(2):
         from .explain import wrapped
@@ -84,8 +84,8 @@ def with_schema(line: Line, run: Callable[[Line], int]) -> int:
     """Runs a line. If it lacks a schema, runs it with one that is proposed."""
     if not lacks_schema(line):
         return run(line)
-    from .propose import proposed
-    with proposed(line) as whole:
+    from .propose import with_proposed_schema
+    with with_proposed_schema(line) as whole:
         return run(whole)
 
 
@@ -93,13 +93,13 @@ def run_program(line: Line, is_last: bool) -> int:
     """Runs a command of the program itself. Where a fault may be explained, this process reads the program's standard
     error. Otherwise, if `is_last` says that nothing follows, the program replaces this process.
     """
-    path = program.found()
+    path = program.find_program()
     if JSON.word in line.own:
         from .json_plan import show
         return show(path, line)
     explains = is_explained(line)
     if is_last and not explains:
-        program.become(path, line.words)
+        program.replace_process(path, line.words)
     status, notes = program.run_and_read(path, line.words)
     if explains:
         explain(path, line, status, notes)
@@ -140,7 +140,8 @@ def own_command(line: Line) -> int:
         return schema(line)
     does: dict[str, Callable[[], int]] = {
         "help": lambda: show_help(line.words[1:]), "new": lambda: own.new(line.words[1:]),
-        "check": lambda: own.check(program.found(), line), "picture": lambda: own.picture(program.found(), line),
+        "check": lambda: own.check(program.find_program(), line),
+        "picture": lambda: own.picture(program.find_program(), line),
         "completion": lambda: own.completion(line.words[1:]),
     }
     return does[line.command]()
@@ -159,9 +160,9 @@ def show_help(topics: list[str]) -> int:
         raise Misused("help takes one word: a command, or errors")
     text = pages.topic(topics[0]) if topics else pages.overview()
     if text is None:
-        from .near import hint, listed
+        from .near import hint, series
         raise Misused(
-            f"there is no help on {topics[0]}.{hint(topics[0], pages.TOPICS)} There is help on {listed(pages.TOPICS)}"
+            f"there is no help on {topics[0]}.{hint(topics[0], pages.TOPICS)} There is help on {series(pages.TOPICS)}"
         )
     program.write(1, text)
     return 0
@@ -170,7 +171,7 @@ def show_help(topics: list[str]) -> int:
 def show_version() -> int:
     from . import places
     path = places.program()
-    said = f"{path}: {program.released()}" if path == places.RELEASED else path or "not built yet (make build)"
+    said = f"{path}: {program.release_name()}" if path == places.RELEASED else path or "not built yet (make build)"
     program.write(1, f"safebound {version()}\nprogram: {said}\n")
     return 0
 

@@ -22,7 +22,7 @@ def hint(name: str, names: Iterable[str]) -> str:
     return f" Did you mean {found}?" if found else ""
 
 
-def listed(names: Iterable[str], last: str = "and", most: int = 12) -> str:
+def series(names: Iterable[str], last: str = "and", most: int = 12) -> str:
     """Names in a sentence: `A, B and C`."""
     found = list(names)
     if len(found) > most:

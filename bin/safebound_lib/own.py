@@ -12,17 +12,17 @@ from safebound.plan_texts import PlanText, read_audit, read_plan
 
 from . import pages, places, program
 from .explain import Run, explained, not_connected, read
-from .explain.budgets import given, has, most_of, with_words
+from .explain.budgets import given_options, has_flag, most_of, with_words
 from .faults import fault_of
 from .html_page import page
 from .lists import lists_of
-from .near import listed
+from .near import series
 from .picture import draw
 from .query import read_query
 from .schema import read_schema
 from .shown import shown_of
 from .table import ACCURACY, BUDGET, COUNT, KEYS, OUTPUT, REDUCE, SHELLS, USUAL_BUDGET
-from .words import Misused, option_of, places as places_of
+from .words import Misused, option_of, positional_words
 
 if TYPE_CHECKING:
     from .lists import Listed
@@ -47,12 +47,12 @@ def new(words: list[str]) -> int:
             shutil.copyfile(os.path.join(source, name), os.path.join(folder, name))
     except OSError as fault:
         raise Misused(f"{folder}: {fault.strerror}") from None
-    line = f"    {called()} run schema.sql query.sql --data {folder}\n"
-    program.write(1, f"{folder}: {listed(names)}\nRun it, and then edit it:\n{line}")
+    line = f"    {command_name()} run schema.sql query.sql --data {folder}\n"
+    program.write(1, f"{folder}: {series(names)}\nRun it, and then edit it:\n{line}")
     return 0
 
 
-def called() -> str:
+def command_name() -> str:
     """How a user can call the command: by its name if the shell finds this file by it, else by its path."""
     found = shutil.which("safebound")
     is_it = found is not None and os.path.realpath(found) == os.path.realpath(sys.argv[0])
@@ -63,7 +63,7 @@ def check(path: str, line: Line) -> int:
     """Checks the two texts without tables: it plans them in a folder that has no table. If the plan fails only because
     a table can't be read, both texts are valid.
     """
-    files = places_of(line.words[1:])
+    files = positional_words(line.words[1:])
     if len(files) not in (1, 2) or len(files) != len([w for w in line.words[1:] if w != "--"]):
         raise Misused("check takes the schema and maybe the query: safebound check SCHEMA [QUERY]")
     with tempfile.TemporaryDirectory(prefix="safebound-") as empty:
@@ -77,7 +77,7 @@ def check(path: str, line: Line) -> int:
         fault.kind == "read" and fault.file not in absolute or len(files) == 1 and fault.kind == "query"
     )
     if is_right:
-        program.write(1, found_right(files))
+        program.write(1, valid_message(files))
         return 0
     return tell(notes, fault, Run(["plan", "--", *files], path, line.user_folder), dict(zip(absolute, files)), status)
 
@@ -91,16 +91,16 @@ def tell(notes: bytes, fault: Fault | None, run: Run, names: dict[str, str], sta
     return status
 
 
-def found_right(files: list[str]) -> str:
+def valid_message(files: list[str]) -> str:
     """One line for each text, on what was read."""
     schema = read_schema(read(files[0]))
     said = (
         f"{files[0]}: right. Tables:"
-        f" {listed((f'{t.name} ({len(t.columns)} columns)' for t in schema.tables), most=64)}\n"
+        f" {series((f'{t.name} ({len(t.columns)} columns)' for t in schema.tables), most=64)}\n"
     )
     if len(files) == 2:
         query = read_query(read(files[1]))
-        entries = listed(
+        entries = series(
             e.name if e.name == e.table.name else f"{e.name} (table {e.table.name})" for e in query.entries
         )
         said += f"{files[1]}: right. Entries: {entries}\n" + not_connected(Run(["plan", "--", *files]))
@@ -117,29 +117,29 @@ def picture(path: str, line: Line) -> int:
     rows: list[int] | None = None
     if status:
         tell(notes, fault_of(notes), run, {}, status)
-        plan, budget = refused(run, fault_of(notes)), budget or USUAL_BUDGET
+        plan, budget = refused_plan(run, fault_of(notes)), budget or USUAL_BUDGET
         if plan is None:
             return status
     else:
         plan = read_plan(notes.decode())
         rows = read_audit(out.decode(), plan)
     to = line.own.get(OUTPUT.word, "plan.svg")
-    return save(drawn(run, shown_of(run, plan, rows, budget), to), to, run) or status
+    return save(picture_text(run, shown_of(run, plan, rows, budget), to), to, run) or status
 
 
-def refused(run: Run, fault: Fault | None) -> PlanText | None:
+def refused_plan(run: Run, fault: Fault | None) -> PlanText | None:
     """The plan that the budget refuses, made again under the greatest budget. None if that budget refuses it too."""
     if not fault or fault.kind != "budget" or fault.least > most_of(run):
         return None
-    plan = with_words(run, given(run, fault.least))
+    plan = with_words(run, given_options(run, fault.least))
     return plan if isinstance(plan, PlanText) else None
 
 
-def drawn(run: Run, shown: Shown, to: str) -> str:
+def picture_text(run: Run, shown: Shown, to: str) -> str:
     """The picture, or an HTML page if the file's name ends in .html or .htm."""
     if not to.lower().endswith((".html", ".htm")):
         return draw(shown)
-    flags = [flag.word for flag in (REDUCE, COUNT, KEYS) if has(run, flag)]
+    flags = [flag.word for flag in (REDUCE, COUNT, KEYS) if has_flag(run, flag)]
     return page(shown, {} if {REDUCE.word, COUNT.word} & set(flags) else lists_beside(run), flags)
 
 
@@ -168,6 +168,6 @@ def save(text: str, to: str, run: Run) -> int:
 
 def completion(words: list[str]) -> int:
     if len(words) != 1 or words[0] not in SHELLS:
-        raise Misused(f"completion takes one word: {listed(SHELLS, 'or')}")
+        raise Misused(f"completion takes one word: {series(SHELLS, 'or')}")
     program.write(1, pages.completion(words[0]))
     return 0

@@ -7,7 +7,7 @@ from typing import TYPE_CHECKING
 
 from . import version
 from .places import page
-from .table import BY_WORD, COMMANDS, HELP, SHELLS, VERSION as VERSION_OPTION, numbered
+from .table import BY_WORD, COMMANDS, HELP, SHELLS, VERSION as VERSION_OPTION, options_with_number
 from .terminal import columns
 
 if TYPE_CHECKING:
@@ -38,7 +38,7 @@ def overview(stream: int = 1) -> str:
     """The help, as wide as the terminal of the stream with this number."""
     wide = columns(stream)
     lines = [*wrapped(f"safebound {version()}: {SUMMARY}", wide), "", *wrapped(ABOUT, wide), "", "Commands:"]
-    lines += [entry(" ".join([c.word, *places_of(c)]), c.help, wide) for c in COMMANDS]
+    lines += [word_with_meaning(" ".join([c.word, *places_of(c)]), c.help, wide) for c in COMMANDS]
     lines += [
         "",
         *wrapped(OWN_OPTIONS, wide),
@@ -58,8 +58,8 @@ def overview(stream: int = 1) -> str:
 
 
 def places_of(command: Command) -> list[str]:
-    needed = len(command.places) - command.optional
-    return [place if i < needed else f"[{place}]" for i, place in enumerate(command.places)]
+    needed = len(command.positional) - command.optional
+    return [place if i < needed else f"[{place}]" for i, place in enumerate(command.positional)]
 
 
 def of_command(command: Command) -> str:
@@ -68,13 +68,13 @@ def of_command(command: Command) -> str:
         wrapped(f"safebound {command.spelled}", wide, "    ") + [""]
         + wrapped(f"{command.help[0].upper()}{command.help[1:]}. {command.more}".strip(), wide)
     )
-    lines += ["", "Options:", *(entry(o.spelled, described(o), wide) for o in options_of(command))]
+    lines += ["", "Options:", *(word_with_meaning(o.spelled, option_help(o), wide) for o in options_of(command))]
     if command.examples:
         lines += ["", "Examples:", *(f"    {example}" for example in command.examples)]
     return "\n".join(lines) + "\n"
 
 
-def described(option: Option) -> str:
+def option_help(option: Option) -> str:
     """The option's help, and its range if it has one."""
     return option.help + (f" ({option.least:,} to {option.most:,})" if option.least is not None else "")
 
@@ -83,7 +83,7 @@ def wrapped(text: str, wide: int, indent: str = "", first: str = "") -> list[str
     return textwrap.wrap(text, wide, initial_indent=first, subsequent_indent=indent, break_on_hyphens=False)
 
 
-def entry(word: str, text: str, wide: int) -> str:
+def word_with_meaning(word: str, text: str, wide: int) -> str:
     """A word with its meaning in a second column. If the word is too long for its column, the meaning goes below it."""
     first = f"  {word:<22} " if len(word) <= 22 else f"  {word}\n{'':25}"
     above, _, indent = first.rpartition("\n")
@@ -98,8 +98,9 @@ def errors() -> str:
     for line in lines:
         cells = [plain(cell.strip()) for cell in line.strip("|").split("|")]
         if line.startswith("| `error") and len(cells) == 4:
-            found += [*wrapped(f"{cells[0]}  (exit status {cells[1]})", columns(1), "    "), *indented(f"{cells[2]}.")]
-            found += indented(f"To do: {cells[3]}.") if cells[3] else []
+            found += wrapped(f"{cells[0]}  (exit status {cells[1]})", columns(1), "    ")
+            found += indented_lines(f"{cells[2]}.")
+            found += indented_lines(f"To do: {cells[3]}.") if cells[3] else []
             found.append("")
     return "\n".join(found)
 
@@ -114,7 +115,7 @@ def plain(text: str) -> str:
     return re.sub(r"\bdocs/(\w+\.md)", lambda found: page(found[1]), text)
 
 
-def indented(text: str) -> list[str]:
+def indented_lines(text: str) -> list[str]:
     return textwrap.wrap(
         text, columns(1), initial_indent="    ", subsequent_indent="    ", break_on_hyphens=False,
         break_long_words=False,
@@ -141,7 +142,7 @@ def man() -> str:
     lines.append(".SH OPTIONS")
     for option in dict.fromkeys(o for c in COMMANDS for o in c.options):
         of = ", ".join(c.word for c in COMMANDS if option in c.options)
-        lines += [".TP", f".B {roff(option.spelled)}", roff(f"{described(option)}. With {of}.")]
+        lines += [".TP", f".B {roff(option.spelled)}", roff(f"{option_help(option)}. With {of}.")]
     lines += [
         ".SH EXIT STATUS", roff(STATUSES), ".SH LIMITS", roff(LIMITS), ".SH EXAMPLES", ".nf",
         *(roff(e) for c in COMMANDS for e in c.examples), ".fi",
@@ -168,7 +169,7 @@ def completion(shell: str) -> str:
     cases = "\n".join(f"        {word}) known={options!r};;" for word, options in words.items())
     commands = " ".join([*words, HELP.word, VERSION_OPTION.word])
     return {"bash": BASH, "zsh": ZSH}[shell].format(
-        commands=commands, cases=cases, numbers="|".join(sorted(numbered())), topics=" ".join(TOPICS),
+        commands=commands, cases=cases, numbers="|".join(sorted(options_with_number())), topics=" ".join(TOPICS),
         shells=" ".join(SHELLS),
     )
 

@@ -5,7 +5,7 @@ node's bar lies between those of the two nodes that it joins, and the tree is dr
 are listed at the bottom.
 
 Heights are logarithms: each step of the grid is a factor of ten. Where the true number of rows is known, it is a bar
-within the bound's bar. The budget is a line that never crosses a number.
+within the bound's bar. The budget is a line; a bar's number that it would cross is written above it.
 """
 from __future__ import annotations
 
@@ -21,10 +21,11 @@ if TYPE_CHECKING:
     from .shown import Shown
 
 TOP, HEIGHT, LEFT, RIGHT = 92, 240, 100, 24
-COLUMN, BAR, GAP, NODE, STEP = 160, 56, 12, 84, 34
-SCAN, LEVEL, PAST, TRUE, BUDGET, INK, GRID = "#a8c8e8", "#3b7dbf", "#e08a7d", "#123a66", "#c0392b", "#222222", "#dddddd"
+COLUMN_WIDTH, BAR_WIDTH, GAP_WIDTH, NODE_WIDTH, LAYER_HEIGHT = 160, 56, 12, 84, 34
+SCAN_COLOUR, STEP_COLOUR, EXCESS_COLOUR, ROWS_COLOUR = "#a8c8e8", "#3b7dbf", "#e08a7d", "#123a66"
+BUDGET_COLOUR, INK, GRID_COLOUR = "#c0392b", "#222222", "#dddddd"
 DASHES = ' stroke-dasharray="5 4"'
-NAMES, WORDS = LEFT + 96, LEFT + 188
+KIND_X, CONDITION_X = LEFT + 96, LEFT + 188
 
 
 def short(name: str, most: int) -> str:
@@ -91,7 +92,7 @@ class Picture:
     def grid(self) -> None:
         self.text(LEFT - 92, TOP - 20, "rows; each line is ten times the one below (logarithmic)", 11, "start")
         for power in range(self.decades + 1):
-            self.text(LEFT - 8, self.line(10**power, GRID) + 4, f"{10**power:,}", 11, "end")
+            self.text(LEFT - 8, self.line(10**power, GRID_COLOUR) + 4, f"{10**power:,}", 11, "end")
         self.parts.append(f'<path d="M{LEFT} {self.foot}H{self.width - RIGHT}" stroke="{INK}"/>')
 
     def legend(self) -> float:
@@ -99,18 +100,18 @@ class Picture:
         shown, step = self.shown, self.shown.step
         x: float = LEFT
         has_steps = bool(shown.plan.levels or shown.plan.nodes)
-        past = any(shown.is_past(bound) for bound in shown.plan.bounds)
+        exceeds_budget = any(shown.is_past(bound) for bound in shown.plan.bounds)
         of_steps = (
-            [(LEVEL, f"bound of the {step}")] + [(PAST, f"{step} past the budget")] * past
-            + [(TRUE, "its true rows")] * (shown.rows is not None)
+            [(STEP_COLOUR, f"bound of the {step}")] + [(EXCESS_COLOUR, f"{step} past the budget")] * exceeds_budget
+            + [(ROWS_COLOUR, "its true rows")] * (shown.rows is not None)
         )
-        for ink, words in [(SCAN, "bound of the scan")] + of_steps * has_steps:
+        for ink, words in [(SCAN_COLOUR, "bound of the scan")] + of_steps * has_steps:
             self.parts.append(f'<rect x="{x}" y="38" width="12" height="12" fill="{ink}"/>')
             self.text(x + 18, 48, words, 12, "start")
             x += 34 + width_of(words, 12)
         if shown.budget is not None:
-            self.parts.append(f'<path d="M{x:.1f} 44h22" stroke="{BUDGET}"{DASHES}/>')
-            self.text(x + 28, 48, f"budget {shown.budget:,}", 12, "start", BUDGET)
+            self.parts.append(f'<path d="M{x:.1f} 44h22" stroke="{BUDGET_COLOUR}"{DASHES}/>')
+            self.text(x + 28, 48, f"budget {shown.budget:,}", 12, "start", BUDGET_COLOUR)
             x += 44 + width_of(f"budget {shown.budget:,}", 12)
         return x - LEFT
 
@@ -119,18 +120,18 @@ class Picture:
         y = self.foot + below
         for name, kind, words in self.shown.said():
             lines = textwrap.wrap(
-                words, max(20, int((self.width - RIGHT - WORDS) / width_of("m", 11))), break_long_words=True
+                words, max(20, int((self.width - RIGHT - CONDITION_X) / width_of("m", 11))), break_long_words=True
             )
             self.text(LEFT, y, short(name, 12), 11, "start", weight="bold")
-            self.text(NAMES, y, kind, 11, "start")
+            self.text(KIND_X, y, kind, 11, "start")
             for number, line in enumerate(lines):
-                self.text(WORDS, y + 16 * number, line, 11, "start")
+                self.text(CONDITION_X, y + 16 * number, line, 11, "start")
             y += 16 * len(lines)
         return y
 
     def svg(self, below: int) -> str:
         if self.shown.budget is not None:
-            self.line(self.shown.budget, BUDGET, DASHES)
+            self.line(self.shown.budget, BUDGET_COLOUR, DASHES)
         for x, y, words in self.numbers:
             self.text(x, y, words, 11)
         height = self.conditions(below)
@@ -153,14 +154,14 @@ def draw(shown: Shown, is_linked: bool = False) -> str:
 
 
 def draw_order(shown: Shown, is_linked: bool) -> str:
-    picture = Picture(shown, len(shown.plan.levels) * COLUMN, is_linked)
+    picture = Picture(shown, len(shown.plan.levels) * COLUMN_WIDTH, is_linked)
     for number, (alias, bound) in enumerate(shown.plan.levels):
-        left = LEFT + number * COLUMN + (COLUMN - 2 * BAR - GAP) / 2
+        left = LEFT + number * COLUMN_WIDTH + (COLUMN_WIDTH - 2 * BAR_WIDTH - GAP_WIDTH) / 2
         draw_scan(picture, alias, left)
-        draw_step(picture, number, left + BAR + GAP, bound)
-        middle = left + BAR + GAP / 2
+        draw_step(picture, number, left + BAR_WIDTH + GAP_WIDTH, bound)
+        middle = left + BAR_WIDTH + GAP_WIDTH / 2
         if number:
-            picture.text(LEFT + number * COLUMN, picture.foot + 20, "→", 14)
+            picture.text(LEFT + number * COLUMN_WIDTH, picture.foot + 20, "→", 14)
         picture.text(middle, picture.foot + 20, f"{number + 1}  {short(alias, 14)}", 13, weight="bold")
         if shown.table(alias) != alias:
             picture.text(middle, picture.foot + 38, short(shown.table(alias), 21), 11)
@@ -173,21 +174,23 @@ def draw_order(shown: Shown, is_linked: bool) -> str:
 
 def draw_scan(picture: Picture, alias: str, left: float) -> None:
     bound = picture.shown.plan.scans[alias]
-    picture.bar(left, BAR, bound, SCAN, f"scan {alias}: at most {bound:,} rows", picture.shown.entry_id(alias))
-    picture.number(left + BAR / 2, bound)
+    says, to = f"scan {alias}: at most {bound:,} rows", picture.shown.entry_id(alias)
+    picture.bar(left, BAR_WIDTH, bound, SCAN_COLOUR, says, to)
+    picture.number(left + BAR_WIDTH / 2, bound)
 
 
 def draw_step(picture: Picture, at: int, left: float, bound: int) -> None:
     """Draws the bar of the level or inner node with this index, and its true rows within."""
     shown = picture.shown
     name, to = shown.step_name(at), shown.step_id(at)
-    picture.bar(left, BAR, bound, PAST if shown.is_past(bound) else LEVEL, f"{name}: at most {bound:,} rows", to)
-    picture.number(left + BAR / 2, bound)
+    colour = EXCESS_COLOUR if shown.is_past(bound) else STEP_COLOUR
+    picture.bar(left, BAR_WIDTH, bound, colour, f"{name}: at most {bound:,} rows", to)
+    picture.number(left + BAR_WIDTH / 2, bound)
     if shown.rows is not None:
-        picture.bar(left + 8, BAR - 16, shown.rows[at], TRUE, f"{name}: {shown.rows[at]:,} rows", to)
+        picture.bar(left + 8, BAR_WIDTH - 16, shown.rows[at], ROWS_COLOUR, f"{name}: {shown.rows[at]:,} rows", to)
 
 
-def depths(plan: PlanText) -> list[int]:
+def heights(plan: PlanText) -> list[int]:
     """The height of each node in the tree. A leaf has height 0."""
     found = [0] * len(plan.scans)
     for node in plan.nodes:
@@ -206,10 +209,10 @@ def in_order(plan: PlanText, number: int) -> list[int]:
 def draw_tree(shown: Shown, is_linked: bool) -> str:
     plan = shown.plan
     leaves, last = len(plan.scans), len(plan.scans) + len(plan.nodes) - 1
-    columns, depth = in_order(plan, last), depths(plan)
-    picture = Picture(shown, len(columns) * NODE, is_linked)
-    middle = {number: LEFT + at * NODE + NODE / 2 for at, number in enumerate(columns)}
-    low = {number: picture.foot + 20 + STEP * depth[number] for number in columns}
+    columns, height = in_order(plan, last), heights(plan)
+    picture = Picture(shown, len(columns) * NODE_WIDTH, is_linked)
+    middle = {number: LEFT + at * NODE_WIDTH + NODE_WIDTH / 2 for at, number in enumerate(columns)}
+    low = {number: picture.foot + 20 + LAYER_HEIGHT * height[number] for number in columns}
     for number, node in enumerate(plan.nodes, leaves):
         for other in (node.left, node.right):
             top = low[other] + 4 + 16 * (other < leaves)
@@ -218,7 +221,7 @@ def draw_tree(shown: Shown, is_linked: bool) -> str:
             )
     for number in columns:
         draw_leaf(picture, number, middle, low) if number < leaves else draw_node(picture, number, middle, low)
-    foot = 20 + STEP * depth[last] + 32
+    foot = 20 + LAYER_HEIGHT * height[last] + 32
     if shown.rows is not None and plan.nodes:
         picture.text(LEFT - 8, picture.foot + foot - 12, "true rows", 11, "end")
     return picture.svg(foot + 32)
@@ -226,7 +229,7 @@ def draw_tree(shown: Shown, is_linked: bool) -> str:
 
 def draw_leaf(picture: Picture, number: int, middle: dict[int, float], low: dict[int, int]) -> None:
     alias, x = picture.shown.plan.entries[number], middle[number]
-    draw_scan(picture, alias, x - BAR / 2)
+    draw_scan(picture, alias, x - BAR_WIDTH / 2)
     picture.text(x, low[number], f"{number}  {short(alias, 8)}", 13, weight="bold")
     if picture.shown.table(alias) != alias:
         picture.text(x, low[number] + 15, short(picture.shown.table(alias), 12), 11)
@@ -235,7 +238,7 @@ def draw_leaf(picture: Picture, number: int, middle: dict[int, float], low: dict
 def draw_node(picture: Picture, number: int, middle: dict[int, float], low: dict[int, int]) -> None:
     shown, x = picture.shown, middle[number]
     at = number - len(shown.plan.scans)
-    draw_step(picture, at, x - BAR / 2, shown.plan.nodes[at].bound)
+    draw_step(picture, at, x - BAR_WIDTH / 2, shown.plan.nodes[at].bound)
     picture.text(x, low[number] + 4, str(number), 13, weight="bold")
     if shown.rows is not None:
         picture.text(x, low[number] + 20, f"{shown.rows[at]:,} of {shown.plan.nodes[at].bound:,}", 11)

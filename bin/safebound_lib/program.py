@@ -16,7 +16,7 @@ NO_PROGRAM = """safebound: the proved program isn't here. In the repository, `ma
 SAFEBOUND_PROGRAM names a program that lies elsewhere."""
 
 
-def found() -> str:
+def find_program() -> str:
     """The path of the program. Without a program the command ends. If it is the release's program, a terminal gets a
     message that says so.
     """
@@ -24,17 +24,17 @@ def found() -> str:
     if path is None:
         sys.exit(NO_PROGRAM)
     if path == places.RELEASED and is_terminal(2):
-        say(f"{released()[:1].upper()}{released()[1:]} runs. `make build` proves and builds one here.\n")
+        say(f"{release_name()[:1].upper()}{release_name()[1:]} runs. `make build` proves and builds one here.\n")
     return path
 
 
-def released() -> str:
+def release_name() -> str:
     """How messages name the release's program."""
     told = places.release()
     return f"the program of release {told['version']} (dist/, built from commit {told['commit'][:12]})"
 
 
-def become(path: str, words: list[str]) -> None:
+def replace_process(path: str, words: list[str]) -> None:
     """Replaces this process by the program. Signals that Python ignores get their default actions back."""
     for name in (signal.SIGPIPE, signal.SIGXFSZ):
         signal.signal(name, signal.SIG_DFL)

@@ -12,17 +12,17 @@ from typing import Optional
 
 from . import program
 from .convert import not_text_message
-from .explain import laid_out
+from .explain import wrapped_blocks
 from .explain.reads import OF_SHEETS, OF_TEXTS
 from .explain.usage import is_query
 from .query import read_query
 from .sheets import Column, NoTable, Sheet, sheet_of
-from .spot import cut, plain
+from .spot import cut_text, plain
 from .table import DATA, RESULT
 from .terminal import columns
-from .words import Line, Misused, places
+from .words import Line, Misused, positional_words
 
-MOST_TABLES, NOT_ALL = 64, 6
+MOST_TABLES, STATUS_FILES_LEFT_OUT = 64, 6
 # A column that refers to a table often has that table's name with one of these endings.
 ENDINGS = re.compile(r"_?(ID|NO|NR|NUM|NUMBER|CODE|KEY|NAME)$")
 
@@ -53,12 +53,12 @@ class Proposal:
             re.sub(r"\s+", " ", table_text(sheet, self.sheets)).replace("( ", "(").replace(" )", ")")
             for sheet in self.sheets
         ]
-        head = f"-- This schema is proposed from the rows. {kept(files, target, uses)}\n"
-        return head + "".join(f"{cut(line.strip(), room) if room else line.strip()}\n" for line in lines)
+        head = f"-- This schema is proposed from the rows. {how_to_keep(files, target, uses)}\n"
+        return head + "".join(f"{cut_text(line.strip(), room) if room else line.strip()}\n" for line in lines)
 
 
-def kept(files: list[str], target: str, uses: str) -> str:
-    """How to keep a proposed schema. If a schema.sql exists already, the command `uses`, which uses it."""
+def how_to_keep(files: list[str], target: str, uses: str) -> str:
+    """How to keep a proposed schema. If a schema.sql exists already, the command that uses it: `uses`."""
     if os.path.exists("schema.sql"):
         return f"{plain(target)} is there, and isn't used. This uses it:\n--     {plain(uses)}"
     return f"To keep it, and edit it:\n--     safebound schema {' '.join(map(plain, files))} --output {plain(target)}"
@@ -106,7 +106,7 @@ def column_type(column: Column) -> str:
 
 def rules(column: Column, primary: Optional[Column], sheet: Sheet, sheets: list[Sheet]) -> str:
     said = " PRIMARY KEY" if column is primary else " NOT NULL UNIQUE" if sheet.is_key(column) else " NOT NULL"
-    target = referred(column, sheet, sheets)
+    target = referred_column(column, sheet, sheets)
     if target is None:
         return said
     other, key = target
@@ -118,12 +118,13 @@ def primary_of(sheet: Sheet) -> Optional[Column]:
     no repeated values, else None.
     """
     keys = [column for column in sheet.columns if sheet.is_key(column)]
-    named = [column for column in keys if bare(column.name) in ("", bare(sheet.name), singular(bare(sheet.name)))]
+    stems = ("", stem_of(sheet.name), singular(stem_of(sheet.name)))
+    named = [column for column in keys if stem_of(column.name) in stems]
     first = [column for column in keys if column is sheet.columns[0]]
     return next(iter(named + first), None)
 
 
-def bare(name: str) -> str:
+def stem_of(name: str) -> str:
     """A name without an ending such as _ID. Columns that refer to a key often have one."""
     return ENDINGS.sub("", name.strip('"').upper())
 
@@ -135,7 +136,7 @@ def singular(name: str) -> str:
     return name
 
 
-def referred(column: Column, sheet: Sheet, sheets: list[Sheet]) -> Optional[tuple[Sheet, Column]]:
+def referred_column(column: Column, sheet: Sheet, sheets: list[Sheet]) -> Optional[tuple[Sheet, Column]]:
     """The table and key to which a column refers: the key has all the column's values, and the column's name is made
     from the name of the table or of the key.
     """
@@ -143,23 +144,24 @@ def referred(column: Column, sheet: Sheet, sheets: list[Sheet]) -> Optional[tupl
         (other, key) for other in sheets if other is not sheet for key in other.columns if other.is_key(key)
         and column.values and key.is_number == column.is_number and column.values.keys() <= key.values.keys()
     ]
-    named = [(other, key) for other, key in found if names(column, other, key)]
+    named = [(other, key) for other, key in found if is_named_after(column, other, key)]
     return max(named, key=lambda pair: pair[1] is primary_of(pair[0])) if named else None
 
 
-def names(column: Column, other: Sheet, key: Column) -> bool:
+def is_named_after(column: Column, other: Sheet, key: Column) -> bool:
     """Whether a column's name fits: it is the table's or the key's name, perhaps with an ending, or it ends in _ and
     the table's name.
     """
     tables = {other.name.strip('"'), singular(other.name.strip('"'))}
     whole = column.name.strip('"').upper()
-    called = {whole, bare(column.name), whole.rpartition("_")[2], bare(column.name).rpartition("_")[2]}
-    return bool(called & tables) or column.name == key.name and bare(key.name) != ""
+    called = {whole, stem_of(column.name), whole.rpartition("_")[2], stem_of(column.name).rpartition("_")[2]}
+    return bool(called & tables) or column.name == key.name and stem_of(key.name) != ""
 
 
 def schema(line: Line) -> int:
     """Runs `safebound schema`: the schema text goes to standard output, the sentences to standard error."""
-    files = [file for word in places(line.words[1:]) for file in (tables_in(word) if os.path.isdir(word) else [word])]
+    words = positional_words(line.words[1:])
+    files = [file for word in words for file in (tables_in(word) if os.path.isdir(word) else [word])]
     if not files:
         raise Misused("schema takes the tables' files, or their folder: safebound schema FILE.csv..")
     found = proposal(files)
@@ -169,7 +171,7 @@ def schema(line: Line) -> int:
     if found.sheets:
         write(found.text, line.own.get(RESULT.word, "-"))
     program.say(sentences(found.says))
-    return NOT_ALL if found.left_out else 0
+    return STATUS_FILES_LEFT_OUT if found.left_out else 0
 
 
 def write(text: str, to: str) -> None:
@@ -190,7 +192,7 @@ def write(text: str, to: str) -> None:
 
 def sentences(says: list[str]) -> str:
     """The sentences. For a terminal they are wrapped to its width."""
-    return laid_out(says) if program.is_terminal(2) else "".join(f"{said}\n" for said in says)
+    return wrapped_blocks(says) if program.is_terminal(2) else "".join(f"{said}\n" for said in says)
 
 
 def tables_in(folder: str) -> list[str]:
@@ -202,24 +204,24 @@ def tables_in(folder: str) -> list[str]:
 
 
 @contextlib.contextmanager
-def proposed(line: Line) -> Iterator[Line]:
+def with_proposed_schema(line: Line) -> Iterator[Line]:
     """The line with a schema's file, which is proposed from the tables in this folder.
 
     Standard error shows the schema in short, and what a user has to know about the tables, since the run may fail
     because of it. If a table is missing or its file gives no table, nothing of this is shown: it would hide that fault.
     """
-    query = places(line.words[1:])[0]
+    query = positional_words(line.words[1:])[0]
     wanted = tables_of(query)
-    is_whole = bool(wanted) and all(map(os.path.isfile, wanted))
-    found = proposal(wanted if is_whole else tables_in("."), line.user_folder)
+    has_all_tables = bool(wanted) and all(map(os.path.isfile, wanted))
+    found = proposal(wanted if has_all_tables else tables_in("."), line.user_folder)
     if not found.sheets:
         folder = line.own[DATA.word]
         raise Misused(
             "\n".join(
-                ["no schema can be proposed.", *found.says, *([] if found.says else none_in(folder, line.user_folder))]
+                ["no schema can be proposed.", *(found.says or no_tables_sentences(folder, line.user_folder))]
             )
         )
-    if is_whole and not found.left_out:
+    if has_all_tables and not found.left_out:
         files = [word_of(sheet.file, line.user_folder) for sheet in found.sheets]
         uses = line_with_schema(line.command, "schema.sql", query, line.own[DATA.word])
         program.say(found.short(files, word_of("schema.sql", line.user_folder), uses) + "\n" + sentences(found.says))
@@ -231,7 +233,7 @@ def proposed(line: Line) -> Iterator[Line]:
         yield Line([*line.words[:at], file, *line.words[at:]], line.own, line.user_folder, is_proposed=True)
 
 
-def none_in(folder: str, user_folder: Optional[str]) -> list[str]:
+def no_tables_sentences(folder: str, user_folder: Optional[str]) -> list[str]:
     """Sentences on a folder that has no table's file: which other files it has."""
     says = [f"In {DATA.word} {plain(folder)} there is no file that ends in .csv."]
     for name in sorted(os.listdir(".")):

@@ -92,8 +92,8 @@ class Compound:
 
 @dataclass
 class Query:
-    """The parts of a query text that were read. For a valid query `tested` is empty. Otherwise `wrong` is the number of
-    the first token that isn't allowed, and `tested` has what is allowed in its place.
+    """The parts of a query text that were read. For a valid query `expected` is empty. Otherwise `wrong_at` is the
+    number of the first token that isn't allowed, and `expected` has what is allowed in its place.
     """
     tokens: list[Token]
     entries: list[Entry] = field(default_factory=list)
@@ -101,8 +101,8 @@ class Query:
     references: list[Reference] = field(default_factory=list)
     tests: list[Test] = field(default_factory=list)
     literals: list[Literal] = field(default_factory=list)
-    wrong: int | None = None
-    tested: tuple[str, ...] = ()
+    wrong_at: int | None = None
+    expected: tuple[str, ...] = ()
 
     def conjuncts(self) -> list[Compound | Test]:
         return [member for condition in self.conditions for member in members(condition)]
@@ -116,15 +116,15 @@ class QueryReader(Reader):
     def read(self) -> None:
         self.take("SELECT")
         if not self.maybe("*"):
-            self.many(self.out)
+            self.separated(self.out)
         self.take("FROM")
-        self.many(self.part)
+        self.separated(self.part)
         if self.maybe("WHERE"):
             self.query.conditions.append(self.condition())
         self.maybe(";")
         self.test(lambda token: False, "the end of the text")
         if self.token is not None:
-            self.wrong()
+            self.fail()
 
     def out(self) -> None:
         first = self.take_name("a column")
@@ -151,7 +151,7 @@ class QueryReader(Reader):
         self.source(first)
         while self.has("INNER") or self.has("JOIN"):
             if self.maybe("INNER") and not self.has("JOIN"):
-                self.wrong()
+                self.fail()
             self.take("JOIN")
             self.source(first)
             self.take("ON")
@@ -168,7 +168,7 @@ class QueryReader(Reader):
         return self.joined("OR", lambda: self.joined("AND", self.factor))
 
     def joined(self, by: str, rule: Callable[[], Compound | Test]) -> Compound | Test:
-        found = self.many(rule, by)
+        found = self.separated(rule, by)
         return found[0] if len(found) == 1 else Compound(by, found, found[0].start, found[-1].end)
 
     def factor(self) -> Compound | Test:
@@ -194,10 +194,10 @@ class QueryReader(Reader):
             return self.tested_by("NOT BETWEEN" if negated else "BETWEEN", [left, low, self.operand()])
         if self.maybe("IN"):
             self.take("(")
-            values = self.many(self.literal)
+            values = self.separated(self.literal)
             return self.tested_by("NOT IN" if negated else "IN", [left, *values], self.take(")").end)
         if negated:
-            self.wrong()
+            self.fail()
         operator = self.take(*OPERATORS)
         return self.tested_by(operator.source, [left, self.operand()])
 
@@ -216,7 +216,7 @@ class QueryReader(Reader):
         if self.has_kind("number", "a number") or not sign and self.has_kind("text", "a text in single quotes"):
             self.query.literals.append(Literal([sign, self.next()] if sign else [self.next()]))
             return self.query.literals[-1]
-        return self.wrong()
+        return self.fail()
 
 
 def members(condition: Compound | Test) -> list[Compound | Test]:
@@ -239,13 +239,13 @@ def read_query(text: bytes) -> Query:
     try:
         reader.read()
     except Wrong:
-        reader.query.wrong, reader.query.tested = reader.furthest, tuple(reader.tested)
+        reader.query.wrong_at, reader.query.expected = reader.furthest, tuple(reader.expected)
     for reference in reader.query.references:
         reference.scope = reference.scope or range(len(reader.query.entries))
     return reader.query
 
 
-def visible(query: Query, reference: Reference, schema: Schema) -> list[tuple[Entry, Table, Column]]:
+def visible_columns(query: Query, reference: Reference, schema: Schema) -> list[tuple[Entry, Table, Column]]:
     """The entries in scope that a reference may mean, each with its table and the column."""
     found = []
     for number in reference.scope:
@@ -259,22 +259,22 @@ def visible(query: Query, reference: Reference, schema: Schema) -> list[tuple[En
     return found
 
 
-def meant(query: Query, reference: Reference, schema: Schema) -> tuple[Entry, Table, Column] | None:
+def meant_column(query: Query, reference: Reference, schema: Schema) -> tuple[Entry, Table, Column] | None:
     """The entry, the table and the column that a reference means. None unless it means exactly one."""
-    found = visible(query, reference, schema)
+    found = visible_columns(query, reference, schema)
     return found[0] if len(found) == 1 else None
 
 
-def resolved(query: Query, reference: Reference, schema: Schema) -> tuple[Entry, Table, Column]:
+def resolved_column(query: Query, reference: Reference, schema: Schema) -> tuple[Entry, Table, Column]:
     """Like `meant`, for a reference that the program has resolved: it has exactly one meaning."""
-    return visible(query, reference, schema)[0]
+    return visible_columns(query, reference, schema)[0]
 
 
 def equality(query: Query, condition: Compound | Test, schema: Schema) -> tuple[int, int] | None:
     """The numbers of the two entries whose columns an equality joins, or None if the condition is no equality."""
     if not isinstance(condition, Test) or condition.operator != "=":
         return None
-    one, other = (meant(query, o, schema) if isinstance(o, Reference) else None for o in condition.operands)
+    one, other = (meant_column(query, o, schema) if isinstance(o, Reference) else None for o in condition.operands)
     if not one or not other or one[0] is other[0]:
         return None
     return number_of_entry(query, one[0]), number_of_entry(query, other[0])

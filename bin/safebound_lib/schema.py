@@ -22,7 +22,7 @@ class Column:
     token: Token
     type: str
     length: int | None = None
-    is_whole: bool = False
+    is_not_null: bool = False
 
     @property
     def name(self) -> str:
@@ -36,8 +36,8 @@ class Column:
 @dataclass
 class Reference:
     target: Token
-    columns: list[Token]
-    of: list[Token]
+    target_columns: list[Token]
+    referring_columns: list[Token]
 
 
 @dataclass
@@ -62,13 +62,13 @@ class Table:
 
 @dataclass
 class Schema:
-    """The parts of a schema text that were read. If `tested` is empty, that is all of it. Otherwise it is all before
-    the token `wrong`.
+    """The tables of a schema text, as far as it was read. For a valid schema `expected` is empty. Otherwise the text
+    was read up to the token number `wrong_at`, and `expected` has what is allowed in its place.
     """
     tables: list[Table]
     tokens: list[Token]
-    wrong: int | None = None
-    tested: tuple[str, ...] = ()
+    wrong_at: int | None = None
+    expected: tuple[str, ...] = ()
 
     def table(self, name: str) -> Table | None:
         return next((table for table in self.tables if table.name == name), None)
@@ -84,7 +84,7 @@ class SchemaReader(Reader):
         while self.maybe(";") and not self.test_end():
             self.table()
         if not self.test_end():
-            self.wrong()
+            self.fail()
 
     def test_end(self) -> bool:
         self.test(lambda token: False, "the end of the text")
@@ -95,7 +95,7 @@ class SchemaReader(Reader):
         self.take("TABLE")
         self.tables.append(Table(self.take_name("a table's name")))
         self.take("(")
-        self.many(self.element)
+        self.separated(self.element)
         self.take(")")
 
     def element(self) -> None:
@@ -103,7 +103,7 @@ class SchemaReader(Reader):
         if self.maybe("CONSTRAINT"):
             self.take_name("a rule's name")
             if not self.table_rule(table):
-                self.wrong()
+                self.fail()
             return
         if not self.table_rule(table):
             self.column(table)
@@ -136,12 +136,12 @@ class SchemaReader(Reader):
             pass
 
     def column_rule(self, table: Table, column: Column) -> bool:
-        named = self.maybe("CONSTRAINT")
-        if named:
+        constraint = self.maybe("CONSTRAINT")
+        if constraint:
             self.take_name("a rule's name")
         if self.maybe("NOT"):
             self.take("NULL")
-            column.is_whole = True
+            column.is_not_null = True
         elif self.has("PRIMARY"):
             self.primary(table, [self.next()], lambda: [column.token])
         elif self.maybe("UNIQUE"):
@@ -149,12 +149,12 @@ class SchemaReader(Reader):
         elif self.maybe("REFERENCES"):
             self.target(table, [column.token])
         else:
-            return self.wrong() if named else False
+            return self.fail() if constraint else False
         return True
 
     def names(self) -> list[Token]:
         self.take("(")
-        found = self.many(lambda: self.take_name("a column's name"))
+        found = self.separated(lambda: self.take_name("a column's name"))
         self.take(")")
         return found
 
@@ -182,17 +182,17 @@ class SchemaReader(Reader):
         if not self.test(
             lambda token: token.kind == "number" and number_of(token.source) > 0, "a length of at least 1"
         ):
-            self.wrong()
+            self.fail()
         column.length = number_of(self.next().source)
         column.type = f"VARCHAR({column.length})"
         self.take(")")
 
 
 def read_schema(text: bytes) -> Schema:
-    """The schema of a text's bytes, up to the first error."""
+    """Reads a schema from the bytes of its text, up to the first error."""
     reader = SchemaReader(tokens_of(text))
     try:
         reader.schema()
     except Wrong:
-        return Schema(reader.tables, reader.tokens, reader.furthest, tuple(reader.tested))
+        return Schema(reader.tables, reader.tokens, reader.furthest, tuple(reader.expected))
     return Schema(reader.tables, reader.tokens)

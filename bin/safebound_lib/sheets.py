@@ -11,8 +11,8 @@ from safebound.sql_texts import LEAST_NUMBER, MOST_NUMBER, MOST_TABLE_BYTES, fol
 
 from .convert import SEPARATORS, encoding_of, not_text_message
 from .decimals import of_decimals
-from .explain.tables import header_differs, closed_late, number_expected, quoted as marked
-from .near import listed
+from .explain.tables import header_differs, closed_late, number_expected, quoted_value as marked
+from .near import series
 from .records import left_open, records
 from .spot import plain
 from .terminal import saying
@@ -60,7 +60,7 @@ class Column:
         count: a column of such numbers is meant as text.
         """
         found = [value for value in self.values if value and not value.isdigit() and not NUMBER.fullmatch(value)]
-        return found[0] if found and few(len(found), len(self.values)) else None
+        return found[0] if found and are_slips(len(found), len(self.values)) else None
 
     @property
     def over_lines(self) -> Optional[str]:
@@ -84,14 +84,14 @@ class Sheet:
         return self.rows > 1 and len(column.values) == self.rows
 
 
-def few(some: int, of: int) -> bool:
+def are_slips(some: int, of: int) -> bool:
     """Whether `some` values of `of` are so few that they look like slips: one of at least three, or at most a tenth."""
     return some == 1 and of > 2 or some * 10 <= of
 
 
-def sheet_of(file: str, word: str) -> Sheet:
-    """The table of a file. `word` is the file's name as the user wrote it on the command line."""
-    sheet = Sheet(file, table_name(file, word), [])
+def sheet_of(file: str, typed_name: str) -> Sheet:
+    """The table of a file. `typed_name` is the file's name as the user wrote it on the command line."""
+    sheet = Sheet(file, table_name(file, typed_name), [])
     base = os.path.basename(file)
     if base != base.lower():
         sheet.says.append(f"The program looks for {plain(base.lower())}, in lower case: rename {plain(base)}.")
@@ -101,26 +101,26 @@ def sheet_of(file: str, word: str) -> Sheet:
         )
     others = [name for name in os.listdir(os.path.dirname(file) or ".") if name.lower() == base.lower() != name]
     if others and base == base.lower():
-        said = listed(map(plain, sorted(others)))
+        said = series(map(plain, sorted(others)))
         sheet.says.append(f"{said} is there too, and isn't read: upper and lower case count.")
-    data = bytes_of(file, word)
+    data = bytes_of(file, typed_name)
     found = records(data)
     line, header = next(found, NO_RECORD)
-    refuse_header(word, header)
+    refuse_header(typed_name, header)
     refuse_title(data, header)
     add_columns(sheet, header)
     with saying(f"looking at {plain(file)} .."):
         fill(sheet, found, len(header), data)
     for column in sheet.columns:
-        decimals = of_decimals(column.name, column.values, word)
-        sheet.says += [decimals] if decimals else of_values(column)
-        sheet.says += of_repeats(sheet, column, data)
+        decimals = of_decimals(column.name, column.values, typed_name)
+        sheet.says += [decimals] if decimals else odd_values_warnings(column)
+        sheet.says += repeats_warnings(sheet, column, data)
     if sheet.rows == 0 and next(records(data, 1), None) is None:
         sheet.says.append("There are no rows: types and lengths are guesses.")
     return sheet
 
 
-def of_values(column: Column) -> list[str]:
+def odd_values_warnings(column: Column) -> list[str]:
     """Sentences on values that give a column another type than was probably meant."""
     says, odd, long = [], column.odd, column.over_lines
     if odd is not None:
@@ -143,12 +143,12 @@ def of_values(column: Column) -> list[str]:
     return says
 
 
-def of_repeats(sheet: Sheet, column: Column, data: bytes) -> list[str]:
+def repeats_warnings(sheet: Sheet, column: Column, data: bytes) -> list[str]:
     """A sentence on repeated values in a column that is named like the table's key."""
     repeats = sheet.rows - len(column.values)
     if (
-        not repeats or not few(repeats, sheet.rows) or not KEY_NAME.fullmatch(column.name)
-        and not is_of(column.name, sheet.name)
+        not repeats or not are_slips(repeats, sheet.rows) or not KEY_NAME.fullmatch(column.name)
+        and not is_key_name_of(column.name, sheet.name)
     ):
         return []
     seen: dict[str, int] = {}
@@ -167,13 +167,13 @@ def of_repeats(sheet: Sheet, column: Column, data: bytes) -> list[str]:
 KEY_NAME = re.compile("ID|NO|NR|NUM|NUMBER|CODE|KEY")
 
 
-def is_of(name: str, table: str) -> bool:
+def is_key_name_of(name: str, table: str) -> bool:
     """Whether a column is named like the key of a table: PUPIL_ID or PUPILID in PUPILS."""
     stem = re.sub("_?(ID|NO|NR|NUM|NUMBER|CODE|KEY)$", "", name)
     return stem != name and stem in (table, table.removesuffix("S"))
 
 
-def table_name(file: str, word: str) -> str:
+def table_name(file: str, typed_name: str) -> str:
     base = os.path.basename(file)
     stem, ending = os.path.splitext(base)
     if ending.lower() == ".sql":
@@ -183,7 +183,7 @@ def table_name(file: str, word: str) -> str:
             f" folder:\n    safebound schema {plain(folder)}"
         )
     if ending.lower() != ".csv":
-        raise NoTable(f"A table's file ends in .csv. This writes it as one:\n    safebound convert {plain(word)}")
+        raise NoTable(f"A table's file ends in .csv. This writes it as one:\n    safebound convert {plain(typed_name)}")
     if not TABLE_NAME.fullmatch(stem):
         better = re.sub("[^a-z0-9_]+", "_", stem.lower()).strip("_") or "table1"
         raise NoTable(
@@ -193,7 +193,7 @@ def table_name(file: str, word: str) -> str:
     return written_name(stem.upper())
 
 
-def bytes_of(file: str, word: str) -> bytes:
+def bytes_of(file: str, typed_name: str) -> bytes:
     try:
         with open(file, "rb") as f:
             data = f.read(MOST_TABLE_BYTES + 1)
@@ -206,12 +206,12 @@ def bytes_of(file: str, word: str) -> bytes:
     if not_text_message(data):
         raise NoTable(f"It {not_text_message(data)}.")
     if encoding_of(data) not in ("utf-8", "utf-8-sig"):
-        first = first_strange(data)
-        raise NoTable(f"It isn't in UTF-8{first}. This writes it so:\n    safebound convert {plain(word)}")
+        first = first_byte_not_utf8(data)
+        raise NoTable(f"It isn't in UTF-8{first}. This writes it so:\n    safebound convert {plain(typed_name)}")
     return data
 
 
-def first_strange(data: bytes) -> str:
+def first_byte_not_utf8(data: bytes) -> str:
     """The place of the first byte that isn't UTF-8: its line, and the text of the value in Windows-1252."""
     try:
         data.decode()
@@ -222,7 +222,7 @@ def first_strange(data: bytes) -> str:
     return ""
 
 
-def refuse_header(word: str, header: list[str]) -> None:
+def refuse_header(typed_name: str, header: list[str]) -> None:
     """Refuses a first record that can't be the names of columns."""
     if not header:
         raise NoTable("It holds nothing. Its first line names the columns, separated by commas.")
@@ -231,12 +231,12 @@ def refuse_header(word: str, header: list[str]) -> None:
         raise NoTable(
             f"Its first line, {plain(header[0])}, is a sign for Excel and no header, and it is separated by"
             f" {SEPARATORS[separator]}. This leaves that line out, and writes commas:\n    safebound convert"
-            f" {plain(word)}"
+            f" {plain(typed_name)}"
         )
     if separator:
         raise NoTable(
             f"It is separated by {SEPARATORS[separator]}. This writes it with commas:\n    safebound convert"
-            f" {plain(word)}"
+            f" {plain(typed_name)}"
         )
     if any(LIKE_A_VALUE.fullmatch(name) for name in header):
         names = ",".join(f"COLUMN{number}" for number in range(1, len(header) + 1))
@@ -282,34 +282,34 @@ def add_columns(sheet: Sheet, header: list[str]) -> None:
     if padded:
         sheet.says.append(
             "In the header"
-            f" {listed(map(marked, padded), most=8)} {'have blanks' if len(padded) > 1 else 'has a blank'} beside the"
+            f" {series(map(marked, padded), most=8)} {'have blanks' if len(padded) > 1 else 'has a blank'} beside the"
             " name, and blanks count. Take them away."
         )
     if unnamed:
         sheet.says.append(
-            f"Column {listed(unnamed)} has no name in the header, and is left out: give it one to use it."
+            f"Column {series(unnamed)} has no name in the header, and is left out: give it one to use it."
         )
     if twice:
         sheet.says.append(
-            f"The header names {listed(map(plain, twice))} more than once (upper and lower case count as one): rename"
+            f"The header names {series(map(plain, twice))} more than once (upper and lower case count as one): rename"
             " one of each to use them."
         )
     if strange:
         sheet.says.append(
-            f"The header has control characters in {listed(map(plain, strange))}: rename them to use them."
+            f"The header has control characters in {series(map(plain, strange))}: rename them to use them."
         )
     if len(sheet.columns) > MOST_COLUMNS:
         left = [column.name for column in sheet.columns[MOST_COLUMNS:]]
         sheet.says.append(
             f"A table has at most 64 columns, and this file has {len(sheet.columns)}: the first 64 are declared, and"
-            f" these aren't: {listed(left, most=8)}. Put those that a query needs in the place of others."
+            f" these aren't: {series(left, most=8)}. Put those that a query needs in the place of others."
         )
         del sheet.columns[MOST_COLUMNS:]
     quoted = [column.name for column in sheet.columns if column.name.startswith('"')]
     if quoted and not padded:
         sheet.says.append(
             "A query writes these names in double quotes too, as they stand here:"
-            f" {listed(map(plain, quoted), most=8)}."
+            f" {series(map(plain, quoted), most=8)}."
         )
     if not sheet.columns:
         raise NoTable(" ".join(sheet.says) or "The header names no column.")

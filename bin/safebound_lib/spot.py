@@ -19,7 +19,7 @@ def plain(text: str) -> str:
     )
 
 
-def width(text: str) -> int:
+def text_width(text: str) -> int:
     return sum(2 if unicodedata.east_asian_width(c) in "WF" else 0 if unicodedata.combining(c) else 1 for c in text)
 
 
@@ -41,13 +41,13 @@ def without_mark(part: bytes) -> str:
     return part.decode("utf-8", "surrogateescape").replace("\ufeff", "")
 
 
-def cut(text: str, most: int, at_front: bool = False) -> str:
+def cut_text(text: str, most: int, at_front: bool = False) -> str:
     """Text that is safe on a terminal, cut at its end or its front to `most` columns."""
     text = plain(text.replace("\t", " "))
-    if width(text) <= most:
+    if text_width(text) <= most:
         return text
     kept = text[-most:] if at_front else text[:most]
-    while kept and width(kept) > most - len(DOTS):
+    while kept and text_width(kept) > most - len(DOTS):
         kept = kept[1:] if at_front else kept[:-1]
     return DOTS + kept if at_front else kept + DOTS
 
@@ -55,7 +55,8 @@ def cut(text: str, most: int, at_front: bool = False) -> str:
 def marked_line(before: str, marked: str, behind: str) -> str:
     """The line, cut to the terminal's width, and the mark."""
     room = columns() - INDENT
-    before = cut(before, room * 3 // 5, at_front=True)
-    marked = cut(marked, room - width(before))
-    behind = cut(behind, room - width(before) - width(marked))
-    return f"{' ' * INDENT}{before}{marked}{behind}\n{' ' * (INDENT + width(before))}{'^' * max(width(marked), 1)}"
+    before = cut_text(before, room * 3 // 5, at_front=True)
+    marked = cut_text(marked, room - text_width(before))
+    behind = cut_text(behind, room - text_width(before) - text_width(marked))
+    mark = "^" * max(text_width(marked), 1)
+    return f"{' ' * INDENT}{before}{marked}{behind}\n{' ' * (INDENT + text_width(before))}{mark}"

@@ -28,7 +28,7 @@ class Option:
 @dataclass(frozen=True)
 class Command:
     word: str
-    places: tuple[str, ...]
+    positional: tuple[str, ...]
     help: str
     options: tuple[Option, ...] = ()
     more: str = ""
@@ -38,8 +38,8 @@ class Command:
 
     @property
     def spelled(self) -> str:
-        needed = len(self.places) - self.optional
-        places = [place if i < needed else f"[{place}]" for i, place in enumerate(self.places)]
+        needed = len(self.positional) - self.optional
+        places = [place if i < needed else f"[{place}]" for i, place in enumerate(self.positional)]
         return " ".join([self.word, *places, *(f"[{option.spelled}]" for option in self.options)])
 
 
@@ -233,12 +233,12 @@ def program_options(command: Command) -> list[Option]:
     return [option for option in command.options if not option.is_own]
 
 
-def valued() -> set[str]:
+def options_with_value() -> set[str]:
     """The words of all options of the program that have a value."""
     return {o.word for command in COMMANDS for o in program_options(command) if o.value}
 
 
-def numbered() -> set[str]:
+def options_with_number() -> set[str]:
     """The options whose value is a number."""
     return {o.word for command in COMMANDS for o in program_options(command) if o.least is not None}
 

@@ -4,7 +4,7 @@ from __future__ import annotations
 from dataclasses import dataclass, field
 from typing import TYPE_CHECKING
 
-from .table import BY_WORD, DATA, TEXTS, own_options, valued
+from .table import BY_WORD, DATA, TEXTS, own_options, options_with_value
 
 if TYPE_CHECKING:
     from .table import Option
@@ -34,13 +34,13 @@ class Line:
 def lacks_schema(line: Line) -> bool:
     """Whether the command expects a schema and a query, and the line has only a query and `--data`."""
     command = BY_WORD.get(line.command)
-    takes_texts = command is not None and command.places == TEXTS and not command.optional
-    return takes_texts and DATA.word in line.own and len(places(line.words[1:])) == 1
+    takes_texts = command is not None and command.positional == TEXTS and not command.optional
+    return takes_texts and DATA.word in line.own and len(positional_words(line.words[1:])) == 1
 
 
 def options(words: list[str]) -> list[str]:
     """The options among the words after the command, each without its value."""
-    found, left, with_value = [], list(words), valued()
+    found, left, with_value = [], list(words), options_with_value()
     while left and left[0] != "--":
         word = left.pop(0)
         if word in with_value:
@@ -54,7 +54,7 @@ def read_line(words: list[str]) -> Line:
     """Splits a list of words into a line. After `--`, and where another option expects its value, a word isn't one of
     our options.
     """
-    line, left, own, with_value = Line(), list(words), own_options(), valued()
+    line, left, own, with_value = Line(), list(words), own_options(), options_with_value()
     while left:
         word = left.pop(0)
         head, equals, value = word.partition("=")
@@ -83,10 +83,10 @@ def add_own(line: Line, option: Option, value: str | None, left: list[str]) -> N
     line.own[option.word] = value or ""
 
 
-def places(words: list[str]) -> list[str]:
+def positional_words(words: list[str]) -> list[str]:
     """The positional words after the command: all that are neither an option nor an option's value."""
     found: list[str] = []
-    left, with_value = list(words), valued()
+    left, with_value = list(words), options_with_value()
     while left:
         word = left.pop(0)
         if word == "--":

@@ -1,8 +1,8 @@
 """Proved row bounds for tables in a database engine: counts a query in the engine's SQL, plans it, and returns SQL.
 
 A query goes through these modules. `tokens` cuts its text, `reading` finds its parts, and `names` finds the columns
-that each part names. `choosing` finds whatever may choose other rows at each call. `meaning` makes a `query` of the
-parts.
+that each part names. `nondeterministic` finds whatever may choose other rows at each call. `meaning` makes a
+`query` of the parts.
 
 An `engine` has a `dialect`, a catalog and a connection. `postgres` and `sqlite` connect to their engines. For engines
 without a connection `unreached` has the dialect, and `schema_file` reads the tables.

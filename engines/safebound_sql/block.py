@@ -1,6 +1,6 @@
 """A block: the meaning of one SELECT of a query that has several.
 
-`reorderable` are the entries that may be joined in any order; the other entries follow as written. `left_over` has
+The entries in `reorderable` may be joined in any order; the other entries follow as written. `left_over` has
 conditions as text. Each has the entries after which it is tested, or None if it is tested at the end. `not_used` has
 the conditions that no bound uses. `order` is the order of all entries, once the block is planned.
 """
@@ -10,9 +10,9 @@ from __future__ import annotations
 from typing import TYPE_CHECKING
 
 from .block_names import BlockNames
-from .blocks import Core, Part
-from .choosing import choosing
+from .blocks import Part, Select
 from .names import alias_of, subqueries
+from .nondeterministic import nondeterministic
 from .query import Query
 from .reading import Step, Tokens, read
 
@@ -23,36 +23,41 @@ if TYPE_CHECKING:
 class Block:
     """One SELECT with its FROM."""
 
-    def __init__(self, plans: Planner, core: Core, visible: list[Part]) -> None:
-        self.plans, self.core, self.visible = plans, core, visible
+    def __init__(self, plans: Planner, select: Select, visible: list[Part]) -> None:
+        self.plans, self.select, self.visible = plans, select, visible
         self.dialect, self.catalog, self.connection = plans.dialect, plans.catalog, plans.connection
-        pieces = plans.pieces[core.start : core.end]
+        pieces = plans.pieces[select.start : select.end]
         self.statement = read(plans.text, list(pieces), self.dialect, in_blocks=True)
         if self.statement.usings:
             raise self.statement.refuse(
                 self.statement.usings[0].names[0], "USING of one of several blocks isn't read; write it with ON",
                 "USING",
             )
-        self.outside = plans.aliases_outside(core)
-        self.names = BlockNames(self.statement, plans, core, visible)
+        self.outside = plans.aliases_outside(select)
+        self.names = BlockNames(self.statement, plans, select, visible)
         self.query = Query(self.names.entries)
         self.steps = self.statement.steps
         self.has_right_joins = any(step.kind in ("RIGHT", "FULL") for step in self.steps)
-        self.reorderable = self._reorderable()
+        self.reorderable = self._reorderable_entries()
         self.on: dict[int, list[str]] = {
             step.source: [self.text(piece) for piece in step.conditions] for step in self.steps
         }
         self.order: list[int] = []
         self.left_over: list[tuple[str, frozenset[int] | None]] = []
         self.not_used: list[Tokens] = []
-        self.outputs = {self.dialect.key_of(alias) for output in self.statement.outputs if (alias := alias_of(output))}
+        self.outputs = {
+            self.dialect.normalized_name(alias) for output in self.statement.outputs if (alias := alias_of(output))
+        }
         for piece in self.statement.conditions:
-            self._condition(piece)
+            self._take_condition(piece)
         for step in self.steps:
             for piece in step.conditions:
-                self._condition(piece, of_on=True) if step.source in self.reorderable else self._of_step(step, piece)
+                if step.source in self.reorderable:
+                    self._take_condition(piece, of_on=True)
+                else:
+                    self._take_step_condition(step, piece)
 
-    def _reorderable(self) -> list[int]:
+    def _reorderable_entries(self) -> list[int]:
         """The entries that are joined first, in an order that the plan chooses. They are the entries of inner joins
         before any RIGHT or FULL JOIN, if the ON names no other entries.
         """
@@ -60,27 +65,27 @@ class Block:
         steps = [step for step in self.steps[:stop] if step.kind == "INNER"]
         while True:
             found = [step.source for step in steps]
-            kept = [step for step in steps if all(self._entries(piece) <= set(found) for piece in step.conditions)]
+            kept = [step for step in steps if all(self._entries_in(piece) <= set(found) for piece in step.conditions)]
             if len(kept) == len(steps):
                 return found
             steps = kept
 
-    def _entries(self, piece: Tokens) -> frozenset[int]:
-        return frozenset(column.entry for column in self.names.named(piece))
+    def _entries_in(self, piece: Tokens) -> frozenset[int]:
+        return frozenset(column.entry for column in self.names.named_columns(piece))
 
     def text(self, piece: Tokens) -> str:
         """The tokens as text. A block among them has its joins in the planned order."""
         return self.plans.text_of(piece)
 
-    def _condition(self, piece: Tokens, of_on: bool = False) -> None:
+    def _take_condition(self, piece: Tokens, of_on: bool = False) -> None:
         """Takes a condition of WHERE or of an inner join's ON. A RIGHT or FULL JOIN may make the first entries NULL.
         Then a condition of WHERE is tested at the end, and a condition of ON after those entries.
         """
-        self._check(piece)
-        entries = self._entries(piece)
+        self._check_names(piece)
+        entries = self._entries_in(piece)
         outer = self.names_outside(piece)
         settled = entries <= set(self.reorderable) and (of_on or not self.has_right_joins) and not outer
-        if settled and self._edge(piece):
+        if settled and self._take_edge(piece):
             self.left_over.append((self.text(piece), entries))
         elif of_on and self.has_right_joins:
             self.left_over.append((self.text(piece), frozenset(self.reorderable)))
@@ -91,27 +96,27 @@ class Block:
             self.left_over.append((self.text(piece), entries if settled and entries else None))
             self.not_used.append(piece)
 
-    def _of_step(self, step: Step, piece: Tokens) -> None:
+    def _take_step_condition(self, step: Step, piece: Tokens) -> None:
         """Takes a condition of an ON that isn't moved."""
-        self._check(piece)
+        self._check_names(piece)
         outer = self.names_outside(piece)
-        if not outer and self._edge(piece, step.source):
+        if not outer and self._take_edge(piece, step.source):
             return
-        alone = self._entries(piece) == {step.source} and step.kind in ("LEFT", "INNER") and not outer
+        alone = self._entries_in(piece) == {step.source} and step.kind in ("LEFT", "INNER") and not outer
         if alone and self._counts(piece):
             self.query.entries[step.source].own.append(self.names.spelled(piece))
         else:
             self.not_used.append(piece)
 
-    def _check(self, piece: Tokens) -> None:
+    def _check_names(self, piece: Tokens) -> None:
         if self.dialect.outputs_in_conditions:
             self.names.check_outputs_names(piece, self.outputs)
 
-    def _edge(self, piece: Tokens, of: int | None = None) -> bool:
-        """Adds an equality to those that bounds use, if they can use it and, with `of`, one of its columns belongs to
-        that entry. Returns whether it was added.
+    def _take_edge(self, piece: Tokens, of: int | None = None) -> bool:
+        """Adds the equality to those that bounds use, if they can use it. With `of`, only if that entry has one of its
+        columns. Returns whether it was added.
         """
-        sides = self.names.equated(piece)
+        sides = self.names.equated_columns(piece)
         return sides is not None and (of is None or of in (sides[0].entry, sides[1].entry)) and (
             self.query.take_equality(*sides) is None
         )
@@ -120,15 +125,15 @@ class Block:
         """Whether the condition may name an entry of a block around this one."""
         aliases, columns = self.outside
         for at, token in enumerate(piece):
-            behind = piece[at + 1 : at + 2]
-            if not token.names or (at and piece[at - 1].says(".")):
+            after = piece[at + 1 : at + 2]
+            if not token.is_name or (at and piece[at - 1].says(".")):
                 continue
-            key = self.dialect.key_of(token)
-            if behind and behind[0].says("."):
-                if key in aliases and key not in self.names.by_alias:
+            name = self.dialect.normalized_name(token)
+            if after and after[0].says("."):
+                if name in aliases and name not in self.names.by_alias:
                     return True
-            elif (key in columns or token.kind == "quoted") and not any(
-                key in entry.about.by_key for entry in self.query.entries
+            elif (name in columns or token.kind == "quoted") and not any(
+                name in entry.about.by_name for entry in self.query.entries
             ):
                 return True
         return False
@@ -139,10 +144,10 @@ class Block:
         """
         for start, end in subqueries(piece):
             inner = piece[start + 1 : end - 1]
-            parts = {self.dialect.key_of(part.name) for part in self.visible}
-            if any(token.names and self.dialect.key_of(token) in parts for token in inner):
+            parts = {self.dialect.normalized_name(part.name) for part in self.visible}
+            if any(token.is_name and self.dialect.normalized_name(token) in parts for token in inner):
                 return False
-            if any(choosing(inner, self.dialect)):
+            if any(nondeterministic(inner, self.dialect)):
                 return False
             if self.plans.joins_within(inner) or self.catalog.why_not_alone(inner):
                 return False

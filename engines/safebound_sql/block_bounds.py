@@ -1,7 +1,8 @@
 """Plans a block: counts its entries, orders its joins, and bounds each level.
 
-After outer joins there are several kinds of rows. A kind is the set of entries that have a row in it; all other entries
-are NULL. A kind has at most as many rows as the join of its entries. The bounds of all kinds are added up.
+After outer joins there are several kinds of rows. In the rows of one kind, the same set of entries have a row; all
+other entries' columns are NULL. A kind has at most as many rows as the join of its entries. The bounds of all kinds are
+added up.
 """
 
 from __future__ import annotations
@@ -12,7 +13,7 @@ import safebound
 
 from .block import Block
 from .block_rows import most_rows
-from .blocks import Core
+from .blocks import Select
 from .counting import Counts, counts_among, histograms
 from .faults import NoBound
 from .levels import MOST_BUDGET, Lists, equalities_of, lists_of
@@ -23,10 +24,10 @@ from .tokens import written
 
 @dataclass
 class BlockLevel:
-    """A level of a block: what is joined and how, the bound of its scan, and its own bound."""
+    """A level of a block: which entry is joined and how, its table, the bound of its scan, and the level's bound."""
 
     joined: str
-    of: str
+    source: str
     scan: int
     bound: int
     entries: list[int]
@@ -37,7 +38,7 @@ class BlockLevel:
 class BlockPlan:
     """A block's levels and the bound of its rows, or the reason why it isn't bounded."""
 
-    core: Core
+    select: Select
     levels: list[BlockLevel] = field(default_factory=list)
     rows: int | None = None
     refused: str | None = None
@@ -48,7 +49,7 @@ class BlockPlan:
         return max((level.bound for level in self.levels), default=0)
 
 
-class Bounding:
+class BlockBounder:
     """Counts a block's entries and plans its joins."""
 
     def __init__(self, block: Block, accuracy: int) -> None:
@@ -57,35 +58,36 @@ class Bounding:
     def plan(self) -> BlockPlan:
         block, query = self.block, self.query
         block.connection.prepare_joins(entry.about for entry in query.entries)
-        counts = self._counted()
+        counts = self._count_rows()
         lists = lists_of(counts, self.accuracy)
         known = safebound.Query([entry.name for entry in query.entries], equalities_of(query), counts.rows, lists)
         self.bounds = known.bounds()
-        block.order = self._order(counts, lists)
+        block.order = self._best_order(counts, lists)
         levels = self._levels(counts)
         notes = [f"not used for bounds: {written(piece)}" for piece in block.not_used]
         returns_sets = block.catalog.returns_sets([token for piece in block.statement.outputs for token in piece])
         rows = None if returns_sets else most_rows(block.statement, levels[-1].bound)
-        return BlockPlan(block.core, levels, rows, notes=notes)
+        return BlockPlan(block.select, levels, rows, notes=notes)
 
     def _levels(self, counts: Counts) -> list[BlockLevel]:
         order, levels = self.block.order, list[BlockLevel]()
         kinds: list[frozenset[int]] = [frozenset()]
         for position, number in enumerate(order):
-            kinds, word = self._joined(kinds, number, first=position == 0)
+            kinds, word = self._kinds_after_join(kinds, number, first=position == 0)
             entry = self.query.entries[number]
-            of = "a query" if self.block.statement.sources[number].is_query else entry.table
-            bound = sum(self._bound(kind) for kind in kinds)
-            levels.append(BlockLevel(f"{word}{entry.name}", of, counts.rows[entry.name], bound, order[: position + 1]))
+            source = "a query" if self.block.statement.sources[number].is_query else entry.table
+            bound = sum(self._bound_of_kind(kind) for kind in kinds)
+            joined, scan = f"{word}{entry.name}", counts.rows[entry.name]
+            levels.append(BlockLevel(joined, source, scan, bound, order[: position + 1]))
         return levels
 
-    def _counted(self) -> Counts:
+    def _count_rows(self) -> Counts:
         """The rows of each entry and the degrees of its joined columns. For a query in FROM, they follow from the plan
         of that query.
         """
         query, given = self.query, self.block.names.given
         own = [entry for entry in query.entries if entry.number not in given]
-        asked = {entry.name: query.joined(entry.number) for entry in own}
+        asked = {entry.name: query.joined_columns(entry.number) for entry in own}
         selects = [
             text
             for entry in own
@@ -95,12 +97,12 @@ class Bounding:
         for number, (rows, unique) in given.items():
             entry = query.entries[number]
             counts.rows[entry.name] = rows
-            for column in query.joined(number):
-                once = self.block.dialect.key(column.name, True) in unique
+            for column in query.joined_columns(number):
+                once = self.block.dialect.normalized(column.name, True) in unique
                 counts.runs[entry.name, column.name] = [(1, rows) if once else (rows, 1)] if rows else []
         return counts
 
-    def _order(self, counts: Counts, lists: Lists) -> list[int]:
+    def _best_order(self, counts: Counts, lists: Lists) -> list[int]:
         """The best order of the entries that are joined first, then the other entries as written."""
         names, reorderable = [entry.name for entry in self.query.entries], self.block.reorderable
         some = {names[number] for number in reorderable}
@@ -113,7 +115,9 @@ class Bounding:
         order = [names.index(name) for name in known.best_order(MOST_BUDGET).entries]
         return order + [step.source for step in self.block.steps if step.source not in reorderable]
 
-    def _joined(self, kinds: list[frozenset[int]], number: int, first: bool) -> tuple[list[frozenset[int]], str]:
+    def _kinds_after_join(
+        self, kinds: list[frozenset[int]], number: int, first: bool
+    ) -> tuple[list[frozenset[int]], str]:
         """The kinds of rows after this entry is joined, and the SQL words of the join."""
         kind = self.block.steps[number].kind
         if first:
@@ -126,7 +130,7 @@ class Bounding:
             kind
         ], f"{kind} JOIN "
 
-    def _bound(self, some: frozenset[int]) -> int:
+    def _bound_of_kind(self, some: frozenset[int]) -> int:
         bound: int | None = self.bounds[{self.query.entries[number].name for number in some}]
         if bound is None:
             raise NoBound

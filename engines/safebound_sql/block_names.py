@@ -4,7 +4,7 @@ from __future__ import annotations
 
 from typing import TYPE_CHECKING
 
-from .blocks import Core, Part, Query as Several
+from .blocks import Part, Query as Several, Select
 from .names import Names
 from .query import Table
 from .reading import Source, Statement, Tokens
@@ -22,19 +22,19 @@ class BlockNames(Names):
 
     looks_into_subqueries = True
 
-    def __init__(self, statement: Statement, plans: Planner, core: Core, visible: list[Part]) -> None:
-        self.plans, self.core, self.visible = plans, core, visible
+    def __init__(self, statement: Statement, plans: Planner, select: Select, visible: list[Part]) -> None:
+        self.plans, self.select, self.visible = plans, select, visible
         self.given: dict[int, tuple[int, set[str]]] = {}
         super().__init__(statement, plans.engine)
 
     def _text_of(self, source: Source) -> str:
         return self.plans.text_of(source.table) if source.is_query else written(source.table)
 
-    def _about(self, source: Source) -> Table | None:
+    def _table_of(self, source: Source) -> Table | None:
         number = len(self.entries)
         if source.is_query:
             inner = next(
-                (inner for inner in self.core.inner if self.plans.pieces[inner.start].at == source.table[1].at), None
+                (inner for inner in self.select.inner if self.plans.pieces[inner.start].at == source.table[1].at), None
             )
             if inner is None:
                 raise self.statement.refuse(source.alias, "only a SELECT is bounded here")
@@ -47,8 +47,9 @@ class BlockNames(Names):
     def _part(self, source: Source) -> Part | None:
         if len(source.table) > 1:
             return None
-        name, key = self.dialect.key_of(source.table[0]), self.dialect.key_of
-        return next((part for part in reversed(self.visible) if key(part.name) == name), None)
+        normalized = self.dialect.normalized_name
+        name = normalized(source.table[0])
+        return next((part for part in reversed(self.visible) if normalized(part.name) == name), None)
 
     def _given(self, number: int, query: Several, text: str, columns: Tokens, source: Source) -> Table:
         """The columns of a query in FROM or WITH. Its rows are bounded by its own plan, and aren't counted."""
@@ -58,9 +59,9 @@ class BlockNames(Names):
                 source.alias, "its rows aren't bounded" + ("" if rows is None else f" by {MOST_ROWS} or fewer")
             )
         found = self.catalog.described(self.plans.with_parts(self.visible, text))
-        names = [self.dialect.key_of(token) for token in columns if token.names]
+        names = [self.dialect.normalized_name(token) for token in columns if token.is_name]
         found = [column._replace(name=name) for name, column in zip(names, found)] + found[len(names) :]
         self.given[number] = rows, {
-            self.dialect.key(name, True) for name in self.plans.unique(query, [c.name for c in found])
+            self.dialect.normalized(name, True) for name in self.plans.unique_columns(query, [c.name for c in found])
         }
-        return Table(tuple(found), {self.dialect.key(column.name, True): column for column in found})
+        return Table(tuple(found), {self.dialect.normalized(column.name, True): column for column in found})

@@ -1,4 +1,4 @@
-"""Plans queries with several blocks and with outer joins. Each block is counted, planned and bounded alone.
+"""Plans queries with several blocks and with outer joins. Each block is counted, planned and bounded by itself.
 
 For a query in FROM, the block around it uses that query's bound, and counts nothing. If the query groups by one column,
 its rows have each value of this column once. Entries are counted under their own conditions only, without semi-joins.
@@ -9,10 +9,10 @@ from __future__ import annotations
 from typing import Iterator
 
 from .block import Block
-from .block_bounds import BlockPlan, Bounding
-from .block_rows import grouped, limited, without_alias
+from .block_bounds import BlockPlan, BlockBounder
+from .block_rows import grouping_expression, limited_rows, without_alias
 from .block_sql import rows_of_levels, sql_of
-from .blocks import Core, Finder, Part, Query as Several
+from .blocks import Finder, Part, Query as Several, Select
 from .dialect import as_script
 from .engine import Engine
 from .faults import EngineFault, NoBound, PastBudget, Refused
@@ -33,48 +33,48 @@ class Planner:
         self.progress = progress or Progress()
         self.pieces = tokens(text, engine.dialect.rules)
         self.at = {token.at: number for number, token in enumerate(self.pieces)}
-        self.query = Finder(text, self.pieces).found()
+        self.query = Finder(text, self.pieces).find()
         refuse_volatile(Statement(text), self.pieces, engine)
         engine.catalog.check(text.rstrip().rstrip(";"))
         self.blocks: dict[int, Block] = {}
         self.plans: dict[int, BlockPlan] = {}
         self.visible: dict[int, list[Part]] = {}
-        self._see(self.query)
-        for core in self.query.cores():
-            self.plans[core.start] = self._plan(core)
+        self._note_visible_parts(self.query)
+        for select in self.query.selects():
+            self.plans[select.start] = self._plan(select)
         if self.unbounded and not self.blocks:
             raise Refused(self.unbounded[0])
         over = [plan.cost for plan in self.plans.values() if plan.cost > budget]
         if over:
             raise PastBudget(budget, max(over))
 
-    def _see(self, query: Several) -> None:
+    def _note_visible_parts(self, query: Several) -> None:
         """Notes which parts of WITH each block can name."""
         for part in query.parts:
-            self._see(part.query)
+            self._note_visible_parts(part.query)
         for member in query.members:
             if isinstance(member, Several):
-                self._see(member)
+                self._note_visible_parts(member)
                 continue
             self.visible[member.start] = query.visible
             for inner in member.inner:
-                self._see(inner)
+                self._note_visible_parts(inner)
 
-    def _plan(self, core: Core) -> BlockPlan:
+    def _plan(self, select: Select) -> BlockPlan:
         try:
-            if not any(token.says("FROM") for token in self._outside_parentheses(core)):
-                return BlockPlan(core, rows=1)
-            with self.progress.doing(f"counting for {core.called}"), library_faults(self.budget):
-                block = Block(self, core, self.visible[core.start])
-                plan = Bounding(block, self.accuracy).plan()
+            if not any(token.says("FROM") for token in self._outside_parentheses(select)):
+                return BlockPlan(select, rows=1)
+            with self.progress.doing(f"counting for {select.label}"), library_faults(self.budget):
+                block = Block(self, select, self.visible[select.start])
+                plan = BlockBounder(block, self.accuracy).plan()
         except (Refused, NoBound) as fault:
-            return BlockPlan(core, refused=str(fault))
-        self.blocks[core.start] = block
+            return BlockPlan(select, refused=str(fault))
+        self.blocks[select.start] = block
         return plan
 
-    def _outside_parentheses(self, core: Core) -> Iterator[Token]:
+    def _outside_parentheses(self, select: Select) -> Iterator[Token]:
         depth = 0
-        for token in self.pieces[core.start : core.end]:
+        for token in self.pieces[select.start : select.end]:
             depth += token.says("(") - token.says(")")
             if depth == 0:
                 yield token
@@ -93,33 +93,33 @@ class Planner:
             return sum(rows)
         first = query.operators[0].split()[0] if query.operators else ""
         total = sum(rows) if first == "UNION" else min(rows) if first == "INTERSECT" else rows[0]
-        return limited(total, self.pieces[self._behind(query) : query.end])
+        return limited_rows(total, self.pieces[self._token_after(query) : query.end])
 
-    def _behind(self, query: Several) -> int:
+    def _token_after(self, query: Several) -> int:
         last = query.members[-1]
-        return last.end if isinstance(last, Core) or last.end == query.end else last.end + 1
+        return last.end if isinstance(last, Select) or last.end == query.end else last.end + 1
 
-    def unique(self, query: Several, names: list[str]) -> set[str]:
+    def unique_columns(self, query: Several, names: list[str]) -> set[str]:
         """The columns of a query in which no value occurs twice. If the query groups by one column, it is that column.
         If the query is a SELECT DISTINCT with one output, it is that output.
         """
         if (
             len(query.members) != 1
-            or not isinstance(query.members[0], Core)
+            or not isinstance(query.members[0], Select)
             or query.members[0].start not in self.blocks
         ):
             return set()
         block = self.blocks[query.members[0].start]
-        above, outputs = block.statement.above, block.statement.outputs
+        clauses, outputs = block.statement.later_clauses, block.statement.outputs
         if len(outputs) != len(names):
             return set()
-        if above and above[0].says("GROUP"):
-            by = grouped(above)
-            column = block.names.side(by) if by else None
+        if clauses and clauses[0].says("GROUP"):
+            expression = grouping_expression(clauses)
+            column = block.names.single_column(expression) if expression else None
             return {
                 name
                 for name, piece in zip(names, outputs)
-                if column and block.names.side(without_alias(piece)) == column
+                if column and block.names.single_column(without_alias(piece)) == column
             }
         only = (
             block.statement.distinct
@@ -128,40 +128,42 @@ class Planner:
         )
         return set(names) if only else set()
 
-    def aliases_outside(self, core: Core) -> tuple[set[str], set[str]]:
+    def aliases_outside(self, select: Select) -> tuple[set[str], set[str]]:
         """The aliases that the blocks around this one have in FROM, and the names of all their columns."""
         aliases: set[str] = set()
         columns: set[str] = set()
-        while core.outside:
-            core = core.outside
+        while select.outside:
+            select = select.outside
             try:
-                pieces = list(self.pieces[core.start : core.end])
+                pieces = list(self.pieces[select.start : select.end])
                 statement = read(self.text, pieces, self.dialect, in_blocks=True)
             except Refused:
                 # The entries and columns of this one aren't known, so any name in it may be one of them.
-                names = [token for token in self.pieces[core.start : core.end] if token.names]
-                keys = {self.dialect.key_of(token) for token in names}
+                names = [token for token in self.pieces[select.start : select.end] if token.is_name]
+                keys = {self.dialect.normalized_name(token) for token in names}
                 return aliases | keys, columns | keys
-            columns |= {self.dialect.key_of(alias) for output in statement.outputs if (alias := alias_of(output))}
-            parts = {self.dialect.key_of(part.name) for part in self.visible[core.start]}
+            columns |= {
+                self.dialect.normalized_name(alias) for output in statement.outputs if (alias := alias_of(output))
+            }
+            parts = {self.dialect.normalized_name(part.name) for part in self.visible[select.start]}
             for source in statement.sources:
-                aliases.add(self.dialect.key_of(source.alias))
-                whole = not source.is_query and self.dialect.key_of(source.table[-1]) not in parts
+                aliases.add(self.dialect.normalized_name(source.alias))
+                whole = not source.is_query and self.dialect.normalized_name(source.table[-1]) not in parts
                 about = self.catalog.table(source.table) if whole else None
                 # A query in FROM or a part of WITH may give its columns any name that the text has.
-                columns |= set(about.by_key) if about else self._all_names()
+                columns |= set(about.by_name) if about else self._all_names()
         return aliases, columns
 
     def _all_names(self) -> set[str]:
-        return {self.dialect.key_of(token) for token in self.pieces if token.names}
+        return {self.dialect.normalized_name(token) for token in self.pieces if token.is_name}
 
     def joins_within(self, inner: Tokens) -> bool:
         """Whether a block among these tokens has several entries, or has no plan."""
         first, last = inner[0].at, inner[-1].at
         return any(
-            first <= self.pieces[core.start].at <= last
-            and not (core.start in self.blocks and len(self.blocks[core.start].order) == 1)
-            for core in self.query.cores()
+            first <= self.pieces[select.start].at <= last
+            and not (select.start in self.blocks and len(self.blocks[select.start].order) == 1)
+            for select in self.query.selects()
         )
 
     def source_of(self, query: Several) -> str:
@@ -188,7 +190,10 @@ class Planner:
     def _inner_queries(self, start: int, end: int) -> list[Several]:
         """The outermost queries in parentheses among the tokens."""
         queries = [
-            inner for core in self.query.cores() for inner in core.inner if start <= inner.start and inner.end <= end
+            inner
+            for select in self.query.selects()
+            for inner in select.inner
+            if start <= inner.start and inner.end <= end
         ]
         outermost: list[Several] = []
         for query in sorted(queries, key=lambda query: (query.start, -query.end)):
@@ -241,7 +246,7 @@ class Planner:
     def unbounded(self) -> list[str]:
         recursive = [part.query.refused for part in self.query.parts if part.query.refused]
         return list(dict.fromkeys(recursive)) + [
-            f"{plan.core.called}: {plan.refused}" for plan in self.plans.values() if plan.refused
+            f"{plan.select.label}: {plan.refused}" for plan in self.plans.values() if plan.refused
         ]
 
     def true_rows(self) -> None:
@@ -252,42 +257,42 @@ class Planner:
         for start, block in self.blocks.items():
             if any(part.query.refused and part.query.start <= start < part.query.end for part in self.query.parts):
                 continue
-            if any(self.aliases_outside(block.core)) and any(
+            if any(self.aliases_outside(block.select)) and any(
                 map(
                     block.names_outside,
                     [*block.statement.conditions, *(piece for step in block.steps for piece in step.conditions)],
                 )
             ):
                 continue
-            with self.progress.doing(f"counting the rows of {block.core.called}"):
+            with self.progress.doing(f"counting the rows of {block.select.label}"):
                 for number, level in enumerate(self.plans[start].levels, 1):
                     sql = self.with_parts(block.visible, f"SELECT count(*) {rows_of_levels(block, number)}")
                     level.rows = self.connection.rows(sql)[0][0]
 
 
-def several(text: str, engine: Engine) -> bool:
+def has_several_blocks(text: str, engine: Engine) -> bool:
     """Whether the text has to be planned in blocks: it has WITH, UNION or its like, an outer join, or a query in FROM;
     or a subquery joins, or names an entry outside of itself.
     """
     pieces = tokens(text, engine.dialect.rules)
-    query = Finder(text, pieces).found()
-    core = query.members[0] if len(query.members) == 1 else None
-    if query.parts or query.operators or not isinstance(core, Core):
+    query = Finder(text, pieces).find()
+    select = query.members[0] if len(query.members) == 1 else None
+    if query.parts or query.operators or not isinstance(select, Select):
         return True
     try:
         statement = read(text, list(pieces), engine.dialect, in_blocks=True)
     except Refused:
         return any(
-            token.says("LEFT", "RIGHT", "FULL") and behind.says("JOIN", "OUTER")
-            for token, behind in zip(pieces, pieces[1:])
+            token.says("LEFT", "RIGHT", "FULL") and after.says("JOIN", "OUTER")
+            for token, after in zip(pieces, pieces[1:])
         )
     if any(step.kind != "INNER" for step in statement.steps) or any(source.is_query for source in statement.sources):
         return True
-    for inner in core.inner:
+    for inner in select.inner:
         piece = pieces[inner.start : inner.end]
         if (
             any(token.says("JOIN") for token in piece)
-            or len(list(inner.cores())) > 1
+            or len(list(inner.selects())) > 1
             or _joins(text, piece, engine)
             or engine.catalog.why_not_alone(piece)
         ):

@@ -1,5 +1,5 @@
-"""The bound of a block's rows. It follows from the bound of the block's joins, and from outputs, GROUP BY, HAVING and
-LIMIT.
+"""The bound of the rows of a query block (one SELECT). It follows from the bound of the block's joins, and from
+outputs, GROUP BY, HAVING and LIMIT.
 """
 
 from __future__ import annotations
@@ -13,51 +13,52 @@ SETS_OF_GROUPS = ("ROLLUP", "CUBE", "GROUPING")
 
 def most_rows(statement: Statement, joined: int) -> int | None:
     """The bound of the block's rows. None if it groups by several sets of columns, which may make more rows."""
-    above, outputs = statement.above, [token for piece in statement.outputs for token in piece]
-    sets = any(
-        token.says(*SETS_OF_GROUPS) or (token.says("(") and behind.says(")")) for token, behind in zip(above, above[1:])
+    clauses, outputs = statement.later_clauses, [token for piece in statement.outputs for token in piece]
+    has_grouping_sets = any(
+        token.says(*SETS_OF_GROUPS) or (token.says("(") and after.says(")"))
+        for token, after in zip(clauses, clauses[1:])
     )
-    if sets:
+    if has_grouping_sets:
         return None
-    if above and above[0].says("GROUP"):
-        return limited(joined, above)
-    if _aggregates(outputs) or (above and above[0].says("HAVING")):
+    if clauses and clauses[0].says("GROUP"):
+        return limited_rows(joined, clauses)
+    if _has_aggregate(outputs) or (clauses and clauses[0].says("HAVING")):
         return 1
     # Any function may be an aggregate that isn't known here. An aggregate makes one row even from no rows.
-    return limited(max(joined, int(any(token.says("(") for token in outputs))), above)
+    return limited_rows(max(joined, int(any(token.says("(") for token in outputs))), clauses)
 
 
-def _aggregates(outputs: Tokens) -> bool:
+def _has_aggregate(outputs: Tokens) -> bool:
     """Whether one of the outputs is an aggregate of all rows."""
     inside = {at for start, end in subqueries(outputs) for at in range(start, end)}
     for at, token in enumerate(outputs[:-1]):
         if at in inside or not (token.says(*AGGREGATES) and outputs[at + 1].says("(")):
             continue
-        depth, end, values = 0, at + 1, 1
+        depth, end, arguments = 0, at + 1, 1
         while end < len(outputs):
             depth += outputs[end].says("(") - outputs[end].says(")")
-            values += depth == 1 and outputs[end].says(",")
+            arguments += depth == 1 and outputs[end].says(",")
             if depth == 0:
                 break
             end += 1
-        behind = outputs[end + 1 : end + 2]
-        if not (behind and behind[0].says("OVER", "FILTER")) and (values == 1 or not token.says("MIN", "MAX")):
+        after = outputs[end + 1 : end + 2]
+        if not (after and after[0].says("OVER", "FILTER")) and (arguments == 1 or not token.says("MIN", "MAX")):
             return True
     return False
 
 
-def limited(rows: int, above: Tokens) -> int:
-    """The lesser of `rows` and the number of LIMIT, if the tokens end in LIMIT and a number. Otherwise `rows`."""
-    for at, token in enumerate(above[:-1]):
-        if token.says("LIMIT") and above[at + 1].text.isdigit() and at + 2 == len(above):
-            return min(rows, int(above[at + 1].text))
+def limited_rows(rows: int, clauses: Tokens) -> int:
+    """The lesser of `rows` and the number of LIMIT, if the clauses end in LIMIT and a number. Otherwise `rows`."""
+    for at, token in enumerate(clauses[:-1]):
+        if token.says("LIMIT") and clauses[at + 1].text.isdigit() and at + 2 == len(clauses):
+            return min(rows, int(clauses[at + 1].text))
     return rows
 
 
-def grouped(above: Tokens) -> Tokens | None:
+def grouping_expression(clauses: Tokens) -> Tokens | None:
     """The expression of GROUP BY if there is exactly one. Otherwise None."""
     piece: Tokens = []
-    for token in above[2:]:
+    for token in clauses[2:]:
         if token.says("HAVING", "WINDOW", "ORDER", "LIMIT", "OFFSET", "FETCH"):
             break
         piece.append(token)

@@ -58,6 +58,6 @@ def sql_of(block: Block) -> str:
     conditions += [bracketed(text) for text, entries in block.left_over if not entries]
     outputs = ", ".join(block.text(piece) for piece in block.statement.outputs)
     distinct = block.text(block.statement.distinct)
-    above = block.text(block.statement.above)
-    lines = [f"SELECT {distinct and distinct + ' '}{outputs}", joined + where(conditions), *filter(None, [above])]
+    later = block.text(block.statement.later_clauses)
+    lines = [f"SELECT {distinct and distinct + ' '}{outputs}", joined + where(conditions), *filter(None, [later])]
     return "\n".join(lines)

@@ -15,13 +15,13 @@ BEGIN = ("SELECT", "WITH", "VALUES")
 
 
 @dataclass
-class Core:
+class Select:
     """A SELECT: where its tokens begin and end, how messages name it, and the queries in it."""
 
     start: int
     end: int
-    called: str
-    outside: Core | None
+    label: str
+    outside: Select | None
     inner: list[Query] = field(default_factory=list)
 
 
@@ -42,20 +42,20 @@ class Query:
     end: int
     parts: list[Part] = field(default_factory=list)
     operators: list[str] = field(default_factory=list)
-    members: list[Union[Core, Query]] = field(default_factory=list)
+    members: list[Union[Select, Query]] = field(default_factory=list)
     visible: list[Part] = field(default_factory=list)
     refused: str | None = None
 
-    def cores(self) -> Iterator[Core]:
+    def selects(self) -> Iterator[Select]:
         """All SELECTs of the query, the inner ones first."""
         for part in self.parts:
-            yield from part.query.cores()
+            yield from part.query.selects()
         for member in self.members:
             if isinstance(member, Query):
-                yield from member.cores()
+                yield from member.selects()
                 continue
             for inner in member.inner:
-                yield from inner.cores()
+                yield from inner.selects()
             yield member
 
 
@@ -65,20 +65,20 @@ class Finder:
     def __init__(self, text: str, pieces: Tokens) -> None:
         self.text, self.pieces = text, pieces
 
-    def found(self) -> Query:
+    def find(self) -> Query:
         end = len(self.pieces)
         while end and self.pieces[end - 1].says(";"):
             end -= 1
-        return self._query(0, end, "the query", None, [])
+        return self._read_query(0, end, "the query", None, [])
 
-    def _query(self, start: int, end: int, called: str, outside: Core | None, visible: list[Part]) -> Query:
+    def _read_query(self, start: int, end: int, label: str, outside: Select | None, visible: list[Part]) -> Query:
         query = Query(start, end)
         at = start
         if at < end and self.pieces[at].says("WITH"):
-            at = self._with(query, at + 1, end, outside, visible)
+            at = self._read_with(query, at + 1, end, outside, visible)
         query.visible = visible + query.parts
         while at < end:
-            at = self._member(query, at, end, called, outside)
+            at = self._read_member(query, at, end, label, outside)
             if at >= end or not self.pieces[at].says(*TOGETHER):
                 break
             operator = self.pieces[at].text.upper()
@@ -89,7 +89,7 @@ class Finder:
             query.operators.append(operator)
         return query
 
-    def _with(self, query: Query, at: int, end: int, outside: Core | None, visible: list[Part]) -> int:
+    def _read_with(self, query: Query, at: int, end: int, outside: Select | None, visible: list[Part]) -> int:
         """Reads the parts of WITH. Returns the number of the token where the query itself begins."""
         if self.pieces[at].says("RECURSIVE"):
             query.refused = f"WITH RECURSIVE at {self._place(at)}: how often it goes on isn't known"
@@ -103,8 +103,9 @@ class Finder:
             while at < end and not self.pieces[at].says("("):
                 at += 1
             last = closing(self.pieces, at)
-            called = f"WITH {name.text} at {self._place(at)}"
-            query.parts.append(Part(name, columns, self._query(at + 1, last, called, outside, visible + query.parts)))
+            label = f"WITH {name.text} at {self._place(at)}"
+            inner = self._read_query(at + 1, last, label, outside, visible + query.parts)
+            query.parts.append(Part(name, columns, inner))
             query.parts[-1].query.refused = query.parts[-1].query.refused or query.refused
             at = last + 1
             if not (at < end and self.pieces[at].says(",")):
@@ -112,20 +113,20 @@ class Finder:
             at += 1
         return at
 
-    def _member(self, query: Query, at: int, end: int, called: str, outside: Core | None) -> int:
+    def _read_member(self, query: Query, at: int, end: int, label: str, outside: Select | None) -> int:
         """Reads one SELECT, or a query in parentheses. Returns the number of the token behind it."""
-        called = f"{called}, {query.operators[-1]}" if query.operators else called
+        label = f"{label}, {query.operators[-1]}" if query.operators else label
         if self.pieces[at].says("("):
             last = closing(self.pieces, at)
-            query.members.append(self._query(at + 1, last, called, outside, query.visible))
+            query.members.append(self._read_query(at + 1, last, label, outside, query.visible))
             return last + 1
         if not self.pieces[at].says("SELECT"):
             raise Refused(f"{self.pieces[at].text} at {self._place(at)}: a query begins with SELECT")
-        core = Core(at, end, called, outside)
-        query.members.append(core)
+        select = Select(at, end, label, outside)
+        query.members.append(select)
         stop = self._end_of_core(at, end, bool(query.operators))
-        core.end = stop
-        self._inner(core, query.visible)
+        select.end = stop
+        self._read_inner_queries(select, query.visible)
         return stop
 
     def _end_of_core(self, at: int, end: int, together: bool) -> int:
@@ -141,14 +142,14 @@ class Finder:
             stop = closing(self.pieces, stop) + 1 if token.says("(", "[") else stop + 1
         return end
 
-    def _inner(self, core: Core, visible: list[Part]) -> None:
-        at = core.start + 1
-        while at < core.end:
-            if self.pieces[at].says("(") and at + 1 < core.end and self.pieces[at + 1].says(*BEGIN):
+    def _read_inner_queries(self, select: Select, visible: list[Part]) -> None:
+        at = select.start + 1
+        while at < select.end:
+            if self.pieces[at].says("(") and at + 1 < select.end and self.pieces[at + 1].says(*BEGIN):
                 last = closing(self.pieces, at)
                 if not self.pieces[at + 1].says("VALUES"):
-                    called = f"the subquery at {self._place(at)}"
-                    core.inner.append(self._query(at + 1, last, called, core, visible))
+                    label = f"the subquery at {self._place(at)}"
+                    select.inner.append(self._read_query(at + 1, last, label, select, visible))
                 at = last
             at += 1
 

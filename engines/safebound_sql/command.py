@@ -11,9 +11,9 @@ from typing import Callable, NoReturn, Sequence
 
 from . import block_plans, output, sqlite, stops
 from .engine import Engine
-from .export import exported
+from .export import export_files
 from .faults import AboveBound, Fault, Refused, Unreadable, Usage
-from .kept import Kept
+from .kept import KeptCounts
 from .levels import MOST_BUDGET, Plan
 from .planner import Planner
 from .unreached import DIALECTS, unreached
@@ -47,7 +47,7 @@ def number(least: int, most: int) -> Callable[[str], int]:
     return read
 
 
-def words() -> Words:
+def argument_parser() -> Words:
     parser = Words(prog="safebound-sql", description="Proved row bounds for a query in PostgreSQL or SQLite.")
     commands = parser.add_subparsers(dest="command", required=True, parser_class=Words)
     for name, about in ABOUT.items():
@@ -120,7 +120,7 @@ def _engine(given: argparse.Namespace) -> Engine:
     if (given.db is None) == (dialect is None):
         raise Usage("either --db or --dialect is needed")
     if dialect is None:
-        return opened(given.db, given.timeout)
+        return open_engine(given.db, given.timeout)
     if given.schema is None:
         raise Usage("--dialect needs --schema FILE, where the CREATE TABLEs of the query's tables are")
     if given.command != "counts" and given.counts is None:
@@ -132,14 +132,14 @@ def _engine(given: argparse.Namespace) -> Engine:
     return unreached(dialect, text_of(given.schema))
 
 
-def opened(db: str, timeout: int | None) -> Engine:
+def open_engine(db: str, timeout: int | None) -> Engine:
     kind, _, rest = db.partition(":")
     if kind in ("postgresql", "postgres"):
         from . import postgres  # psycopg takes a while to load
 
-        return postgres.opened(db, timeout)
+        return postgres.open_engine(db, timeout)
     if kind == "sqlite" and rest:
-        return sqlite.opened(rest, timeout)
+        return sqlite.open_engine(rest, timeout)
     raise Usage(f"--db is postgresql://.. or sqlite:FILE, not {db!r}")
 
 
@@ -154,13 +154,13 @@ def text_of(file: str) -> str:
         raise Unreadable(f"{file}: {error}") from None
 
 
-def _planned(given: argparse.Namespace, planner: Planner) -> None:
+def _run_with_plan(given: argparse.Namespace, planner: Planner) -> None:
     """Runs the commands that need a plan."""
     kept = getattr(given, "kept", None)
     if given.count:
         plan = planner.plan_by_counting(given.accuracy, given.budget, given.tree)
     elif kept:
-        plan = planner.plan_by_kept(given.accuracy, given.budget, given.tree, Kept(kept))
+        plan = planner.plan_by_kept(given.accuracy, given.budget, given.tree, KeptCounts(kept))
     else:
         plan = planner.plan(given.accuracy, given.budget, given.tree, getattr(given, "counts", None))
     planner.check(plan)
@@ -170,7 +170,7 @@ def _planned(given: argparse.Namespace, planner: Planner) -> None:
     planner.expect(plan)
     true_rows = planner.true_rows(plan) if given.command == "audit" else None
     if getattr(given, "json", False):
-        sys.stdout.write(output.document(plan, planner.settings, planner.sql(plan), true_rows))
+        sys.stdout.write(output.plan_document(plan, planner.settings, planner.sql(plan), true_rows))
     else:
         _show(given, planner, plan, true_rows)
     for number, (level, rows) in enumerate(zip(plan.levels, true_rows or ()), 1):
@@ -179,7 +179,7 @@ def _planned(given: argparse.Namespace, planner: Planner) -> None:
 
 
 def _show(given: argparse.Namespace, planner: Planner, plan: Plan, true_rows: list[int] | None) -> None:
-    shown = output.table(plan, planner.engine.dialect.title, true_rows)
+    shown = output.plan_table(plan, planner.engine.dialect.title, true_rows)
     if given.command == "plan" and given.dialect:
         shown = "".join(f"-- {line}\n" for line in shown.splitlines()) + planner.script(plan)
     (sys.stderr if given.command == "run" else sys.stdout).write(shown)
@@ -187,8 +187,8 @@ def _show(given: argparse.Namespace, planner: Planner, plan: Plan, true_rows: li
         planner.run(plan, sys.stdout, given.null)
 
 
-def _kept(given: argparse.Namespace, planner: Planner) -> None:
-    kept = Kept(given.keep, has_to_be_there=False)
+def _run_keep(given: argparse.Namespace, planner: Planner) -> None:
+    kept = KeptCounts(given.keep, has_to_be_there=False)
     with planner.progress.doing("counting whole tables"):
         tables = kept.keep(planner.query, planner.engine)
     kept.save()
@@ -196,14 +196,14 @@ def _kept(given: argparse.Namespace, planner: Planner) -> None:
         print(f"{table.name}: {table.rows} rows, {', '.join(table.runs) or 'no column'}")
 
 
-def _appended(given: argparse.Namespace, engine: Engine) -> None:
-    kept = Kept(given.kept)
+def _run_append(given: argparse.Namespace, engine: Engine) -> None:
+    kept = KeptCounts(given.kept)
     table, new = kept.append(given.table, given.where, engine)
     kept.save()
     print(f"{table.name}: {table.rows} rows, {new} of them new")
 
 
-def _in_blocks(given: argparse.Namespace, engine: Engine, text: str) -> None:
+def _run_in_blocks(given: argparse.Namespace, engine: Engine, text: str) -> None:
     """Runs the commands that support queries of several blocks."""
     for option in ("tree", "kept", "counts"):
         if getattr(given, option, None):
@@ -238,7 +238,7 @@ def _in_blocks(given: argparse.Namespace, engine: Engine, text: str) -> None:
                 raise AboveBound(number, level.rows, level.bound)
 
 
-def done(given: argparse.Namespace) -> None:
+def run_command(given: argparse.Namespace) -> None:
     text = text_of(given.query) if given.command != "append" else ""
     if getattr(given, "kept", None) and getattr(given, "counts", None):
         raise Usage("either --kept or --counts")
@@ -250,21 +250,21 @@ def done(given: argparse.Namespace) -> None:
         if count and not engine.dialect.counts_exactly:
             raise Usage(f"--count is for PostgreSQL: {engine.dialect.title} has no exact numbers past 2^63")
         if given.command == "append":
-            return _appended(given, engine)
-        if engine.dialect.knows_blocks and block_plans.several(text, engine):
-            _in_blocks(given, engine, text)
+            return _run_append(given, engine)
+        if engine.dialect.knows_blocks and block_plans.has_several_blocks(text, engine):
+            _run_in_blocks(given, engine, text)
             return sys.stdout.flush()
         planner = Planner(engine, text, not (getattr(given, "no_reduce", False) or getattr(given, "kept", None)))
         if given.command == "counts" and given.keep:
-            _kept(given, planner)
+            _run_keep(given, planner)
         elif given.command == "counts":
             sys.stdout.write(planner.counting + ";\n")
             if planner.note:
                 print(f"safebound-sql: note: {planner.note}", file=sys.stderr)
         elif given.command == "export":
-            exported(planner.meaning, engine, given.folder, planner.progress)
+            export_files(planner.meaning, engine, given.folder, planner.progress)
         else:
-            _planned(given, planner)
+            _run_with_plan(given, planner)
         sys.stdout.flush()
     finally:
         engine.connection.close()
@@ -274,9 +274,9 @@ def main(arguments: Sequence[str] | None = None) -> int:
     """Runs a command. Returns the exit status."""
     if isinstance(sys.stdout, io.TextIOWrapper):
         sys.stdout.reconfigure(encoding="utf-8", errors="surrogateescape")
-    stops.heed()
+    stops.install_handlers()
     try:
-        done(words().parse_args(arguments))
+        run_command(argument_parser().parse_args(arguments))
     except Fault as fault:
         print(f"safebound-sql: {fault.line()}", file=sys.stderr)
         return fault.status
@@ -286,7 +286,7 @@ def main(arguments: Sequence[str] | None = None) -> int:
         os.dup2(os.open(os.devnull, os.O_WRONLY), 1)
         return NO_ROOM_FOR_OUTPUT
     except KeyboardInterrupt:
-        return 128 + (stops.came() or 2)
+        return 128 + (stops.first_signal() or 2)
     except RecursionError:
         print("safebound-sql: refused: the query is nested too deeply", file=sys.stderr)
         return 5

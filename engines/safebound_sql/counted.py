@@ -12,7 +12,7 @@ from .engine import Catalog, Engine
 from .factors import Conjunct, Factor, Join, joins
 from .faults import EngineFault
 from .levels import Plan, entries_of
-from .query import Equality, Named, Query, Reference, Text
+from .query import EntryColumn, Equality, Query, Reference, Text
 from .reducing import Parts, bracketed, own_conditions, where
 from .servers import rows_to_join
 
@@ -21,8 +21,8 @@ MOST_PAIRS = 4_000_000
 
 
 def conjuncts_of(query: Query, catalog: Catalog) -> list[Conjunct]:
-    """The conditions on several entries that depend only on the values by which rows are grouped. They are all
-    equalities that join, and other conditions over columns whose equal values give the same result in every function.
+    """The conditions on several entries that depend only on the values by which rows are grouped. These are each
+    equality that joins, and those other conditions whose columns' equal values give equal results in every function.
     """
     equalities = [
         Conjunct(frozenset((left.entry, right.entry)), frozenset((left, right)), equality)
@@ -40,18 +40,18 @@ def conjuncts_of(query: Query, catalog: Catalog) -> list[Conjunct]:
     ]
 
 
-def columns_of(text: Text) -> frozenset[Named]:
+def columns_of(text: Text) -> frozenset[EntryColumn]:
     return frozenset(part.named for part in text.parts if isinstance(part, Reference))
 
 
-class Made(NamedTuple):
+class FactorPart(NamedTuple):
     """A factor's part of the statement, and the parts that count the pairs of groups of its joins."""
 
     name: str
     pairs: tuple[str, ...]
 
 
-class Choices:
+class ChoicesStatement:
     """Writes the statement that counts choices of rows, part by part."""
 
     def __init__(
@@ -64,44 +64,45 @@ class Choices:
         # Columns get numbers, since the name of a column may already have the greatest length of a name.
         self.columns = {one: f"{prefix}{one.entry}_{at}" for at, one in enumerate(in_order)}
         columns = {
-            entry.number: [c for c in entry.about.by_key.values() if Named(entry.number, c) in named]
+            entry.number: [c for c in entry.about.by_name.values() if EntryColumn(entry.number, c) in named]
             for entry in query.entries
         }
         self.parts = rows_to_join(query, dialect, columns, prefix) if reduce else Parts()
         self.texts = list(self.parts.texts)
         self.number = f"{prefix}n"
-        self.made: dict[Factor, Made] = {}
+        self.parts_by_factor: dict[Factor, FactorPart] = {}
 
     def statement(self, levels: Iterable[tuple[int, Sequence[int]]]) -> str:
         """The statement returns one row for each level: the level's number, and the number of choices of its entries'
         rows. A level with too many pairs has no row.
         """
-        selects = [f"SELECT {number} AS level, {self._total(entries)}" for number, entries in levels]
+        selects = [f"SELECT {number} AS level, {self._select_of_level(entries)}" for number, entries in levels]
         return self.dialect.with_parts(self.texts, "\nUNION ALL ".join(selects))
 
-    def _total(self, entries: Sequence[int]) -> str:
+    def _select_of_level(self, entries: Sequence[int]) -> str:
         found = joins(entries, self.conjuncts)
-        made = self._factor(found[-1].both, {join.both: join for join in found})
-        return f"{self.number} FROM {made.name}{where(self._few(made.pairs))}"
+        made = self._part_of_factor(found[-1].both, {join.both: join for join in found})
+        return f"{self.number} FROM {made.name}{where(self._within_limit(made.pairs))}"
 
-    def _few(self, pairs: Iterable[str]) -> list[str]:
-        """Conditions that each of these numbers of pairs is within the limit. PostgreSQL tests these conditions once
+    def _within_limit(self, pairs: Iterable[str]) -> list[str]:
+        """The conditions that each number of pairs is within the limit. PostgreSQL tests these conditions once
         and first, and doesn't compute a part that is then never read.
         """
         return [f"(SELECT {self.number} FROM {name}) <= {self.most_pairs}" for name in pairs]
 
-    def _factor(self, factor: Factor, by: dict[Factor, Join]) -> Made:
+    def _part_of_factor(self, factor: Factor, by: dict[Factor, Join]) -> FactorPart:
         """The part that computes this factor. The part of a factor doesn't depend on the joins that lead to it."""
-        if factor not in self.made:
-            self.made[factor] = self._joined(by[factor], by) if factor in by else self._grouped(factor)
-        return self.made[factor]
+        if factor not in self.parts_by_factor:
+            part = self._part_of_join(by[factor], by) if factor in by else self._part_of_entry(factor)
+            self.parts_by_factor[factor] = part
+        return self.parts_by_factor[factor]
 
-    def _part(self, text: str) -> str:
+    def _add_part(self, text: str) -> str:
         name = f"{self.prefix}{len(self.texts) + 1}"
         self.texts.append((name, text))
         return name
 
-    def _grouped(self, factor: Factor) -> Made:
+    def _part_of_entry(self, factor: Factor) -> FactorPart:
         """The factor of one entry: for each combination of values of its open columns, how many of its rows have them.
         """
         [number] = factor.entries
@@ -109,7 +110,7 @@ class Choices:
         rows, conditions = self.parts.rows.get(number), own_conditions(entry)
         values = [f"{entry.alias}.{self.dialect.quote(named.column.name)}" for named in factor.open]
         source = f"FROM {rows or entry.table} AS {entry.alias}{where([] if rows else conditions)}"
-        return Made(self._part(self._select(factor, values, "CAST(COUNT(*) AS NUMERIC)", source)), ())
+        return FactorPart(self._add_part(self._select(factor, values, "CAST(COUNT(*) AS NUMERIC)", source)), ())
 
     def _select(self, factor: Factor, values: list[str], number: str, source: str) -> str:
         """The SELECT of a number for each combination of values of the factor's open columns."""
@@ -117,49 +118,51 @@ class Choices:
         groups = f" GROUP BY {', '.join(str(at) for at in range(1, len(outputs) + 1))}" if outputs else ""
         return f"SELECT {', '.join([*outputs, f'{number} AS {self.number}'])} {source}{groups}"
 
-    def _joined(self, join: Join, by: dict[Factor, Join]) -> Made:
-        left, right = self._factor(join.left, by), self._factor(join.right, by)
+    def _part_of_join(self, join: Join, by: dict[Factor, Join]) -> FactorPart:
+        left, right = self._part_of_factor(join.left, by), self._part_of_factor(join.right, by)
         pairs = left.pairs + tuple(name for name in right.pairs if name not in left.pairs)
-        own = [] if join.has_few_pairs else [self._pairs(join, left.name, right.name)]
+        own = [] if join.has_few_pairs else [self._part_of_pairs(join, left.name, right.name)]
         sides = {**dict.fromkeys(join.left.entries, left.name), **dict.fromkeys(join.right.entries, right.name)}
         values = [f"{sides[named.entry]}.{self.columns[named]}" for named in join.both.open]
-        source = f"FROM {left.name} {self._on(join, left.name, right.name, right.name)}{self._entries(join, sides)}"
-        tests = [bracketed(str(other.what)) for other in join.others] + self._few(own)
+        joined = f"{left.name} {self._join_clause(join, left.name, right.name, right.name)}"
+        source = f"FROM {joined}{self._lateral_entries(join, sides)}"
+        tests = [bracketed(str(other.what)) for other in join.others] + self._within_limit(own)
         product = f"COALESCE(SUM({left.name}.{self.number} * {right.name}.{self.number}), 0)"
         text = self._select(join.both, values, product, source + where(tests))
-        return Made(self._part(text), (*pairs, *own))
+        return FactorPart(self._add_part(text), (*pairs, *own))
 
-    def _on(self, join: Join, left: str, right: str, rows: str) -> str:
+    def _join_clause(self, join: Join, left: str, right: str, rows: str) -> str:
         """The JOIN of the right side. Its groups are read from `rows`."""
         equal = [f"{left}.{self.columns[one]} = {right}.{self.columns[other]}" for one, other in join.equalities]
         return f"JOIN {rows} ON {' AND '.join(equal)}" if equal else f"CROSS JOIN {rows}"
 
-    def _entries(self, join: Join, sides: dict[int, str]) -> str:
+    def _lateral_entries(self, join: Join, sides: dict[int, str]) -> str:
         """Gives columns their own names and their entries' aliases again, for the conditions that name them."""
         named = sorted(
-            set[Named]().union(*(other.columns for other in join.others)), key=lambda named: named.column.name
+            set[EntryColumn]().union(*(other.columns for other in join.others)), key=lambda named: named.column.name
         )
         return "".join(
-            f" CROSS JOIN LATERAL (SELECT {self._again(entry, named, sides[entry])})"
+            f" CROSS JOIN LATERAL (SELECT {self._with_alias(entry, named, sides[entry])})"
             f" AS {self.query.entries[entry].alias}"
             for entry in sorted({column.entry for column in named})
         )
 
-    def _again(self, entry: int, named: list[Named], part: str) -> str:
+    def _with_alias(self, entry: int, named: list[EntryColumn], part: str) -> str:
         return ", ".join(
             f"{part}.{self.columns[column]} AS {self.dialect.quote(column.column.name)}"
             for column in named
             if column.entry == entry
         )
 
-    def _pairs(self, join: Join, left: str, right: str) -> str:
+    def _part_of_pairs(self, join: Join, left: str, right: str) -> str:
         """The part that counts the pairs of groups whose values are equal."""
-        rows = self._meeting(left, [one for one, _ in join.equalities])
-        others = self._meeting(right, [other for _, other in join.equalities])
+        rows = self._groups_by(left, [one for one, _ in join.equalities])
+        others = self._groups_by(right, [other for _, other in join.equalities])
         product = f"COALESCE(SUM({left}.{self.number} * {right}.{self.number}), 0)"
-        return self._part(f"SELECT {product} AS {self.number} FROM {rows} {self._on(join, left, right, others)}")
+        joined = f"{rows} {self._join_clause(join, left, right, others)}"
+        return self._add_part(f"SELECT {product} AS {self.number} FROM {joined}")
 
-    def _meeting(self, name: str, columns: list[Named]) -> str:
+    def _groups_by(self, name: str, columns: list[EntryColumn]) -> str:
         """How many groups of a factor share each combination of values of these columns."""
         values = list(dict.fromkeys(self.columns[column] for column in columns))
         outputs = ", ".join([*values, f"CAST(COUNT(*) AS NUMERIC) AS {self.number}"])
@@ -167,7 +170,7 @@ class Choices:
         return f"(SELECT {outputs} FROM {name}{groups}) AS {name}"
 
 
-class Lowering:
+class BoundLowerer:
     """Lowers a plan's bounds to counted numbers, for levels of several entries."""
 
     def __init__(
@@ -181,30 +184,30 @@ class Lowering:
         self.large = prod(sorted(plan.counts.rows.values())[-2:]) > most_pairs
 
     def lower(self) -> None:
-        """Counts by all conditions. Where that makes too many pairs, counts by equalities alone."""
+        """Counts by all conditions. Where that makes too many pairs, counts only by equalities."""
         levels = [number for number, level in enumerate(self.plan.levels, 1) if not isinstance(level.shape, int)]
-        left = self._by_all(levels)
+        left = self._count_by_all(levels)
         more = [number for number in left if self._others_within(number)]
         past = f"more than {self.most_pairs} pairs would meet"
-        never = self._lowered(more, self.equalities, "equalities")
+        never = self._lower_by(more, self.equalities, "equalities")
         for number in left:
             if number in never or number not in more:
                 self.plan.notes.append(f"level {number} isn't counted: {past}")
             else:
                 self.plan.notes.append(f"level {number} is counted by equalities alone: by all conditions {past}")
 
-    def _by_all(self, levels: list[int]) -> list[int]:
-        """Counts by all conditions. A condition may fail with an error on rows that the query itself never tests; then
-        equalities alone are used.
+    def _count_by_all(self, levels: list[int]) -> list[int]:
+        """Counts by all conditions. A condition may fail with an error on rows that the query itself never tests. Then
+        this counts only by equalities.
         """
         try:
-            left = self._lowered(levels, self.equalities + self.others, "all conditions")
+            left = self._lower_by(levels, self.equalities + self.others, "all conditions")
         except EngineFault as fault:
             if not (fault.of_data and self.others):
                 raise
             self.plan.notes.append(f"other conditions than equalities aren't counted: {fault}")
             self.others = []
-            left = self._lowered(levels, self.equalities, "equalities")
+            left = self._lower_by(levels, self.equalities, "equalities")
         self.plan.tested = frozenset(other.what for other in self.others if isinstance(other.what, Text))
         return left
 
@@ -212,11 +215,13 @@ class Lowering:
         entries = frozenset(entries_of(self.plan.levels[number - 1].shape))
         return any(other.entries <= entries for other in self.others)
 
-    def _lowered(self, levels: list[int], conjuncts: list[Conjunct], by: str) -> list[int]:
+    def _lower_by(self, levels: list[int], conjuncts: list[Conjunct], by: str) -> list[int]:
         """Lowers the bounds of these levels. Returns the levels that it didn't count."""
         if not levels:
             return []
-        asked = Choices(self.plan.query, self.engine.dialect, self.prefix, conjuncts, self.reduce, self.most_pairs)
+        asked = ChoicesStatement(
+            self.plan.query, self.engine.dialect, self.prefix, conjuncts, self.reduce, self.most_pairs
+        )
         statement = asked.statement([(number, entries_of(self.plan.levels[number - 1].shape)) for number in levels])
         found = {number: int(choices) for number, choices in self.engine.connection.counted(statement, self.large)}
         for number, choices in found.items():

@@ -35,14 +35,16 @@ def prefix_for(texts: Iterable[str]) -> str:
     return prefix
 
 
-def counting(query: Query, dialect: Dialect, prefix: str, reduce: bool, known: Collection[int] = ()) -> str:
+def counting_statement(query: Query, dialect: Dialect, prefix: str, reduce: bool, known: Collection[int] = ()) -> str:
     """The counting statement. Its rows are (entry, column, degree, keys): `keys` different values of the column occur
     in `degree` rows each.
 
     Rows in which the column is NULL have degree 0. A row with the column '' says how many rows the entry has. For
     entries in `known`, whose degrees are known already, the statement asks only for this number.
     """
-    columns = {entry.number: [] if entry.number in known else query.joined(entry.number) for entry in query.entries}
+    columns = {
+        entry.number: [] if entry.number in known else query.joined_columns(entry.number) for entry in query.entries
+    }
     texts: list[tuple[str, str]] = []
     sources = {entry.number: Source(entry, own_conditions(entry)) for entry in query.entries}
     if reduce:
@@ -55,18 +57,18 @@ def histograms(source: Source, columns: list[Column], dialect: Dialect) -> list[
     """The parts of a counting statement about one entry."""
     name = written_text(source.entry.name)
     degree, rows = source.total()
-    total = _line(dialect, name, "''", degree, "1", rows)
+    total = _select_line(dialect, name, "''", degree, "1", rows)
     return [total] + [_histogram(name, column, dialect, source) for column in columns]
 
 
-def _line(dialect: Dialect, entry: str, column: str, degree: str, keys: str, rows: str) -> str:
+def _select_line(dialect: Dialect, entry: str, column: str, degree: str, keys: str, rows: str) -> str:
     values = zip((entry, column, degree, keys), HEADER)
     return f"SELECT {', '.join(f'{value} AS {dialect.quote(name)}' for value, name in values)} {rows}"
 
 
 def _histogram(entry: str, column: Column, dialect: Dialect, source: Source) -> str:
     degrees = f"FROM ({source.degrees(column, dialect)}) AS degrees GROUP BY d"
-    return _line(dialect, entry, written_text(column.name), "d", "COUNT(*)", degrees)
+    return _select_line(dialect, entry, written_text(column.name), "d", "COUNT(*)", degrees)
 
 
 def counts_of(query: Query, rows: Iterable[Row]) -> Counts:
@@ -75,7 +77,7 @@ def counts_of(query: Query, rows: Iterable[Row]) -> Counts:
     Raises:
         WrongCounts: it isn't a result of the statement of this query.
     """
-    return counts_among({entry.name: query.joined(entry.number) for entry in query.entries}, rows)
+    return counts_among({entry.name: query.joined_columns(entry.number) for entry in query.entries}, rows)
 
 
 def counts_among(asked: dict[str, list[Column]], rows: Iterable[Row]) -> Counts:

@@ -62,20 +62,20 @@ class Dialect:
         """The settings that keep a statement's joins of these tables in their order."""
         return self.settings
 
-    def key(self, name: str, quoted: bool) -> str:
+    def normalized(self, name: str, quoted: bool) -> str:
         """The name in the form that the engine compares."""
         return name if quoted else lower(name)
 
-    def key_of(self, token: Token) -> str:
-        """The name of a table, column, function or operator, in the form by which the engine finds it."""
+    def normalized_name(self, token: Token) -> str:
+        """The name of a table, column, function or operator, in the form that the engine compares."""
         quoted = token.kind in ("quoted", "text")
-        return self.key(unquoted(token) if quoted else token.text, quoted)
+        return self.normalized(unquoted(token) if quoted else token.text, quoted)
 
-    def reads_clock(self, pieces: list[Token], at: int, below: bool = False) -> bool:
+    def reads_clock(self, pieces: list[Token], at: int, in_view: bool = False) -> bool:
         """Whether a function that reads the clock begins at the token `at`. Such a function may give two statements
         different times.
 
-        `below`: the tokens are those of a view, and it isn't known whose columns they name.
+        `in_view`: the tokens are those of a view, and it isn't known whose columns they name.
         """
         return False
 

@@ -80,7 +80,7 @@ class Catalog(ABC):
         """
         return {}
 
-    def holds_now(self, table: str, column: str) -> bool:
+    def has_text_now(self, table: str, column: str) -> bool:
         """Whether the column has the text 'now' among its values. A date function with this argument reads the clock.
         """
         return False

@@ -1,6 +1,6 @@
 """Plans how to count the choices of rows of some entries without joining the rows (variable elimination).
 
-A choice has one row of each of some entries, and satisfies all conditions on these entries alone. A factor of these
+A choice has one row of each of some entries, and satisfies all conditions that name no other entry. A factor of these
 entries gives, for each combination of values of its open columns, the number of choices with these values. A column is
 open as long as some condition that names it hasn't been tested.
 """
@@ -9,7 +9,7 @@ from __future__ import annotations
 
 from typing import Callable, Iterable, NamedTuple, Sequence, Tuple, Union
 
-from .query import Equality, Named, Text
+from .query import EntryColumn, Equality, Text
 
 
 class Conjunct(NamedTuple):
@@ -18,7 +18,7 @@ class Conjunct(NamedTuple):
     """
 
     entries: frozenset[int]
-    columns: frozenset[Named]
+    columns: frozenset[EntryColumn]
     what: Union[Equality, Text]
 
 
@@ -26,7 +26,7 @@ class Factor(NamedTuple):
     """The entries of a factor, and its open columns."""
 
     entries: frozenset[int]
-    open: tuple[Named, ...]
+    open: tuple[EntryColumn, ...]
 
 
 class Join(NamedTuple):
@@ -37,7 +37,7 @@ class Join(NamedTuple):
     left: Factor
     right: Factor
     both: Factor
-    equalities: tuple[tuple[Named, Named], ...]
+    equalities: tuple[tuple[EntryColumn, EntryColumn], ...]
     others: tuple[Conjunct, ...]
 
     @property
@@ -58,7 +58,7 @@ def joins(entries: Sequence[int], conjuncts: Iterable[Conjunct]) -> list[Join]:
     factors = [_factor(frozenset([entry]), left) for entry in entries]
     found: list[Join] = []
     while len(factors) > 1:
-        join = _next(factors, left)
+        join = _next_join(factors, left)
         left = [conjunct for conjunct in left if not conjunct.entries <= join.both.entries]
         factors = [join.both, *(factor for factor in factors if factor not in (join.left, join.right))]
         found.append(join)
@@ -66,7 +66,7 @@ def joins(entries: Sequence[int], conjuncts: Iterable[Conjunct]) -> list[Join]:
 
 
 def _factor(entries: frozenset[int], left: list[Conjunct]) -> Factor:
-    """The factor of these entries, after all conditions on these entries alone are tested."""
+    """The factor of these entries, after all conditions that name no other entry are tested."""
     named = {
         named
         for conjunct in left
@@ -77,10 +77,10 @@ def _factor(entries: frozenset[int], left: list[Conjunct]) -> Factor:
     return Factor(entries, tuple(sorted(named, key=lambda named: (named.entry, named.column.name))))
 
 
-def _next(factors: list[Factor], left: list[Conjunct]) -> Join:
-    """Joins two factors. It prefers a pair in which one factor has no conditions with any third factor, and among these
-    a pair whose join `has_few_pairs`. Without such a pair it takes two factors that an equality connects, or else two
-    that any condition connects.
+def _next_join(factors: list[Factor], left: list[Conjunct]) -> Join:
+    """Joins two factors. It prefers a pair in which one factor has no conditions with any third factor. Among these it
+    prefers a pair whose join `has_few_pairs`. Without such a pair it takes two factors that an equality connects, or
+    else two factors that any condition connects.
     """
 
     def ends_in(pair: Pair) -> bool:

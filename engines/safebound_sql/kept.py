@@ -45,7 +45,8 @@ class KeptTable:
     def answer(self, entry: str, columns: Iterable[Column]) -> list[Row]:
         """The rows that a counting statement would return for these columns."""
         lines: list[Row] = [(entry, column.name, *run) for column in columns for run in self.runs[column.name]]
-        return lines + [(entry, column.name, 0, 1) for column in columns if _sum(self.runs[column.name]) < self.rows]
+        with_nulls = [column for column in columns if _sum_of_rows(self.runs[column.name]) < self.rows]
+        return lines + [(entry, column.name, 0, 1) for column in with_nulls]
 
 
 def type_of(column: Column) -> str:
@@ -53,7 +54,7 @@ def type_of(column: Column) -> str:
     return f"{column.type}, {column.kind}"
 
 
-def _sum(runs: Runs) -> int:
+def _sum_of_rows(runs: Runs) -> int:
     return sum(degree * keys for degree, keys in runs)
 
 
@@ -61,7 +62,7 @@ def now() -> str:
     return datetime.datetime.now(datetime.timezone.utc).strftime("%Y-%m-%d %H:%M:%S UTC")
 
 
-class Kept:
+class KeptCounts:
     """The tables of a file of kept counts. A file that doesn't exist has no tables."""
 
     def __init__(self, file: str, has_to_be_there: bool = True) -> None:
@@ -77,7 +78,7 @@ class Kept:
             if content["form"] != FORM:
                 raise ValueError
             for identity, about in content["tables"].items():
-                self.tables[identity] = _table(about)
+                self.tables[identity] = _read_table(about)
         except OSError as error:
             raise Unreadable(f"{self.file}: {error}") from None
         except (ValueError, KeyError, TypeError, AttributeError):
@@ -95,14 +96,14 @@ class Kept:
         except OSError as error:
             raise Unreadable(f"{self.file}: {error}") from None
 
-    def taken(self, query: Query) -> dict[int, KeptTable]:
-        """The kept counts of each entry that needs no counting: it has no own condition, and all its joined columns are
+    def usable_counts(self, query: Query) -> dict[int, KeptTable]:
+        """The kept counts of the entries that need no new count: without own conditions, and with all joined columns
         kept.
         """
         found = {}
         for entry in query.entries:
             table = self.tables.get(entry.about.identity or "")
-            if table and not entry.own and all(map(table.has, query.joined(entry.number))):
+            if table and not entry.own and all(map(table.has, query.joined_columns(entry.number))):
                 found[entry.number] = table
         return found
 
@@ -115,15 +116,15 @@ class Kept:
         for entry in query.entries:
             identity = entry.about.identity or ""
             before = self.tables[identity].types if identity in self.tables else ()
-            own = query.joined(entry.number) + columns.get(identity, [])
+            own = query.joined_columns(entry.number) + columns.get(identity, [])
             entries.setdefault(identity, entry)
             columns[identity] = [
-                c for c in entry.about.by_key.values() if c in own or (c.name in before and c.kind is not None)
+                c for c in entry.about.by_name.values() if c in own or (c.name in before and c.kind is not None)
             ]
         parts = [
             part
             for identity, entry in entries.items()
-            for part in histograms(Source(_renamed(entry, identity), []), columns[identity], engine.dialect)
+            for part in histograms(Source(_renamed_entry(entry, identity), []), columns[identity], engine.dialect)
         ]
         counts = counts_among(columns, engine.connection.rows("\nUNION ALL ".join(parts)))
         for identity, entry in entries.items():
@@ -143,15 +144,15 @@ class Kept:
         table, and the number of added rows.
         """
         query = Meaning(f"SELECT 1 FROM {table} WHERE {condition}", engine).query
-        if len(query.entries) != 1 or str(query.above):
+        if len(query.entries) != 1 or str(query.later_clauses):
             raise WrongCounts("one table is needed, and a condition for its rows")
         entry = query.entries[0]
         kept = self.tables.get(entry.about.identity or "")
-        columns = [column for column in entry.about.by_key.values() if kept and column.name in kept.types]
+        columns = [column for column in entry.about.by_name.values() if kept and column.name in kept.types]
         if kept is None or len(columns) < len(kept.types) or not all(map(kept.has, columns)):
             raise WrongCounts(f"{self.file} has no counts of {table} as it is; keep them anew")
         conditions = own_conditions(entry) + list(map(str, query.constants))
-        whole, new = Source(_renamed(entry, "whole"), []), Source(_renamed(entry, "new"), conditions)
+        whole, new = Source(_renamed_entry(entry, "whole"), []), Source(_renamed_entry(entry, "new"), conditions)
         parts = histograms(whole, [], engine.dialect) + histograms(new, columns, engine.dialect)
         counts = counts_among({"whole": [], "new": columns}, engine.connection.rows("\nUNION ALL ".join(parts)))
         if kept.rows + counts.rows["new"] != counts.rows["whole"]:
@@ -161,16 +162,16 @@ class Kept:
             )
             raise WrongCounts(f"{why}; keep its counts anew")
         for column in columns:
-            kept.runs[column.name] = _appended(kept.runs[column.name], counts.runs["new", column.name])
+            kept.runs[column.name] = _append_runs(kept.runs[column.name], counts.runs["new", column.name])
         kept.rows, kept.time = counts.rows["whole"], now()
         return kept, counts.rows["new"]
 
 
-def _renamed(entry: Entry, name: str) -> Entry:
+def _renamed_entry(entry: Entry, name: str) -> Entry:
     return Entry(entry.number, name, entry.alias, entry.table, entry.about)
 
 
-def _appended(old: Runs, new: Runs) -> Runs:
+def _append_runs(old: Runs, new: Runs) -> Runs:
     """The library's rank-wise sum. It dominates the list of all rows, even if old and new rows share values."""
     if not (old and new):
         return old or new
@@ -178,15 +179,15 @@ def _appended(old: Runs, new: Runs) -> Runs:
         return [(run.degree, run.keys) for run in safebound.append(old, new)]
 
 
-def _table(about: Dict[str, Any]) -> KeptTable:
+def _read_table(about: Dict[str, Any]) -> KeptTable:
     """A table of a file, after it is checked."""
     runs = {column: [(int(degree), int(keys)) for degree, keys in found] for column, found in about["runs"].items()}
     table = KeptTable(str(about["name"]), str(about["time"]), int(about["rows"]), dict(about["types"]), runs)
-    if set(table.types) != set(runs) or any(_wrong(found, table.rows) for found in runs.values()):
+    if set(table.types) != set(runs) or any(_is_invalid(found, table.rows) for found in runs.values()):
         raise ValueError
     return table
 
 
-def _wrong(runs: Runs, rows: int) -> bool:
-    descends = all(before[0] >= behind[0] for before, behind in zip(runs, runs[1:]))
-    return not descends or any(degree < 1 or keys < 1 for degree, keys in runs) or _sum(runs) > rows
+def _is_invalid(runs: Runs, rows: int) -> bool:
+    descends = all(before[0] >= after[0] for before, after in zip(runs, runs[1:]))
+    return not descends or any(degree < 1 or keys < 1 for degree, keys in runs) or _sum_of_rows(runs) > rows

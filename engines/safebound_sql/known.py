@@ -3,7 +3,7 @@
 from __future__ import annotations
 
 # Words that give the time or the user. Two statements of one script may get different values.
-TIMES = (
+CLOCK_WORDS = (
     "CURRENT_DATE", "CURRENT_TIME", "CURRENT_TIMESTAMP", "CURRENT_DATETIME", "LOCALTIME", "LOCALTIMESTAMP",
     "CURRENT_USER", "CURRENT_ROLE", "CURRENT_CATALOG", "CURRENT_SCHEMA", "CURRENT_TIMEZONE", "SESSION_USER", "SYSDATE",
 )

@@ -11,7 +11,7 @@ from safebound.limits import MOST_BUDGET as MOST_BUDGET
 
 from .counting import Counts
 from .faults import Missing, NoBound, PastBudget, WrongCounts
-from .query import Named, Query, Text
+from .query import EntryColumn, Query, Text
 
 Shape = Union[int, "tuple[Shape, Shape]"]
 
@@ -90,7 +90,7 @@ def library_faults(budget: int = MOST_BUDGET) -> Iterator[None]:
         raise WrongCounts(str(error)) from None
 
 
-def planned(query: Query, counts: Counts, accuracy: int, budget: int, tree: bool) -> Plan:
+def best_plan(query: Query, counts: Counts, accuracy: int, budget: int, tree: bool) -> Plan:
     """The best plan for the counts.
 
     Raises:
@@ -120,7 +120,7 @@ def lists_of(counts: Counts, accuracy: int) -> Lists:
 def equalities_of(query: Query) -> list[Equal]:
     """The equalities as the library takes them."""
 
-    def of(side: Named) -> Side:
+    def of(side: EntryColumn) -> Side:
         return query.entries[side.entry].name, side.column.name
 
     return [(of(equality.left), of(equality.right)) for equality in query.equalities]

@@ -5,9 +5,9 @@ from __future__ import annotations
 from typing import Iterator
 
 from .engine import Engine
-from .choosing import choosing
 from .names import Names, alias_of, subqueries
-from .query import Condition, Named, Query, Reference, Text
+from .nondeterministic import nondeterministic
+from .query import Condition, EntryColumn, Query, Reference, Text
 from .reading import Statement, Tokens, at_commas, read
 from .tokens import Token, closing, part_of_name, tokens, written
 
@@ -36,11 +36,11 @@ def _calls(pieces: Tokens, engine: Engine) -> dict[str, Token]:
     found: dict[str, Token] = {}
     for at, token in enumerate(pieces):
         dot = "." if at and pieces[at - 1].says(".") else ""
-        called = token.names and at + 1 < len(pieces) and pieces[at + 1].says("(")
-        if called or token.kind == "operator" or token.says(*engine.dialect.calls_without_parentheses):
-            found.setdefault(dot + engine.dialect.key_of(token), token)
-        elif engine.dialect.columns_may_be_calls and dot and token.names:
-            found.setdefault(".." + engine.dialect.key_of(token), token)
+        is_call = token.is_name and at + 1 < len(pieces) and pieces[at + 1].says("(")
+        if is_call or token.kind == "operator" or token.says(*engine.dialect.calls_without_parentheses):
+            found.setdefault(dot + engine.dialect.normalized_name(token), token)
+        elif engine.dialect.columns_may_be_calls and dot and token.is_name:
+            found.setdefault(".." + engine.dialect.normalized_name(token), token)
     return found
 
 
@@ -48,9 +48,9 @@ def _tables(pieces: Tokens) -> dict[str, Token]:
     """The tokens that may name a table or view: names with or without a schema."""
     found: dict[str, Token] = {}
     for at, token in enumerate(pieces):
-        if not token.names:
+        if not token.is_name:
             continue
-        if at > 1 and pieces[at - 1].says(".") and pieces[at - 2].names:
+        if at > 1 and pieces[at - 1].says(".") and pieces[at - 2].is_name:
             found.setdefault(f"{pieces[at - 2].text}.{token.text}", token)
         else:
             found.setdefault(token.text, token)
@@ -78,10 +78,10 @@ def _volatile_views(names: set[str], engine: Engine) -> Iterator[tuple[str, str]
 def _volatile_parts(pieces: Tokens, engine: Engine) -> Iterator[str]:
     for what, why in engine.catalog.volatile(set(_calls(pieces, engine))).items():
         yield f"{what.lstrip('.')}: {why}"
-    for token, what in choosing(pieces, engine.dialect):
+    for token, what in nondeterministic(pieces, engine.dialect):
         yield f"{what}, so its rows may be others at each call; make a table of it, and name that"
     for at, token in enumerate(pieces):
-        if engine.dialect.reads_clock(pieces, at, below=True):
+        if engine.dialect.reads_clock(pieces, at, in_view=True):
             yield f"{token.text}: {engine.dialect.why_clock}"
 
 
@@ -107,13 +107,13 @@ class Meaning:
 
     def _understand(self, pieces: Tokens) -> None:
         for one, other in self.names.usings:
-            self._equality(one, other, Text((self._reference(one), " = ", self._reference(other))))
+            self._take_equality(one, other, Text((self._reference(one), " = ", self._reference(other))))
         for piece in self.statement.conditions:
-            self._condition(piece)
+            self._take_condition(piece)
         self.query.outputs = [output for piece in self.statement.outputs for output in self._output(piece)]
-        self.query.distinct = self._above(self.statement.distinct)
-        self.statement.above = self._with_columns_of_keys(self.statement.above)
-        self.query.above = self._above(self.statement.above)
+        self.query.distinct = self._text_above(self.statement.distinct)
+        self.statement.later_clauses = self._with_columns_of_keys(self.statement.later_clauses)
+        self.query.later_clauses = self._text_above(self.statement.later_clauses)
         self._keep_using()
         self.query.needed |= self.query.named_above
         self._look_for_now(pieces)
@@ -123,40 +123,47 @@ class Meaning:
         query.
         """
         statement = self.statement
-        for piece in (*statement.outputs, *statement.conditions, statement.distinct, statement.above):
+        for piece in (*statement.outputs, *statement.conditions, statement.distinct, statement.later_clauses):
             for start, end in subqueries(piece):
                 for token, _ in self.dialect.clock_arguments(piece[start:end]):
                     raise statement.refuse(token, self.dialect.why_clock)
             for token, column in self.dialect.clock_arguments(piece):
-                named = self.names.side(column)
-                if named is None or self.catalog.holds_now(self.query.entries[named.entry].table, named.column.name):
+                named = self.names.single_column(column)
+                if named is None or self.catalog.has_text_now(self.query.entries[named.entry].table, named.column.name):
                     raise statement.refuse(token, self.dialect.why_clock)
 
     def _names_of_outputs(self, text: str) -> set[str]:
         """The names of outputs that SQLite may find within a condition."""
         if not self.dialect.outputs_in_conditions:
             return set()
-        told = self.catalog.output_names(text)
-        if told is not None:
-            return {self.dialect.key(name, True) for name in told}
-        return {self.dialect.key_of(alias) for output in self.statement.outputs if (alias := alias_of(output))}
+        found = self.catalog.output_names(text)
+        if found is not None:
+            return {self.dialect.normalized(name, True) for name in found}
+        return {self.dialect.normalized_name(alias) for output in self.statement.outputs if (alias := alias_of(output))}
 
-    def _with_columns_of_keys(self, above: Tokens) -> Tokens:
+    def _with_columns_of_keys(self, clauses: Tokens) -> Tokens:
         """If GROUP BY names a primary key, adds the other columns of its table that are named. PostgreSQL allows these
         columns beside a table's key, but a part of WITH has no key.
         """
-        groups = _groups(above)
+        groups = _group_by_range(clauses)
         if groups is None or not any(entry.about.key for entry in self.query.entries):
-            return above
-        outputs = {self.dialect.key_of(alias): piece for piece in self.statement.outputs if (alias := alias_of(piece))}
-        grouped = {
-            named for piece in at_commas(above[groups.start : groups.stop]) if (named := self._grouped(piece, outputs))
+            return clauses
+        outputs = {
+            self.dialect.normalized_name(alias): piece
+            for piece in self.statement.outputs
+            if (alias := alias_of(piece))
         }
-        mentioned = set[Named]().union(
-            *(self.names.named(piece) for piece in (*self.statement.outputs, above) if self.names.star(piece) is None)
-        )
+        grouped = {
+            named
+            for piece in at_commas(clauses[groups.start : groups.stop])
+            if (named := self._grouped_column(piece, outputs))
+        }
+        without_star = [
+            piece for piece in (*self.statement.outputs, clauses) if self.names.star_columns(piece) is None
+        ]
+        mentioned = set[EntryColumn]().union(*map(self.names.named_columns, without_star))
         for piece in self.statement.outputs:
-            mentioned |= set(self.names.star(piece) or ())
+            mentioned |= set(self.names.star_columns(piece) or ())
         more: Tokens = []
         for other in sorted(mentioned - grouped, key=lambda named: (named.entry, named.column.name)):
             about = self.query.entries[other.entry].about
@@ -164,17 +171,19 @@ class Meaning:
                 continue
             if (
                 about.key
-                and {Named(other.entry, about.by_key[name]) for name in about.key if name in about.by_key} <= grouped
+                and {
+                    EntryColumn(other.entry, about.by_name[name]) for name in about.key if name in about.by_name
+                } <= grouped
             ):
-                more += tokens(f", {self.names.qualified(other)}", self.dialect.rules)
-        return above[: groups.stop] + more + above[groups.stop :]
+                more += tokens(f", {self.names.qualified_name(other)}", self.dialect.rules)
+        return clauses[: groups.stop] + more + clauses[groups.stop :]
 
-    def _grouped(self, piece: Tokens, outputs: dict[str, Tokens]) -> Named | None:
+    def _grouped_column(self, piece: Tokens, outputs: dict[str, Tokens]) -> EntryColumn | None:
         """The column that an item of GROUP BY means: by its name, by an output's name, or by its number."""
-        named = self.names.side(piece)
+        named = self.names.single_column(piece)
         if named or len(piece) != 1:
             return named
-        output = outputs.get(self.dialect.key_of(piece[0])) if piece[0].names else None
+        output = outputs.get(self.dialect.normalized_name(piece[0])) if piece[0].is_name else None
         if (
             piece[0].kind == "number"
             and piece[0].text.isdigit()
@@ -185,7 +194,7 @@ class Meaning:
             return None
         alias = alias_of(output)
         end = len(output) if alias is None else len(output) - (2 if output[-2].says("AS") else 1)
-        return self.names.side(output[:end])
+        return self.names.single_column(output[:end])
 
     def _keep_using(self) -> None:
         """Keeps the meaning of names that USING merged, for the clauses above the join. It keeps FROM as written, or
@@ -196,14 +205,15 @@ class Meaning:
             return
         if self.dialect.keeps_using:
             frame = self.statement.frame
-            query.frame = list(_frame(frame))
+            query.frame = list(_frame_pieces(frame))
             query.named_above |= {side for equality in names.usings for side in equality}
             return
-        outputs = [piece for piece in self.statement.outputs if names.star(piece) is None]
-        above = [*outputs, self.statement.distinct, self.statement.above]
+        outputs = [piece for piece in self.statement.outputs if names.star_columns(piece) is None]
+        above = [*outputs, self.statement.distinct, self.statement.later_clauses]
         bare = names.named_bare(above)
-        query.renamed = {named for named in names.merged_away if self.dialect.key(named.column.name, True) in bare}
-        for token, named in names.with_tables(above):
+        normalized = self.dialect.normalized
+        query.renamed = {named for named in names.merged_away if normalized(named.column.name, True) in bare}
+        for token, named in names.qualified_columns(above):
             if named in query.renamed:
                 why = (
                     "the column that USING merged is named without a table too; name it in one way, or write the"
@@ -211,13 +221,13 @@ class Meaning:
                 )
                 raise self.statement.refuse(token, why, f"{token.text}.{named.column.name}")
 
-    def _condition(self, piece: Tokens) -> None:
+    def _take_condition(self, piece: Tokens) -> None:
         self.names.check_subqueries(piece)
         self.names.check_outputs_names(piece, self.outputs_names)
-        sides, text = self.names.equated(piece), self.names.spelled(piece)
+        sides, text = self.names.equated_columns(piece), self.names.spelled(piece)
         if sides:
-            return self._equality(*sides, text)
-        named = self.names.named(piece)
+            return self._take_equality(*sides, text)
+        named = self.names.named_columns(piece)
         entries = frozenset(column.entry for column in named)
         if len(entries) == 1:
             return self.query.entries[min(entries)].own.append(text)
@@ -227,7 +237,7 @@ class Meaning:
             names = ", ".join(self.query.entries[number].name for number in sorted(entries))
             self.query.no_edges.append((text, f"it may name columns of {names}, and is tested when these are joined"))
 
-    def _equality(self, one: Named, other: Named, text: Text) -> None:
+    def _take_equality(self, one: EntryColumn, other: EntryColumn, text: Text) -> None:
         query = self.query
         query.conditions.append(Condition(text, frozenset((one.entry, other.entry))))
         query.needed |= {one, other}
@@ -235,36 +245,36 @@ class Meaning:
         if why:
             query.no_edges.append((text, why))
 
-    def _reference(self, named: Named) -> Reference:
-        return Reference(named, self.names.qualified(named))
+    def _reference(self, named: EntryColumn) -> Reference:
+        return Reference(named, self.names.qualified_name(named))
 
-    def _output(self, piece: Tokens) -> list[str | Named]:
-        columns = self.names.star(piece)
+    def _output(self, piece: Tokens) -> list[str | EntryColumn]:
+        columns = self.names.star_columns(piece)
         if columns is None:
-            return [self._above(piece)]
+            return [self._text_above(piece)]
         self.query.named_above |= set(columns)
         return list(columns)
 
-    def _above(self, piece: Tokens) -> str:
+    def _text_above(self, piece: Tokens) -> str:
         """The text of a clause above the join, such as GROUP BY, as written."""
         self.names.check_subqueries(piece)
-        self.query.named_above |= self.names.named(piece)
+        self.query.named_above |= self.names.named_columns(piece)
         return written(piece)
 
 
-def _groups(above: Tokens) -> range | None:
+def _group_by_range(clauses: Tokens) -> range | None:
     """The places of the tokens in the list of GROUP BY."""
-    if len(above) < 3 or not above[0].says("GROUP"):
+    if len(clauses) < 3 or not clauses[0].says("GROUP"):
         return None
     at = 2
-    while at < len(above) and (
-        part_of_name(above, at) or not above[at].says("HAVING", "WINDOW", "ORDER", "LIMIT", "OFFSET", "FETCH")
+    while at < len(clauses) and (
+        part_of_name(clauses, at) or not clauses[at].says("HAVING", "WINDOW", "ORDER", "LIMIT", "OFFSET", "FETCH")
     ):
-        at = closing(above, at) + 1 if above[at].says("(", "[") else at + 1
+        at = closing(clauses, at) + 1 if clauses[at].says("(", "[") else at + 1
     return range(2, at)
 
 
-def _frame(frame: list[Token | int | None]) -> Iterator[str | int]:
+def _frame_pieces(frame: list[Token | int | None]) -> Iterator[str | int]:
     """FROM with the numbers of entries in their places. The condition of each ON is TRUE, since the conditions are
     tested below.
     """

@@ -1,7 +1,7 @@
-"""Finds the columns that the parts of a query name.
+"""Finds the columns that are named in the parts of a query.
 
 The result may have more columns than the part really names: a word that isn't clearly something else is taken for every
-    column that it could be.
+column that it could be.
 """
 
 from __future__ import annotations
@@ -10,9 +10,9 @@ from typing import Iterator, NamedTuple
 
 from safebound.limits import MOST_ENTRIES
 
-from .choosing import choosing
 from .engine import Engine
-from .query import Entry, Named, Reference, Table, Text
+from .nondeterministic import nondeterministic
+from .query import Entry, EntryColumn, Reference, Table, Text
 from .reading import Source, Statement, Tokens
 from .tokens import Token, closing, gap_between, part_of_name, unquoted, written
 
@@ -29,11 +29,11 @@ class Place(NamedTuple):
 
     at: int
     size: int
-    columns: frozenset[Named]
+    columns: frozenset[EntryColumn]
 
 
 def subqueries(piece: Tokens) -> Iterator[tuple[int, int]]:
-    """The first and last tokens of subqueries, with their parentheses. Subqueries within other ones aren't listed."""
+    """The start and the end (exclusive) of each outermost subquery, parentheses included."""
     at = 0
     while at < len(piece):
         if piece[at].says("(") and at + 1 < len(piece) and piece[at + 1].says("SELECT", "WITH", "VALUES"):
@@ -45,7 +45,7 @@ def subqueries(piece: Tokens) -> Iterator[tuple[int, int]]:
 
 def alias_of(output: Tokens) -> Token | None:
     """The alias of an output, or None."""
-    if len(output) < 2 or not (output[-1].names or output[-1].kind == "text"):
+    if len(output) < 2 or not (output[-1].is_name or output[-1].kind == "text"):
         return None
     before, last = output[-2], output[-1]
     if before.says("AS"):
@@ -67,26 +67,27 @@ class Names:
         self.statement = statement
         self.dialect, self.catalog = engine.dialect, engine.catalog
         self.entries: list[Entry] = []
-        self.merged: dict[str, Named] = {}
-        self.merged_away: set[Named] = set()
-        self.usings: list[tuple[Named, Named]] = []
+        self.merged: dict[str, EntryColumn] = {}
+        self.merged_away: set[EntryColumn] = set()
+        self.usings: list[tuple[EntryColumn, EntryColumn]] = []
         for source in statement.sources:
             self._enter(source)
         self.by_alias = {entry.name: entry.number for entry in self.entries}
         statement.outputs = [self._without_schemas(piece) for piece in statement.outputs]
         statement.conditions = [self._without_schemas(piece) for piece in statement.conditions]
-        statement.distinct, statement.above = map(self._without_schemas, (statement.distinct, statement.above))
+        statement.distinct = self._without_schemas(statement.distinct)
+        statement.later_clauses = self._without_schemas(statement.later_clauses)
         self.columns = self._merge()
 
     def _enter(self, source: Source) -> None:
         number = len(self.entries)
         if number == MOST_ENTRIES:
             raise self.statement.refuse(source.alias, f"a query has at most {MOST_ENTRIES} entries")
-        name = self.dialect.key_of(source.alias)
+        name = self.dialect.normalized_name(source.alias)
         if any(name == entry.name for entry in self.entries):
             raise self.statement.refuse(source.alias, "two entries have this alias")
         table = self._text_of(source)
-        about = self._about(source)
+        about = self._table_of(source)
         if about is None:
             raise self.statement.refuse(source.table[0], "there is no such table or view", table)
         alias = self.dialect.quote(unquoted(source.alias)) if source.alias.kind == "text" else source.alias.text
@@ -95,23 +96,23 @@ class Names:
     def _text_of(self, source: Source) -> str:
         return written(source.table)
 
-    def _about(self, source: Source) -> Table | None:
+    def _table_of(self, source: Source) -> Table | None:
         return self.catalog.table(source.table)
 
     def _without_schemas(self, piece: Tokens) -> Tokens:
-        """The tokens with entry.column in place of schema.entry.column. In the planned SQL the entry may be a part of
-        WITH, which has no schema.
+        """The tokens with entry.column in place of schema.entry.column. The SQL that is written from them may define
+        the entry in WITH, where it has no schema.
         """
-        inside, kept, at = self._inside(piece), [], 0
+        inside, kept, at = self._inside_subqueries(piece), [], 0
         while at < len(piece):
             end = at
-            while piece[end].names and end + 2 < len(piece) and piece[end + 1].says(".") and piece[end + 2].names:
+            while piece[end].is_name and end + 2 < len(piece) and piece[end + 1].says(".") and piece[end + 2].is_name:
                 end += 2
             if (
                 end - at >= 4
                 and at not in inside
                 and self.dialect.schemas_in_names
-                and self.dialect.key_of(piece[end - 2]) in self.by_alias
+                and self.dialect.normalized_name(piece[end - 2]) in self.by_alias
             ):
                 first, at = piece[at], end - 2
                 kept.append(piece[at]._replace(gap=first.gap))
@@ -120,19 +121,19 @@ class Names:
             at = end + 1
         return kept
 
-    def _inside(self, piece: Tokens) -> set[int]:
+    def _inside_subqueries(self, piece: Tokens) -> set[int]:
         return {at for start, end in subqueries(piece) for at in range(start, end)}
 
-    def _merge(self) -> list[Named]:
+    def _merge(self) -> list[EntryColumn]:
         """Replaces USING by equalities. Returns the columns that a star means."""
-        columns: list[Named] = []
+        columns: list[EntryColumn] = []
         for entry in self.entries:
-            own = [Named(entry.number, column) for column in entry.about.columns]
+            own = [EntryColumn(entry.number, column) for column in entry.about.columns]
             using = next((using for using in self.statement.usings if using.right == entry.number), None)
             if using is None:
                 columns += own
                 continue
-            merged = [self._merged(token, using.left, entry.number) for token in using.names]
+            merged = [self._merge_one(token, using.left, entry.number) for token in using.names]
             gone = self.merged_away.union(merged if self.dialect.merged_columns_first else ())
             own = [named for named in own if named not in gone]
             if self.dialect.merged_columns_first:
@@ -143,11 +144,14 @@ class Names:
                 columns += own
         return columns
 
-    def _merged(self, token: Token, left: range, right: int) -> Named:
-        """One name of USING, as an equality: the only column of that name on the left, and the column on the right."""
-        key = self.dialect.key_of(token)
+    def _merge_one(self, token: Token, left: range, right: int) -> EntryColumn:
+        """Turns one name of USING into an equality. Each side must have exactly one column of that name."""
+        name = self.dialect.normalized_name(token)
         sides = [
-            [named for number in numbers if (named := self._at(number, key)) and named not in self.merged_away]
+            [
+                named for number in numbers
+                if (named := self._column_with_name(number, name)) and named not in self.merged_away
+            ]
             for numbers in (left, [right])
         ]
         if any(len(side) != 1 for side in sides):
@@ -158,17 +162,17 @@ class Names:
             why = f"it merges {one.column.type} and {other.column.type} into one; write the equality with ON"
             raise self.statement.refuse(token, why)
         kept, away = (one, other) if side == 0 else (other, one)
-        self.merged[key] = kept
+        self.merged[name] = kept
         self.merged_away.add(away)
         self.usings.append((one, other))
         return kept
 
-    def _at(self, number: int, key: str) -> Named | None:
-        """The entry's column with this key."""
-        column = self.entries[number].about.by_key.get(key)
-        return Named(number, column) if column else None
+    def _column_with_name(self, number: int, name: str) -> EntryColumn | None:
+        """The entry's column with this normalized name."""
+        column = self.entries[number].about.by_name.get(name)
+        return EntryColumn(number, column) if column else None
 
-    def star(self, piece: Tokens) -> list[Named] | None:
+    def star_columns(self, piece: Tokens) -> list[EntryColumn] | None:
         """The columns of a star, for all entries or for one. None if the output isn't a star."""
         if len(piece) == 1 and piece[0].says("*"):
             if self.usings and not self.dialect.star_over_using:
@@ -176,19 +180,19 @@ class Names:
                     piece[0], "write out which columns, since engines order those of USING in their own way"
                 )
             return self.columns
-        if len(piece) != 3 or not (piece[0].names and piece[1].says(".") and piece[2].says("*")):
+        if len(piece) != 3 or not (piece[0].is_name and piece[1].says(".") and piece[2].says("*")):
             return None
-        number = self.by_alias.get(self.dialect.key_of(piece[0]))
+        number = self.by_alias.get(self.dialect.normalized_name(piece[0]))
         if number is None:
             raise self.statement.refuse(piece[0], "no entry of FROM is called so")
-        return [Named(number, column) for column in self.entries[number].about.columns]
+        return [EntryColumn(number, column) for column in self.entries[number].about.columns]
 
-    def named(self, piece: Tokens) -> set[Named]:
+    def named_columns(self, piece: Tokens) -> set[EntryColumn]:
         """The columns that the tokens may name, outside subqueries."""
         return set().union(*(place.columns for place in self.places(piece)))
 
     def places(self, piece: Tokens) -> Iterator[Place]:
-        inside = self._inside(piece)
+        inside = self._inside_subqueries(piece)
         for at, token in enumerate(piece):
             if at and piece[at - 1].says("AS", ".", "::", "COLLATE", "OVER", "WINDOW"):
                 continue
@@ -196,84 +200,92 @@ class Names:
                 if self.looks_into_subqueries:
                     yield from self._place_inside(piece, at)
                 continue
-            behind = piece[at + 1 : at + 3]
-            if len(behind) == 2 and behind[0].says(".") and (token.names or token.kind == "text"):
-                self._no_star(piece, at)
-                if self.dialect.key_of(token) in self.by_alias:
-                    yield Place(at, 3, frozenset([self._qualified(token, behind[1])]))
-            elif token.names and not self._is_a_word(piece, at):
-                found = self._bare(token, piece, at)
+            after = piece[at + 1 : at + 3]
+            if len(after) == 2 and after[0].says(".") and (token.is_name or token.kind == "text"):
+                self._refuse_star(piece, at)
+                if self.dialect.normalized_name(token) in self.by_alias:
+                    yield Place(at, 3, frozenset([self._qualified_column(token, after[1])]))
+            elif token.is_name and not self._is_no_column(piece, at):
+                found = self._bare_columns(token, piece, at)
                 if found:
                     yield Place(at, 1, found)
 
     def _place_inside(self, piece: Tokens, at: int) -> Iterator[Place]:
-        """What a token of a subquery may name of the query around it. It may also name a column of the subquery's own
-        entries.
+        """The columns of the outer query that a token inside a subquery may refer to. It may also name a column of the
+        subquery's own entries.
         """
-        token, behind = piece[at], piece[at + 1 : at + 3]
-        if len(behind) == 2 and behind[0].says("."):
-            number = self.by_alias.get(self.dialect.key_of(token)) if token.names else None
+        token, after = piece[at], piece[at + 1 : at + 3]
+        if len(after) == 2 and after[0].says("."):
+            number = self.by_alias.get(self.dialect.normalized_name(token)) if token.is_name else None
             if number is None:
                 return
-            if behind[1].says("*"):
-                yield Place(at, 3, frozenset(Named(number, column) for column in self.entries[number].about.columns))
-            elif behind[1].names and (named := self._at(number, self.dialect.key_of(behind[1]))):
+            if after[1].says("*"):
+                columns = self.entries[number].about.columns
+                yield Place(at, 3, frozenset(EntryColumn(number, column) for column in columns))
+            elif after[1].is_name and (named := self._column_with_name(number, self.dialect.normalized_name(after[1]))):
                 yield Place(at, 3, frozenset([named]))
-        elif token.names and not self._is_a_word(piece, at) and self._columns_called(token):
+        elif token.is_name and not self._is_no_column(piece, at) and self._columns_called(token):
             yield Place(at, 1, self._columns_called(token))
 
-    def _is_a_word(self, piece: Tokens, at: int) -> bool:
-        """Whether the word clearly isn't a column: it is a function, a type before a text, or a field of a date."""
-        token, behind, before = piece[at], piece[at + 1 : at + 2], piece[max(at - 2, 0) : at]
-        if behind and behind[0].says("("):
+    def _is_no_column(self, piece: Tokens, at: int) -> bool:
+        """Whether the word clearly isn't a column: it is a function, the DATE of DATE '2020-01-01', or a field of a
+        date.
+        """
+        token, after, before = piece[at], piece[at + 1 : at + 2], piece[max(at - 2, 0) : at]
+        if after and after[0].says("("):
             return True
-        before_a_text = behind and behind[0].kind == "text"
-        if token.kind == "word" and (before_a_text or self.dialect.key_of(token) in self.dialect.reserved):
+        before_a_text = after and after[0].kind == "text"
+        if token.kind == "word" and (before_a_text or self.dialect.normalized_name(token) in self.dialect.reserved):
             return True
-        part = len(before) == 2 and before[0].says("EXTRACT") and behind and behind[0].says("FROM")
+        part = len(before) == 2 and before[0].says("EXTRACT") and after and after[0].says("FROM")
         return bool(part or (len(before) == 2 and before[0].says("INTERVAL") and before[1].kind in ("text", "number")))
 
-    def _no_star(self, piece: Tokens, at: int) -> None:
+    def _refuse_star(self, piece: Tokens, at: int) -> None:
         if piece[at + 2].says("*"):
             raise self.statement.refuse(piece[at], "a star stands alone, as a whole output", written(piece))
 
-    def _qualified(self, qualifier: Token, token: Token) -> Named:
-        number = self.by_alias.get(self.dialect.key_of(qualifier))
+    def _qualified_column(self, qualifier: Token, token: Token) -> EntryColumn:
+        number = self.by_alias.get(self.dialect.normalized_name(qualifier))
         if number is None:
             raise self.statement.refuse(
                 qualifier, f"no entry of FROM is called {qualifier.text}", f"{qualifier.text}.{token.text}"
             )
-        named = self._at(number, self.dialect.key_of(token)) if token.names or token.kind == "text" else None
+        may_name = token.is_name or token.kind == "text"
+        named = self._column_with_name(number, self.dialect.normalized_name(token)) if may_name else None
         if named is None:
             raise self.statement.refuse(qualifier, "the table has no such column", f"{qualifier.text}.{token.text}")
         return named
 
-    def _columns_called(self, token: Token) -> frozenset[Named]:
+    def _columns_called(self, token: Token) -> frozenset[EntryColumn]:
         """The columns that a name without a table may mean: the column that USING merged, or a column of each entry."""
-        key = self.dialect.key_of(token)
-        if key in self.merged:
-            return frozenset([self.merged[key]])
-        found = (self._at(entry.number, key) for entry in self.entries)
+        name = self.dialect.normalized_name(token)
+        if name in self.merged:
+            return frozenset([self.merged[name]])
+        found = (self._column_with_name(entry.number, name) for entry in self.entries)
         return frozenset(named for named in found if named)
 
-    def _bare(self, token: Token, piece: Tokens, at: int) -> frozenset[Named]:
+    def _bare_columns(self, token: Token, piece: Tokens, at: int) -> frozenset[EntryColumn]:
         found = self._columns_called(token)
-        if not found and self.dialect.key_of(token) in self.by_alias and alias_of(piece[: at + 1]) is not token:
+        if (
+            not found
+            and self.dialect.normalized_name(token) in self.by_alias
+            and alias_of(piece[: at + 1]) is not token
+        ):
             raise self.statement.refuse(token, "a whole row isn't a value here; name its columns")
         return found
 
-    def side(self, piece: Tokens) -> Named | None:
+    def single_column(self, piece: Tokens) -> EntryColumn | None:
         """The column that the tokens name, perhaps in parentheses. None if they aren't a single name."""
         while len(piece) > 2 and piece[0].says("(") and piece[-1].says(")"):
             piece = piece[1:-1]
         place = next(self.places(piece), None) if len(piece) in (1, 3) else None
         return min(place.columns) if place and place.size == len(piece) and len(place.columns) == 1 else None
 
-    def equated(self, piece: Tokens) -> tuple[Named, Named] | None:
+    def equated_columns(self, piece: Tokens) -> tuple[EntryColumn, EntryColumn] | None:
         """The two columns, if the condition is an equality between columns of two entries. Otherwise None."""
         for at, token in enumerate(piece):
             if token.kind == "operator" and token.text in self.dialect.equals:
-                one, other = self.side(piece[:at]), self.side(piece[at + 1 :])
+                one, other = self.single_column(piece[:at]), self.single_column(piece[at + 1 :])
                 if one and other and one.entry != other.entry:
                     return one, other
         return None
@@ -292,22 +304,22 @@ class Names:
                 parts.append(gap_between(piece[at - 1], piece[at]))
             if place:
                 [named] = place.columns
-                merged = size == 1 and self.dialect.key_of(piece[at]) in self.merged
-                parts.append(Reference(named, self.qualified(named) if merged else text))
+                merged = size == 1 and self.dialect.normalized_name(piece[at]) in self.merged
+                parts.append(Reference(named, self.qualified_name(named) if merged else text))
             else:
                 parts.append(text)
             at += size
         return Text(tuple(parts))
 
-    def qualified(self, named: Named) -> str:
+    def qualified_name(self, named: EntryColumn) -> str:
         return f"{self.entries[named.entry].alias}.{self.dialect.quote(named.column.name)}"
 
     def named_bare(self, pieces: list[Tokens]) -> set[str]:
-        """The keys of the merged columns that the tokens name without a table."""
+        """The normalized names of the merged columns that the tokens name without a table."""
         bare = [piece[place.at] for piece in pieces for place in self.places(piece) if place.size == 1]
-        return set(map(self.dialect.key_of, bare)) & set(self.merged)
+        return set(map(self.dialect.normalized_name, bare)) & set(self.merged)
 
-    def with_tables(self, pieces: list[Tokens]) -> Iterator[tuple[Token, Named]]:
+    def qualified_columns(self, pieces: list[Tokens]) -> Iterator[tuple[Token, EntryColumn]]:
         """The columns that the tokens name with their entry, each with its token."""
         for piece in pieces:
             for place in self.places(piece):
@@ -316,13 +328,13 @@ class Names:
 
     def check_outputs_names(self, piece: Tokens, outputs: set[str]) -> None:
         """Refuses a condition that uses an output's name. SQLite would take the name for the output."""
-        inside = self._inside(piece)
+        inside = self._inside_subqueries(piece)
         for at, token in enumerate(piece):
-            bare = token.names and at not in inside and not part_of_name(piece, at)
+            bare = token.is_name and at not in inside and not part_of_name(piece, at)
             if (
                 bare
-                and self.dialect.key_of(token) in outputs
-                and not self._is_a_word(piece, at)
+                and self.dialect.normalized_name(token) in outputs
+                and not self._is_no_column(piece, at)
                 and not self._columns_called(token)
             ):
                 raise self.statement.refuse(token, "it is the name of an output; write what it stands for")
@@ -331,11 +343,11 @@ class Names:
         """Refuses a subquery that names an entry of the query, or that may choose other rows at each call."""
         for start, end in subqueries(piece):
             inner = piece[start + 1 : end - 1]
-            for token, what in choosing(inner, self.dialect):
+            for token, what in nondeterministic(inner, self.dialect):
                 why = "which rows a subquery takes may change from call to call; make a table of it"
                 raise self.statement.refuse(token, why, f"{what} of a subquery")
-            told = self.catalog.why_not_alone(inner)
-            if told:
+            reason = self.catalog.why_not_alone(inner)
+            if reason:
                 raise self.statement.refuse(
-                    piece[start], f"only subqueries that stand alone are read ({told})", "the subquery"
+                    piece[start], f"only subqueries that stand alone are read ({reason})", "the subquery"
                 )

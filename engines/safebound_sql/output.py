@@ -7,10 +7,10 @@ from typing import Iterable
 
 from .block_bounds import BlockPlan
 from .levels import Level, Plan, Shape, entries_of
-from .query import Named, Query
+from .query import EntryColumn, Query
 
 
-def table(plan: Plan, title: str, true_rows: list[int] | None = None) -> str:
+def plan_table(plan: Plan, title: str, true_rows: list[int] | None = None) -> str:
     """The plan as text: one line for each level, and notes below the levels."""
     heads = ["level", "joined", "of", "scan", "bound", f"{title} expects", "factor"]
     rows = [_row(plan, number, level) for number, level in enumerate(plan.levels, 1)]
@@ -19,7 +19,7 @@ def table(plan: Plan, title: str, true_rows: list[int] | None = None) -> str:
     if true_rows is not None:
         heads += ["rows", "bound / rows"]
         rows = [
-            row + [str(true), _times(level.bound / max(true, 1))]
+            row + [str(true), _factor_text(level.bound / max(true, 1))]
             for row, level, true in zip(rows, plan.levels, true_rows)
         ]
     lines = _aligned([heads] + rows)
@@ -28,7 +28,7 @@ def table(plan: Plan, title: str, true_rows: list[int] | None = None) -> str:
             "scans: " + ", ".join(f"{entry.name} {plan.counts.rows[entry.name]}" for entry in plan.query.entries)
         )
     lines.append(f"budget {plan.cost} would do")
-    lines += _of_kept(plan)
+    lines += _lines_of_kept(plan)
     lines += plan.notes
     lines += [f"not used for bounds: {text} ({why})" for text, why in plan.unused]
     return "\n".join(lines) + "\n"
@@ -44,14 +44,14 @@ def blocks_table(plans: Iterable[BlockPlan], unbounded: list[str], notes: list[s
         audited = any(level.rows is not None for level in plan.levels)
         heads = ["level", "joined", "of", "scan", "bound"] + ["rows", "bound / rows"] * audited
         rows = [
-            [str(n), level.joined, level.of, str(level.scan), str(level.bound)]
+            [str(n), level.joined, level.source, str(level.scan), str(level.bound)]
             for n, level in enumerate(plan.levels, 1)
         ]
         if audited:
             for row, level in zip(rows, plan.levels):
-                row += [str(level.rows), _times(level.bound / max(level.rows or 0, 1))]
+                row += [str(level.rows), _factor_text(level.bound / max(level.rows or 0, 1))]
         most = "" if plan.rows is None else f": at most {plan.rows} rows"
-        lines += [f"{plan.core.called}{most}", *_aligned([heads] + rows), *plan.notes, ""]
+        lines += [f"{plan.select.label}{most}", *_aligned([heads] + rows), *plan.notes, ""]
         cost = max(cost, plan.cost)
     lines += [f"not bounded: {why}" for why in unbounded]
     return "\n".join([*lines, f"budget {cost} would do", *notes]) + "\n"
@@ -61,15 +61,15 @@ def blocks_document(
     plans: Iterable[BlockPlan], unbounded: list[str], notes: list[str], settings: tuple[str, ...], sql: str
 ) -> str:
     """The plans of all blocks as JSON, and the parts that aren't bounded."""
-    told = {
+    content = {
         "blocks": [
             {
-                "name": plan.core.called,
+                "name": plan.select.label,
                 "rows": plan.rows,
                 "not used for bounds": plan.notes,
                 "levels": [
                     {
-                        "joined": level.joined, "of": level.of, "scan": level.scan, "bound": level.bound,
+                        "joined": level.joined, "of": level.source, "scan": level.scan, "bound": level.bound,
                         "rows": level.rows,
                     }
                     for level in plan.levels
@@ -84,10 +84,10 @@ def blocks_document(
         "setting": "; ".join(settings),
         "sql": sql,
     }
-    return json.dumps(told, indent=2, ensure_ascii=False) + "\n"
+    return json.dumps(content, indent=2, ensure_ascii=False) + "\n"
 
 
-def _of_kept(plan: Plan) -> list[str]:
+def _lines_of_kept(plan: Plan) -> list[str]:
     lines = [
         f"{name}: {then} rows were kept, and {now} are there now; counted anew"
         for name, (then, now) in plan.changed.items()
@@ -100,7 +100,7 @@ def _of_kept(plan: Plan) -> list[str]:
 
 def _row(plan: Plan, number: int, level: Level) -> list[str]:
     expected = "-" if level.expected is None else str(level.expected)
-    factor = "-" if level.factor is None else _times(level.factor)
+    factor = "-" if level.factor is None else _factor_text(level.factor)
     return [str(number), *_joined(plan, level.shape), str(level.bound), expected, factor]
 
 
@@ -121,7 +121,7 @@ def _scan(plan: Plan, number: int) -> list[str]:
     return [new.name, new.table, str(plan.counts.rows[new.name])]
 
 
-def _times(factor: float) -> str:
+def _factor_text(factor: float) -> str:
     return f"{factor:.2g}" if factor < 10 else f"{factor:.0f}"
 
 
@@ -132,13 +132,13 @@ def _aligned(rows: list[list[str]]) -> list[str]:
     return ["  ".join(side(cell, width) for side, cell, width in zip(sides, row, widths)).rstrip() for row in rows]
 
 
-def document(plan: Plan, settings: tuple[str, ...], sql: str, true_rows: list[int] | None = None) -> str:
+def plan_document(plan: Plan, settings: tuple[str, ...], sql: str, true_rows: list[int] | None = None) -> str:
     """The plan as JSON."""
     query = plan.query
     levels = [_level(query, level) for level in plan.levels]
     if true_rows is not None:
         levels = [{**level, "rows": true} for level, true in zip(levels, true_rows)]
-    told = {
+    content = {
         "entries": [
             {
                 "name": entry.name, "table": entry.table, "conditions": list(map(str, entry.own)),
@@ -159,7 +159,7 @@ def document(plan: Plan, settings: tuple[str, ...], sql: str, true_rows: list[in
         "setting": "; ".join(settings),
         "sql": sql,
     }
-    return json.dumps(told, indent=2, ensure_ascii=False) + "\n"
+    return json.dumps(content, indent=2, ensure_ascii=False) + "\n"
 
 
 def _level(query: Query, level: Level) -> dict[str, object]:
@@ -170,7 +170,7 @@ def _level(query: Query, level: Level) -> dict[str, object]:
     }
 
 
-def _column(query: Query, named: Named) -> dict[str, str]:
+def _column(query: Query, named: EntryColumn) -> dict[str, str]:
     return {"entry": query.entries[named.entry].name, "column": named.column.name}
 
 

@@ -7,20 +7,20 @@ import re
 from collections import Counter
 from typing import Collection, Iterator, TextIO
 
-from .counted import Lowering
-from .counting import Counts, counting, counts_of, counts_of_file, prefix_for
+from .counted import BoundLowerer
+from .counting import Counts, counting_statement, counts_of, counts_of_file, prefix_for
 from .dialect import as_script
 from .engine import Engine
 from .faults import EngineFault, PastBudget
-from .kept import Kept
-from .levels import MOST_BUDGET, Plan, planned
+from .kept import KeptCounts
+from .levels import MOST_BUDGET, Plan, best_plan
 from .meaning import Meaning
 from .progress import Progress
 from .query import Row
 from .writing import Writer
 
 
-def scans(statement: str, prefix: str) -> Counter[str]:
+def scan_counts(statement: str, prefix: str) -> Counter[str]:
     """How often the statement reads each table, in an engine that computes a part again wherever it is named."""
     read: dict[str, Counter[str]] = {}
     last: Counter[str] = Counter()
@@ -38,7 +38,7 @@ def scans(statement: str, prefix: str) -> Counter[str]:
 
 
 @contextlib.contextmanager
-def _explained(why: str) -> Iterator[None]:
+def _adding_to_faults(why: str) -> Iterator[None]:
     """Adds `why` to the message of a fault that a value in some row caused."""
     try:
         yield
@@ -67,7 +67,7 @@ class Planner:
         dialect = self.engine.dialect
         if not self.reduce or dialect.most_scans is None:
             return None
-        table, times = scans(self.counting, self.prefix).most_common(1)[0]
+        table, times = scan_counts(self.counting, self.prefix).most_common(1)[0]
         if times <= dialect.most_scans:
             return None
         why = f"{dialect.title} computes a part again wherever it is named, and would read {table} {times} times"
@@ -75,29 +75,29 @@ class Planner:
 
     @property
     def counting(self) -> str:
-        return counting(self.query, self.engine.dialect, self.prefix, self.reduce)
+        return counting_statement(self.query, self.engine.dialect, self.prefix, self.reduce)
 
     def plan(self, accuracy: int, budget: int, tree: bool, counts_file: str | None = None) -> Plan:
         """Counts and plans."""
         if counts_file:
             counts = counts_of_file(self.query, counts_file)
         else:
-            counts = counts_of(self.query, self._counted(()))
+            counts = counts_of(self.query, self._count_rows(()))
         return self.planned(counts, accuracy, budget, tree)
 
     def plan_by_counting(self, accuracy: int, budget: int, tree: bool) -> Plan:
         """Counts and plans, then lowers the bounds of the plan's levels to counted numbers."""
         plan = self.plan(accuracy, MOST_BUDGET, tree)
         with self.progress.doing(f"counting the choices of rows of {len(plan.levels)} levels"):
-            Lowering(plan, self.engine, self.prefix, self.reduce).lower()
+            BoundLowerer(plan, self.engine, self.prefix, self.reduce).lower()
         if plan.cost > budget:
             raise PastBudget(budget, plan.cost)
         return plan
 
-    def plan_by_kept(self, accuracy: int, budget: int, tree: bool, kept: Kept) -> Plan:
+    def plan_by_kept(self, accuracy: int, budget: int, tree: bool, kept: KeptCounts) -> Plan:
         """Plans with the kept counts of tables whose number of rows hasn't changed. Counts the other entries."""
-        taken = kept.taken(self.query)
-        answer = self._counted(taken)
+        taken = kept.usable_counts(self.query)
+        answer = self._count_rows(taken)
         rows = {entry: degree for entry, column, degree, _ in answer if column == ""}
         changed = {
             entry.name: (taken.pop(entry.number).rows, rows[entry.name])
@@ -105,24 +105,23 @@ class Planner:
             if entry.number in taken and taken[entry.number].rows != rows[entry.name]
         }
         if changed:
-            answer = self._counted(taken)
+            answer = self._count_rows(taken)
         for number, table in taken.items():
-            answer += table.answer(self.query.entries[number].name, self.query.joined(number))
+            answer += table.answer(self.query.entries[number].name, self.query.joined_columns(number))
         plan = self.planned(counts_of(self.query, answer), accuracy, budget, tree)
         plan.kept = {self.query.entries[number].name: table.time for number, table in taken.items()}
         plan.changed = changed
         return plan
 
-    def _counted(self, known: Collection[int]) -> list[Row]:
-        told = "each condition is tested on all rows of its table, and the query itself may never reach this row"
-        with self.progress.doing(f"counting the rows of {len(self.query.entries) - len(known)} entries"), _explained(
-            f"while counting, {told}"
-        ):
-            statement = counting(self.query, self.engine.dialect, self.prefix, self.reduce, known)
+    def _count_rows(self, known: Collection[int]) -> list[Row]:
+        why = "each condition is tested on all rows of its table, and the query itself may never reach this row"
+        doing = f"counting the rows of {len(self.query.entries) - len(known)} entries"
+        with self.progress.doing(doing), _adding_to_faults(f"while counting, {why}"):
+            statement = counting_statement(self.query, self.engine.dialect, self.prefix, self.reduce, known)
             return self.engine.connection.rows(statement)
 
     def planned(self, counts: Counts, accuracy: int, budget: int, tree: bool) -> Plan:
-        return planned(self.query, counts, accuracy, budget, tree)
+        return best_plan(self.query, counts, accuracy, budget, tree)
 
     def check(self, plan: Plan) -> None:
         """Lets the engine check the planned query before the query is reported as admitted."""
@@ -162,9 +161,9 @@ class Planner:
     def run(self, plan: Plan, out: TextIO, null: str = "") -> None:
         """Writes the rows. After the first row nothing else is written."""
         self.engine.connection.keep_order()
-        told = "in the planned order, which may come to rows that the query itself never reaches"
-        told += "; --no-reduce tests conditions later" if self.reduce else ""
-        with self.progress.doing("joining") as end, _explained(told):
+        why = "in the planned order, which may come to rows that the query itself never reaches"
+        why += "; --no-reduce tests conditions later" if self.reduce else ""
+        with self.progress.doing("joining") as end, _adding_to_faults(why):
             for part in self.engine.connection.csv(self.sql(plan), null):
                 end()
                 out.write(part)

@@ -46,9 +46,9 @@ WHERE a.attrelid = %s AND a.attnum > 0 AND NOT a.attisdropped AND has_column_pri
 ORDER BY a.attnum
 """
 
-# Volatile functions and operators with these names: visible ones by bare names, any others by names with a schema, and
-# functions of a row, which may be written as columns. Some functions are marked STABLE but depend on the session or on
-# current activity; these are found too.
+# Finds volatile functions and operators. A bare name finds visible ones; a name with a schema finds all of that name.
+# Functions of a row are found too, since they may be written as columns. So are functions that are marked STABLE but
+# depend on the session or on current activity.
 VOLATILE = """
 WITH named AS (
     SELECT proname AS name, p.* FROM pg_proc p
@@ -164,11 +164,11 @@ class PostgresDialect(Dialect):
         more = FOR_SEVERAL_SERVERS if any(table.spread for table in tables) else ()
         return self.settings + tuple(f"SET {setting}" for setting in more)
 
-    def reads_clock(self, pieces: list[Token], at: int, below: bool = False) -> bool:
+    def reads_clock(self, pieces: list[Token], at: int, in_view: bool = False) -> bool:
         """now() has one value in the whole transaction. statement_timestamp() is marked STABLE too, but changes from
         statement to statement.
         """
-        return pieces[at].names and self.key_of(pieces[at]) == "statement_timestamp"
+        return pieces[at].is_name and self.normalized_name(pieces[at]) == "statement_timestamp"
 
     def remote_in(self, value: str, column: Column, rows: str) -> str:
         """Casts values of VARCHAR to TEXT one by one. They are compared as TEXT, and postgres_fdw doesn't send a cast
@@ -282,7 +282,9 @@ class PostgresCatalog(Catalog):
 
     def returns_sets(self, pieces: list[Token]) -> bool:
         called = [
-            self.dialect.key_of(token) for token, behind in zip(pieces, pieces[1:]) if token.names and behind.says("(")
+            self.dialect.normalized_name(token)
+            for token, after in zip(pieces, pieces[1:])
+            if token.is_name and after.says("(")
         ]
         asked = "SELECT FROM pg_proc WHERE proretset AND proname = ANY(%s) LIMIT 1"
         return bool(self.connection.rows(asked, [called]))
@@ -373,7 +375,7 @@ def _collation(column: Column) -> int:
     return int(str(column.kind).split()[1])
 
 
-def opened(url: str, timeout: int | None) -> Engine:
+def open_engine(url: str, timeout: int | None) -> Engine:
     """Connects to a server. Refuses a server that reads texts or names differently from this package."""
     connection = PostgresConnection(url, timeout)
     try:

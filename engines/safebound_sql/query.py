@@ -22,8 +22,8 @@ class Column(NamedTuple):
 
 
 class Spread(NamedTuple):
-    """The places of a table's rows on other servers: its parts, as SQL names them. `by` is a column by which the engine
-    groups each part alone, or None; each value of it is in one part only.
+    """Where a table's rows are on other servers: its parts, as SQL names them. If `by` isn't None, it is a column of
+    which each value is in one part only; the engine groups each part by it separately.
     """
 
     parts: tuple[str, ...]
@@ -31,20 +31,20 @@ class Spread(NamedTuple):
 
 
 class Table(NamedTuple):
-    """A table or view. `columns` are the columns that a star means, in declared order. `by_key` finds columns by the
-    key that the engine uses, and `key` are the columns of the primary key. `identity`, if it is known, distinguishes
-    the table from all others: its database and name, then # and a number that changes when the table is created again.
-    `spread` says where its rows are, if they are on other servers.
+    """A table or view. `columns` are the columns that a star means, in declared order. `by_name` finds columns by their
+    names in the form that the engine compares, and `key` are the columns of the primary key. `identity`, if it is
+    known, distinguishes the table from all others: its database and name, then # and a number that changes when the
+    table is created again. `spread` says where its rows are, if they are on other servers.
     """
 
     columns: tuple[Column, ...]
-    by_key: dict[str, Column]
+    by_name: dict[str, Column]
     identity: str | None = None
     spread: Spread | None = None
     key: tuple[str, ...] = ()
 
 
-class Named(NamedTuple):
+class EntryColumn(NamedTuple):
     """A column of an entry."""
 
     entry: int
@@ -54,7 +54,7 @@ class Named(NamedTuple):
 class Reference(NamedTuple):
     """A place in a text that names a column, and the name as written."""
 
-    named: Named
+    named: EntryColumn
     text: str
 
 
@@ -67,7 +67,7 @@ class Text(NamedTuple):
     def __str__(self) -> str:
         return self.naming(lambda named: None)
 
-    def naming(self, other: Callable[[Named], str | None]) -> str:
+    def naming(self, other: Callable[[EntryColumn], str | None]) -> str:
         """The text, with each column named by the function. If the function returns None, the name is as written."""
         return "".join(part if isinstance(part, str) else other(part.named) or part.text for part in self.parts)
 
@@ -89,8 +89,8 @@ class Entry:
 class Equality(NamedTuple):
     """An equality of columns of two entries, and an edge of the join graph. Its = compares values as GROUP BY does."""
 
-    left: Named
-    right: Named
+    left: EntryColumn
+    right: EntryColumn
 
 
 class Condition(NamedTuple):
@@ -113,17 +113,17 @@ class Query:
 
     entries: list[Entry]
     distinct: str = ""
-    outputs: list[str | Named] = field(default_factory=list)
-    above: str = ""
-    named_above: set[Named] = field(default_factory=set)
+    outputs: list[str | EntryColumn] = field(default_factory=list)
+    later_clauses: str = ""
+    named_above: set[EntryColumn] = field(default_factory=set)
     frame: list[str | int] = field(default_factory=list)
-    renamed: set[Named] = field(default_factory=set)
+    renamed: set[EntryColumn] = field(default_factory=set)
     conditions: list[Condition] = field(default_factory=list)
     equalities: list[Equality] = field(default_factory=list)
     no_edges: list[tuple[Text, str]] = field(default_factory=list)
-    needed: set[Named] = field(default_factory=set)
+    needed: set[EntryColumn] = field(default_factory=set)
 
-    def take_equality(self, one: Named, other: Named) -> str | None:
+    def take_equality(self, one: EntryColumn, other: EntryColumn) -> str | None:
         """Adds an equality to those that bounds use, once. If they can't use it, returns why."""
         if one.column.kind is None or one.column.kind != other.column.kind:
             return f"{one.column.type} and {other.column.type} aren't compared as they are grouped"
@@ -134,17 +134,17 @@ class Query:
         self.equalities.append(Equality(one, other))
         return None
 
-    def joined(self, entry: int) -> list[Column]:
+    def joined_columns(self, entry: int) -> list[Column]:
         """The columns of an entry that equalities name, in the order of the table."""
         named = {side.column for equality in self.equalities for side in equality if side.entry == entry}
         return self._in_order(entry, named)
 
-    def used(self, entry: int) -> list[Column]:
+    def used_columns(self, entry: int) -> list[Column]:
         """The columns of an entry that are named outside its own conditions."""
         return self._in_order(entry, {named.column for named in self.needed if named.entry == entry})
 
     def _in_order(self, entry: int, some: set[Column]) -> list[Column]:
-        return [column for column in self.entries[entry].about.by_key.values() if column in some]
+        return [column for column in self.entries[entry].about.by_name.values() if column in some]
 
     def complete(self, entries: frozenset[int], before: tuple[frozenset[int], ...] = ()) -> list[Text]:
         """The conditions that name some of these entries and no other. Conditions that name only entries of one set of

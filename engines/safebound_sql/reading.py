@@ -76,7 +76,7 @@ class Statement:
     sources: list[Source] = field(default_factory=list)
     usings: list[Using] = field(default_factory=list)
     conditions: list[Tokens] = field(default_factory=list)
-    above: Tokens = field(default_factory=list)
+    later_clauses: Tokens = field(default_factory=list)
     frame: list[Token | int | None] = field(default_factory=list)
     steps: list[Step] = field(default_factory=list)
 
@@ -92,7 +92,7 @@ def conjuncts(condition: Tokens) -> list[Tokens]:
         condition
         and condition[0].says("(")
         and closing(condition, 0) == len(condition) - 1
-        and not _query(condition, 1)
+        and not _is_query(condition, 1)
     ):
         condition = condition[1:-1]
     parts: list[Tokens] = [[]]
@@ -111,12 +111,14 @@ def conjuncts(condition: Tokens) -> list[Tokens]:
     return [parts[0]] if len(parts) == 1 else [inner for part in parts for inner in conjuncts(part)]
 
 
-def _query(pieces: Tokens, at: int) -> bool:
+def _is_query(pieces: Tokens, at: int) -> bool:
     return at < len(pieces) and pieces[at].says("SELECT", "WITH", "VALUES")
 
 
 def _outside_parentheses(pieces: Tokens) -> Iterator[tuple[Token, Tokens]]:
-    """Each token outside parentheses and CASE, with the tokens that it opens, or alone."""
+    """Each token outside parentheses and CASE, with the tokens from it to the end of what it opens. For any other token
+    these are only the token itself.
+    """
     at = 0
     while at < len(pieces):
         end = at
@@ -157,11 +159,11 @@ class Reader:
         for token in self.pieces:
             if token.says(";"):
                 raise self.statement.refuse(token, "one statement, please", "a second statement")
-        self._select()
-        self._from_list()
+        self._read_select()
+        self._read_from()
         if self._take("WHERE"):
-            self._conditions(self._until(BEHIND_FROM))
-        self._above()
+            self._read_conditions(self._read_until(BEHIND_FROM))
+        self._read_later_clauses()
         return self.statement
 
     def _peek(self, *words: str, ahead: int = 0) -> bool:
@@ -178,16 +180,16 @@ class Reader:
             return self.statement.refuse(self.pieces[self.at], why, name)
         return Refused(f"the query ends too early: {why}")
 
-    def _until(self, words: tuple[str, ...]) -> Tokens:
+    def _read_until(self, words: tuple[str, ...]) -> Tokens:
         """The tokens before the first of these keywords outside parentheses."""
         start = self.at
-        while self.at < len(self.pieces) and not self._keyword(words):
+        while self.at < len(self.pieces) and not self._is_at_keyword(words):
             self.at = closing(self.pieces, self.at) if self._peek("(", "[") else self.at
             self.at += 1
         self.at = min(self.at, len(self.pieces))
         return self.pieces[start : self.at]
 
-    def _keyword(self, words: tuple[str, ...]) -> bool:
+    def _is_at_keyword(self, words: tuple[str, ...]) -> bool:
         if not self._peek(*words) or self._peek(*self.plain_words) or part_of_name(self.pieces, self.at):
             return False
         if self.at and self.pieces[self.at - 1].says("AS"):
@@ -200,7 +202,7 @@ class Reader:
             return False
         return not (self._peek("LEFT", "RIGHT") and self._peek("(", ahead=1))
 
-    def _select(self) -> None:
+    def _read_select(self) -> None:
         if self._peek("WITH"):
             raise self._refuse("a query with a part before SELECT isn't read; make it a view")
         if not self._take("SELECT"):
@@ -211,15 +213,15 @@ class Reader:
         elif self.at == start:
             self._take("ALL")
         self.statement.distinct = self.pieces[start : self.at]
-        outputs = self._until(("FROM", "INTO", *BEHIND_FROM))
+        outputs = self._read_until(("FROM", "INTO", *BEHIND_FROM))
         if not self._take("FROM"):
             raise self._refuse("a query has FROM")
         self.statement.outputs = list(at_commas(outputs))
 
-    def _from_list(self) -> None:
+    def _read_from(self) -> None:
         first, start = 0, self.at
         while True:
-            self._joined(first)
+            self._read_joined(first)
             if not self._take(","):
                 break
             if self.comma_binds_less:
@@ -233,38 +235,38 @@ class Reader:
             start = hole_end
         yield from self.pieces[start:end]
 
-    def _joined(self, first: int) -> None:
+    def _read_joined(self, first: int) -> None:
         """Reads one item of FROM: a source and the sources joined to it. The left side of a USING begins with the
         source numbered `first`.
         """
-        self._source()
+        self._read_source()
         while True:
             cross, kind = self._peek("CROSS"), "INNER"
-            if self.in_blocks and self._keyword(("LEFT", "RIGHT", "FULL")):
-                kind = self._outer(first)
-            if self._keyword(OUTER):
+            if self.in_blocks and self._is_at_keyword(("LEFT", "RIGHT", "FULL")):
+                kind = self._read_outer_kind(first)
+            if self._is_at_keyword(OUTER):
                 why = "write out its columns with USING" if self._peek("NATURAL") else "only inner joins are bounded"
                 raise self._refuse(why, f"{self.pieces[self.at].text.upper()} JOIN")
             if not (self._take("JOIN") or (self._take("INNER", "CROSS") and self._take("JOIN"))):
                 return
             right = len(self.statement.sources)
-            self._source()
+            self._read_source()
             if kind != "INNER":
-                self._outer_conditions(kind, right)
+                self._read_outer_conditions(kind, right)
             elif self._take("ON"):
                 start = self.at
-                parts = self._parts(self._until((*IN_FROM, *BEHIND_FROM, ",", ")")))
+                parts = self._split_condition(self._read_until((*IN_FROM, *BEHIND_FROM, ",", ")")))
                 if self.in_blocks:
                     self.statement.steps[-1].conditions += parts
                 else:
                     self.statement.conditions += parts
                 self.holes.append((start, self.at, None))
             elif self._take("USING"):
-                self._using(first, right)
+                self._read_using(first, right)
             elif self.comma_binds_less and not cross:
                 raise self._refuse("each JOIN has its ON or USING right behind its table")
 
-    def _outer(self, first: int) -> str:
+    def _read_outer_kind(self, first: int) -> str:
         kind = self.pieces[self.at].text.upper()
         if first and kind != "LEFT":
             raise self._refuse("behind a comma it isn't bounded; write the comma as CROSS JOIN", f"{kind} JOIN")
@@ -272,14 +274,15 @@ class Reader:
         self._take("OUTER")
         return kind
 
-    def _outer_conditions(self, kind: str, right: int) -> None:
+    def _read_outer_conditions(self, kind: str, right: int) -> None:
         if len(self.statement.sources) != right + 1:
             raise self._refuse("joined tables in parentheses aren't bounded on this side", f"{kind} JOIN")
         if not self._take("ON"):
             raise self._refuse("write out its columns with ON", f"{kind} JOIN")
-        self.statement.steps[right] = Step(kind, right, self._parts(self._until((*IN_FROM, *BEHIND_FROM, ",", ")"))))
+        conditions = self._split_condition(self._read_until((*IN_FROM, *BEHIND_FROM, ",", ")")))
+        self.statement.steps[right] = Step(kind, right, conditions)
 
-    def _using(self, first: int, right: int) -> None:
+    def _read_using(self, first: int, right: int) -> None:
         end = closing(self.pieces, self.at)
         names = [token for token in self.pieces[self.at + 1 : end] if not token.says(",")]
         if len(self.statement.sources) != right + 1:
@@ -287,91 +290,91 @@ class Reader:
         self.statement.usings.append(Using(names, range(first, right), right))
         self.at = end + 1
 
-    def _source(self) -> None:
-        if self._peek("(") and not _query(self.pieces, self.at + 1):
+    def _read_source(self) -> None:
+        if self._peek("(") and not _is_query(self.pieces, self.at + 1):
             self.at += 1
             start = len(self.statement.sources)
-            self._joined(start)
+            self._read_joined(start)
             if start and any(step.kind != "INNER" for step in self.statement.steps[start:]):
                 raise self._refuse("an outer join in parentheses isn't bounded behind another table")
             if not self._take(")"):
                 raise self._refuse("a parenthesis of FROM isn't closed here")
-            if self._peek("AS") or (self.at < len(self.pieces) and self._alias_here()):
+            if self._peek("AS") or (self.at < len(self.pieces) and self._is_at_alias()):
                 raise self._refuse("an alias of joined tables isn't read")
             return
         if self._peek("(") and self.in_blocks:
-            return self._query_in_from()
+            return self._read_query_in_from()
         if self._peek("("):
             raise self._refuse("a query within FROM isn't bounded; make it a view", "a subquery")
         if self._peek(*NO_TABLE):
             raise self._refuse("FROM has tables and views by their names")
         start = self.at
-        table = self._table()
-        alias = self._alias() or table[-1]
+        table = self._read_table()
+        alias = self._read_alias() or table[-1]
         if self._peek("(", "*", "TABLESAMPLE", "INDEXED", "NOT"):
             name = f"{alias.text}(" if self._peek("(") else None
             raise self._refuse("FROM has tables and views by their names, and an alias for each", name)
         self.holes.append((start, self.at, len(self.statement.sources)))
-        self._enter(Source(table, alias))
+        self._add_source(Source(table, alias))
 
-    def _enter(self, source: Source) -> None:
+    def _add_source(self, source: Source) -> None:
         self.statement.steps.append(Step("INNER", len(self.statement.sources)))
         self.statement.sources.append(source)
 
-    def _query_in_from(self) -> None:
+    def _read_query_in_from(self) -> None:
         end = closing(self.pieces, self.at)
         table = self.pieces[self.at : end + 1]
         self.at = end + 1
-        alias, columns = self._alias(), []
+        alias, columns = self._read_alias(), []
         if alias is None:
             raise self._refuse("a query in FROM needs an alias")
         if self._peek("("):
             end = closing(self.pieces, self.at)
             columns = self.pieces[self.at : end + 1]
             self.at = end + 1
-        self._enter(Source(table, alias, columns))
+        self._add_source(Source(table, alias, columns))
 
-    def _table(self) -> Tokens:
+    def _read_table(self) -> Tokens:
         start = self.at
         while True:
-            if self.at >= len(self.pieces) or not self.pieces[self.at].names:
+            if self.at >= len(self.pieces) or not self.pieces[self.at].is_name:
                 raise self._refuse("a table's name is needed")
             self.at += 1
             if not self._take("."):
                 return self.pieces[start : self.at]
 
-    def _alias_here(self) -> bool:
+    def _is_at_alias(self) -> bool:
         token = self.pieces[self.at]
         return token.kind in ("quoted", "text") or (token.kind == "word" and not token.says(*NO_ALIAS))
 
-    def _alias(self) -> Token | None:
+    def _read_alias(self) -> Token | None:
         explicit = self._take("AS")
-        if self.at >= len(self.pieces) or not (explicit or self._alias_here()):
+        if self.at >= len(self.pieces) or not (explicit or self._is_at_alias()):
             return None
-        if not (self.pieces[self.at].names or self.pieces[self.at].kind == "text"):
+        if not (self.pieces[self.at].is_name or self.pieces[self.at].kind == "text"):
             raise self._refuse("an alias is needed")
         self.at += 1
         return self.pieces[self.at - 1]
 
-    def _parts(self, condition: Tokens) -> list[Tokens]:
+    def _split_condition(self, condition: Tokens) -> list[Tokens]:
         parts = conjuncts(condition)
         if not all(parts):
             raise self._refuse("a condition is missing before this")
         return parts
 
-    def _conditions(self, condition: Tokens) -> None:
-        self.statement.conditions += self._parts(condition)
+    def _read_conditions(self, condition: Tokens) -> None:
+        self.statement.conditions += self._split_condition(condition)
 
-    def _above(self) -> None:
+    def _read_later_clauses(self) -> None:
         if self._peek(*TOGETHER):
             raise self._refuse("rows of several queries together aren't bounded")
         if self._peek("FOR"):
             raise self._refuse("rows are read, not locked")
         if self.at < len(self.pieces) and not self._peek(*ABOVE):
             raise self._refuse("this isn't expected here")
-        self.statement.above = self._until(TOGETHER + ("FOR",))
+        self.statement.later_clauses = self._read_until(TOGETHER + ("FOR",))
         if self.at < len(self.pieces):
-            self._above()
+            self._read_later_clauses()
 
 
 def at_commas(pieces: Tokens) -> Iterator[Tokens]:

@@ -1,6 +1,6 @@
 """Semi-joins along the equalities, and the parts of a statement in which they are written.
 
-A semi-join keeps those rows of an entry that match a row of each of some entries that are joined with it. The remaining
+A semi-join keeps the rows of an entry that have a match in each of some entries with which it is joined. The remaining
 rows are a materialised part of the statement, so that the engine computes them once.
 """
 
@@ -18,7 +18,7 @@ from .query import Column, Entry, Query
 class Parts:
     """Materialised parts of a statement by their names, and for each entry the place of its rows: a part, or the table.
 
-    `sizes` says how many parts are computed for an entry's part, if each is computed again wherever it is named.
+    `sizes`: for each entry, how many parts the engine computes to get its part, if it keeps none of them.
     """
 
     texts: list[tuple[str, str]] = field(default_factory=list)
@@ -90,7 +90,8 @@ def along_a_tree(reached: list[tuple[int, int | None]]) -> Iterable[tuple[int, l
 
 
 def around_a_cycle(joined: Joined, reached: list[tuple[int, int | None]]) -> Iterable[tuple[int, list[int]]]:
-    """The semi-joins by all equalities: once up, then three times along all. Further rounds might remove further rows.
+    """First one pass up the tree; then three passes, each with semi-joins along all equalities. Further passes might
+    remove further rows.
     """
     down = [entry for entry, _ in reached]
     up = down[::-1]

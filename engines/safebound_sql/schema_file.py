@@ -29,11 +29,11 @@ class NameRules(Protocol):
     def rules(self) -> re.Pattern[str]:
         """Matches one token of the engine's SQL."""
 
-    def table_key(self, name: Tokens) -> tuple[str, ...]:
-        """The key of a table with this name. Different names of one table have the same key."""
+    def normalized_table_name(self, name: Tokens) -> tuple[str, ...]:
+        """A table's name in the form that the engine compares. Different names of one table have the same form."""
 
-    def key_of(self, token: Token) -> str:
-        """The key of a column with this name."""
+    def normalized_name(self, token: Token) -> str:
+        """A column's name in the form that the engine compares."""
 
 
 def kind_of(declared: str) -> Hashable | None:
@@ -51,18 +51,18 @@ def kind_of(declared: str) -> Hashable | None:
 
 
 def declared(text: str, dialect: NameRules) -> dict[tuple[str, ...], Table]:
-    """The tables that the text declares, by their keys. A table that is declared twice is refused."""
+    """The tables that the text declares, by their normalized names. A table that is declared twice is refused."""
     found: dict[tuple[str, ...], Table] = {}
     for pieces in _statements(tokens(text, dialect.rules)):
         name, columns = _table(text, pieces, dialect)
-        key = dialect.table_key(name)
+        key = dialect.normalized_table_name(name)
         if key in found:
-            raise _wrong(text, name[0], "this table is declared twice")
+            raise _refusal(text, name[0], "this table is declared twice")
         found[key] = columns
     return found
 
 
-def _wrong(text: str, token: Token, why: str) -> Refused:
+def _refusal(text: str, token: Token, why: str) -> Refused:
     return Refused(f"{token.text} at {place(text, token.at)} of the schema file: {why}")
 
 
@@ -84,7 +84,7 @@ def _table(text: str, pieces: Tokens, dialect: NameRules) -> tuple[Tokens, Table
     while at < len(pieces) and pieces[at].says(*BEFORE_TABLE):
         at += 1
     if not (pieces[0].says("CREATE") and at < len(pieces) and pieces[at].says("TABLE")):
-        raise _wrong(
+        raise _refusal(
             text, pieces[0],
             "it has CREATE TABLE and nothing else; a view is written as the table that it is to a query",
         )
@@ -95,15 +95,15 @@ def _table(text: str, pieces: Tokens, dialect: NameRules) -> tuple[Tokens, Table
     while at < len(pieces) and not pieces[at].says("("):
         at += 1
     name, end = pieces[start:at], closing(pieces, at)
-    if not name or end >= len(pieces) or not all(token.names or token.says(".") for token in name):
-        raise _wrong(text, pieces[0], "a table has a name, and columns in parentheses")
+    if not name or end >= len(pieces) or not all(token.is_name or token.says(".") for token in name):
+        raise _refusal(text, pieces[0], "a table has a name, and columns in parentheses")
     table = _columns(text, pieces[at + 1 : end], dialect)
     return name, _of_unknown_kinds(table) if any("COLLAT" in token.text.upper() for token in pieces[end:]) else table
 
 
 def _of_unknown_kinds(table: Table) -> Table:
     """The table with columns of unknown kinds. A collation after the list of columns applies to all of them."""
-    columns = {key: column._replace(kind=None) for key, column in table.by_key.items()}
+    columns = {name: column._replace(kind=None) for name, column in table.by_name.items()}
     return Table(tuple(columns.values()), columns)
 
 
@@ -111,12 +111,12 @@ def _columns(text: str, pieces: Tokens, dialect: NameRules) -> Table:
     columns: dict[str, Column] = {}
     for item in _items(pieces):
         if not item or item[0].says("LIKE"):
-            raise _wrong(text, (item or pieces or [Token("mark", "(", 0, "")])[0], "a column has a name and a type")
+            raise _refusal(text, (item or pieces or [Token("mark", "(", 0, "")])[0], "a column has a name and a type")
         if item[0].kind == "word" and item[0].says(*TABLE_CONSTRAINTS):
             continue
         column = _column(text, item, dialect)
         if column.name in columns:
-            raise _wrong(text, item[0], "this column is declared twice")
+            raise _refusal(text, item[0], "this column is declared twice")
         columns[column.name] = column
     return Table(tuple(columns.values()), columns)
 
@@ -144,7 +144,7 @@ def _column(text: str, item: Tokens, dialect: NameRules) -> Column:
     end = next(
         (at for at, token in enumerate(item) if at and token.kind == "word" and token.says(*AFTER_TYPE)), len(item)
     )
-    if not item[0].names or end < 2:
-        raise _wrong(text, item[0], "a column has a name and a type")
+    if not item[0].is_name or end < 2:
+        raise _refusal(text, item[0], "a column has a name and a type")
     kind = None if any(token.says("COLLATE") for token in item[end:]) else kind_of(written(item[1:end]))
-    return Column(dialect.key_of(item[0]), written(item[1:end]), kind)
+    return Column(dialect.normalized_name(item[0]), written(item[1:end]), kind)

@@ -3,8 +3,8 @@ a column.
 
 PostgreSQL can send a server a complete count or GROUP BY over one of its tables, and a comparison with the values of an
 array. It can send neither a semi-join nor a part of an aggregate; for these it would fetch the rows. So each part of a
-table is queried alone, and the coordinator adds up the servers' counts of each value. In place of a semi-join a server
-gets an array of the remaining values of the other column.
+table is queried by itself, and the coordinator adds up the counts that the servers send for each value. In place of a
+semi-join a server gets an array of the remaining values of the other column.
 """
 
 from __future__ import annotations
@@ -120,18 +120,18 @@ def steps_elsewhere(query: Query, joined: Joined) -> Iterable[tuple[int, list[in
         if closes_a_cycle(joined, reached):
             yield from around_a_cycle(joined, reached)
             continue
-        silent = False
+        some_skipped = False
         for entry, others in along_a_tree(reached):
-            telling = [other for other in others if other in limited]
-            silent |= telling != others
-            if telling:
+            limited_partners = [other for other in others if other in limited]
+            some_skipped |= limited_partners != others
+            if limited_partners:
                 limited.add(entry)
-                yield entry, telling
-        if silent:
+                yield entry, limited_partners
+        if some_skipped:
             yield from along_a_tree(reached)
 
 
-def lies_elsewhere(query: Query) -> bool:
+def has_remote_tables(query: Query) -> bool:
     return any(entry.about.spread for entry in query.entries)
 
 
@@ -139,7 +139,7 @@ def rows_to_count(
     query: Query, dialect: Dialect, columns: dict[int, list[Column]], prefix: str
 ) -> tuple[list[tuple[str, str]], dict[int, Source]]:
     """The parts of a statement, and for each entry the place of its reduced rows in the statement with these parts."""
-    if lies_elsewhere(query):
+    if has_remote_tables(query):
         limits = Limits(query, dialect, prefix)
         return limits.texts, {entry.number: Source(entry, limits.of(entry.number)) for entry in query.entries}
     parts = reduced(query, dialect, columns, prefix)
@@ -153,7 +153,7 @@ def rows_to_count(
 
 def rows_to_join(query: Query, dialect: Dialect, columns: dict[int, list[Column]], prefix: str) -> Parts:
     """The rows that were counted, with these columns."""
-    if not lies_elsewhere(query):
+    if not has_remote_tables(query):
         return reduced(query, dialect, columns, prefix)
     limits = Limits(query, dialect, prefix)
     parts = Parts(limits.texts)

@@ -20,8 +20,8 @@ from .reading import at_commas
 from .tokens import SQLITE, Token, closing, unquoted
 
 DETERMINISTIC = 0x800
-TIMES = ("date", "time", "datetime", "julianday", "unixepoch", "strftime", "timediff")
-A_DATE = re.compile(r"'(\d{4}-\d\d-\d\d)?[T ]*(\d\d:\d\d(:\d\d(\.\d+)?)?)? *(Z|[+-]\d\d:\d\d)?'")
+DATE_FUNCTIONS = ("date", "time", "datetime", "julianday", "unixepoch", "strftime", "timediff")
+DATE_TEXT = re.compile(r"'(\d{4}-\d\d-\d\d)?[T ]*(\d\d:\d\d(:\d\d(\.\d+)?)?)? *(Z|[+-]\d\d:\d\d)?'")
 ROW_NUMBERS = ("rowid", "oid", "_rowid_")
 
 TABLE = """
@@ -35,30 +35,30 @@ VOLATILE = f"SELECT name FROM pragma_function_list WHERE type = 's' AND NOT flag
 
 @dataclass(frozen=True)
 class SqliteDialect(Dialect):
-    def key(self, name: str, quoted: bool) -> str:
-        return super().key(name, False)
+    def normalized(self, name: str, quoted: bool) -> str:
+        return super().normalized(name, False)
 
-    def reads_clock(self, pieces: list[Token], at: int, below: bool = False) -> bool:
+    def reads_clock(self, pieces: list[Token], at: int, in_view: bool = False) -> bool:
         """Finds date() and its like with an argument that isn't a literal date. Values of a column are checked later,
         when it is known whose column it is.
         """
-        dates = self._dates(pieces, at)
+        dates = self._date_arguments(pieces, at)
         if dates is None:
             return False
-        return not dates or not all(_is_date(date) or (not below and _may_be_column(date)) for date in dates)
+        return not dates or not all(_is_date(date) or (not in_view and _may_be_column(date)) for date in dates)
 
-    def _dates(self, pieces: list[Token], at: int) -> list[list[Token]] | None:
+    def _date_arguments(self, pieces: list[Token], at: int) -> list[list[Token]] | None:
         """The date arguments of the date function that is called at this token. None if there is no such call."""
-        called = pieces[at].names and at + 1 < len(pieces) and pieces[at + 1].says("(")
-        function = self.key_of(pieces[at]) if called else ""
-        if function not in TIMES:
+        is_call = pieces[at].is_name and at + 1 < len(pieces) and pieces[at + 1].says("(")
+        function = self.normalized_name(pieces[at]) if is_call else ""
+        if function not in DATE_FUNCTIONS:
             return None
         given = [part for part in at_commas(pieces[at + 2 : closing(pieces, at + 1)]) if part]
         return given[1:2] if function == "strftime" else given[:2] if function == "timediff" else given[:1]
 
     def clock_arguments(self, pieces: list[Token]) -> Iterator[tuple[Token, list[Token]]]:
         for at, token in enumerate(pieces):
-            yield from ((token, date) for date in self._dates(pieces, at) or () if not _is_date(date))
+            yield from ((token, date) for date in self._date_arguments(pieces, at) or () if not _is_date(date))
 
 
 # CROSS JOIN keeps the order, so no setting is needed.
@@ -70,7 +70,7 @@ DIALECT = SqliteDialect(
     merged_columns_first=False,
     equals=("=", "=="),
     calls_without_parentheses=("CURRENT_DATE", "CURRENT_TIME", "CURRENT_TIMESTAMP"),
-    # SQLite computes a part again wherever it is named, with all parts that it names.
+    # SQLite computes an entry of WITH, and all entries that it uses, again for each use.
     most_parts_of_a_part=200,
     join_word="CROSS JOIN",
     keeps_trees=False,
@@ -90,7 +90,7 @@ class SqliteConnection(Connection):
         path = self.path = Path(file).resolve()
         if not path.is_file():
             raise EngineFault(f"there is no file {file}")
-        self.unwritten: Row | None = None
+        self.state_at_opening: Row | None = None
         self.timeout: int | None = None
         self.ends: float | None = None
         with self._as_faults():
@@ -99,9 +99,9 @@ class SqliteConnection(Connection):
             except sqlite3.OperationalError:
                 if os.access(path.parent, os.W_OK) or self._state() is None:
                     raise
-                # There is no log, and none can be created in this folder, so the file alone has all rows. If the file
-                # changes while it is read, the statement fails.
-                self.unwritten = self._state()
+                # There is no write-ahead log, and none can be created in this folder, so the file has all rows. If the
+                # file changes while it is read, the statement fails.
+                self.state_at_opening = self._state()
                 self._open("mode=ro&immutable=1")
         self.timeout = timeout
         self.connection.set_progress_handler(self._is_late, 10_000)
@@ -129,11 +129,11 @@ class SqliteConnection(Connection):
         try:
             yield
         except sqlite3.Error as error:
-            if stops.came():
+            if stops.first_signal():
                 raise KeyboardInterrupt from None
             late = self.ends is not None and time.monotonic() > self.ends
             raise EngineFault("canceled, since the time is over" if late else one_line(error), not late) from None
-        if self.unwritten and self._state() != self.unwritten:
+        if self.state_at_opening and self._state() != self.state_at_opening:
             raise EngineFault(
                 "the file was written to while it was read, in a folder in which SQLite can't make its log"
             )
@@ -164,30 +164,30 @@ class SqliteCatalog(Catalog):
     def __init__(self, connection: SqliteConnection) -> None:
         self.connection = connection
 
-    def holds_now(self, table: str, column: str) -> bool:
+    def has_text_now(self, table: str, column: str) -> bool:
         name = DIALECT.quote(column)
         sql = f"SELECT EXISTS (SELECT 1 FROM {table} WHERE CAST({name} AS TEXT) = 'now' COLLATE NOCASE)"
         return bool(self.connection.rows(sql)[0][0])
 
     def table(self, name: list[Token]) -> Table | None:
-        parts = [unquoted(token) if token.kind == "quoted" else token.text for token in name if token.names]
+        parts = [unquoted(token) if token.kind == "quoted" else token.text for token in name if token.is_name]
         if len(parts) > 2:
             return None
         found = self.connection.rows(TABLE, (parts[-1], parts[0] if len(parts) == 2 else None))
         if not found:
             return None
-        schema, kind, without_rowid, strict, called = found[0]
+        schema, kind, without_rowid, strict, stored_name = found[0]
         where = f"{DIALECT.quote(schema)}.{DIALECT.quote(parts[-1])}"
         columns = [
             (self._column(where, name, declared, kind == "table", strict), hidden)
             for name, declared, hidden in self.connection.rows(COLUMNS, (parts[-1], schema))
         ]
-        by_key = {DIALECT.key(column.name, True): column for column, _ in columns}
+        by_name = {DIALECT.normalized(column.name, True): column for column, _ in columns}
         if kind == "table" and not without_rowid:
             for other in ROW_NUMBERS:
-                by_key.setdefault(other, Column(other, "INTEGER", ("INTEGER", "BINARY")))
-        identity = f"{self.connection.path} {schema} {called}#{self._schema_version(schema)}"
-        return Table(tuple(column for column, hidden in columns if hidden != 1), by_key, identity)
+                by_name.setdefault(other, Column(other, "INTEGER", ("INTEGER", "BINARY")))
+        identity = f"{self.connection.path} {schema} {stored_name}#{self._schema_version(schema)}"
+        return Table(tuple(column for column, hidden in columns if hidden != 1), by_name, identity)
 
     def _schema_version(self, schema: str) -> int:
         """A number that changes with the schema. A single table has no such number."""
@@ -209,7 +209,7 @@ class SqliteCatalog(Catalog):
                 self.connection.rows(f"SELECT count(*) FROM ({values})", (other,))[0][0] for other in ("A", "a ")
             )
         except EngineFault as fault:
-            if "no such collation sequence" in str(fault):  # the program that made the table has it
+            if "no such collation sequence" in str(fault):  # only the program that made the table defines it
                 return None
             raise
         return {(2, 2): "BINARY", (1, 2): "NOCASE", (2, 1): "RTRIM"}.get((case, space))
@@ -221,7 +221,10 @@ class SqliteCatalog(Catalog):
     def view_texts(self, names: set[str]) -> list[tuple[str, str, str]]:
         views = self.connection.rows("SELECT name, sql FROM sqlite_master WHERE type = 'view'")
         return [
-            (name, "the view", text) for name in names for view, text in views if _last(name) == DIALECT.key(view, True)
+            (name, "the view", text)
+            for name in names
+            for view, text in views
+            if _last(name) == DIALECT.normalized(view, True)
         ]
 
     def check(self, sql: str) -> None:
@@ -248,14 +251,14 @@ class SqliteCatalog(Catalog):
         return True
 
 
-def opened(file: str, timeout: int | None) -> Engine:
+def open_engine(file: str, timeout: int | None) -> Engine:
     connection = SqliteConnection(file, timeout)
     return Engine(DIALECT, SqliteCatalog(connection), connection)
 
 
 def _last(name: str) -> str:
     """The last component of a name with dots."""
-    return DIALECT.key(name.split(".")[-1].strip('"`[] '), True)
+    return DIALECT.normalized(name.split(".")[-1].strip('"`[] '), True)
 
 
 def affinity(declared: str, strict: bool) -> str:
@@ -278,9 +281,9 @@ def _field(value: object, null: str) -> str:
 
 def _is_date(tokens: list[Token]) -> bool:
     return len(tokens) == 1 and (
-        tokens[0].kind == "number" or bool(A_DATE.fullmatch(tokens[0].text) and len(tokens[0].text) > 2)
+        tokens[0].kind == "number" or bool(DATE_TEXT.fullmatch(tokens[0].text) and len(tokens[0].text) > 2)
     )
 
 
 def _may_be_column(tokens: list[Token]) -> bool:
-    return tokens[0].names and (len(tokens) == 1 or (len(tokens) == 3 and tokens[1].says(".") and tokens[2].names))
+    return tokens[0].is_name and (len(tokens) == 1 or (len(tokens) == 3 and tokens[1].says(".") and tokens[2].is_name))

@@ -5,22 +5,22 @@ from __future__ import annotations
 import signal
 from types import FrameType
 
-_came: list[int] = []
+_first_signal: list[int] = []
 
 
-def heed() -> None:
-    """Makes both signals raise KeyboardInterrupt from now on. `came` then says which signal came."""
+def install_handlers() -> None:
+    """Makes both signals raise KeyboardInterrupt from now on. `first_signal` then says which signal came."""
     for number in (signal.SIGINT, signal.SIGTERM):
-        signal.signal(number, _come)
+        signal.signal(number, _on_signal)
 
 
-def _come(number: int, _frame: FrameType | None) -> None:
-    _came.append(number)
+def _on_signal(number: int, _frame: FrameType | None) -> None:
+    _first_signal.append(number)
     raise KeyboardInterrupt
 
 
-def came() -> int | None:
+def first_signal() -> int | None:
     """The signal that came first. It is known even if an engine's library took the interruption for an error of its
     own.
     """
-    return _came[0] if _came else None
+    return _first_signal[0] if _first_signal else None

@@ -26,7 +26,7 @@ class Token(NamedTuple):
         return self.kind in ("word", "mark", "operator") and self.text.upper() in words
 
     @property
-    def names(self) -> bool:
+    def is_name(self) -> bool:
         return self.kind in ("word", "quoted")
 
 

@@ -14,7 +14,7 @@ from typing import Iterator
 from .dialect import Dialect
 from .engine import Catalog, Connection, Engine
 from .faults import EngineFault, Missing, Refused
-from .known import CALLED, PLAIN, TIMES
+from .known import CALLED, PLAIN, CLOCK_WORDS
 from .query import Column, Row, Table
 from .reading import Statement, Tokens, read
 from .schema_file import declared
@@ -32,7 +32,7 @@ BEFORE_BY = ("CLUSTER", "DISTRIBUTE", "SORT", "CONNECT")
 PARTS_OF_SELECT = {
     "expressions", "from", "joins", "where", "group", "having", "order", "limit", "offset", "distinct", "windows",
 }
-RESERVED = (*TIMES, "NULL", "TRUE", "FALSE")
+RESERVED = (*CLOCK_WORDS, "NULL", "TRUE", "FALSE")
 IN_LOWER_CASE = frozenset(word.lower() for word in RESERVED)
 
 
@@ -42,7 +42,7 @@ class UnreachedDialect(Dialect):
     temporary table.
     """
 
-    calls_without_parentheses: tuple[str, ...] = TIMES
+    calls_without_parentheses: tuple[str, ...] = CLOCK_WORDS
     outputs_in_conditions: bool = True
     schemas_in_names: bool = False
     knows_blocks: bool = False
@@ -64,19 +64,19 @@ class UnreachedDialect(Dialect):
     def quote(self, name: str) -> str:
         return self.quotes + name.replace(self.quotes, self.quotes * 2) + self.quotes
 
-    def key(self, name: str, quoted: bool) -> str:
+    def normalized(self, name: str, quoted: bool) -> str:
         if self.folds_up:
             return name if quoted else name.upper()
         return name.lower()
 
-    def table_key(self, name: list[Token]) -> tuple[str, ...]:
-        """The key of a table."""
-        names = [token for token in name if token.names]
+    def normalized_table_name(self, name: list[Token]) -> tuple[str, ...]:
+        """The table's name in the form that the engine compares."""
+        names = [token for token in name if token.is_name]
         if self.folds_tables:
-            return tuple(map(self.key_of, names))
+            return tuple(map(self.normalized_name, names))
         return tuple(unquoted(token) if token.kind == "quoted" else token.text for token in names)
 
-    def reads_clock(self, pieces: list[Token], at: int, below: bool = False) -> bool:
+    def reads_clock(self, pieces: list[Token], at: int, in_view: bool = False) -> bool:
         """Whether the token is a text, such as 'now', that becomes the current date or time."""
         token = pieces[at]
         if token.kind != "text" or token.text[1:-1].split(" ")[0].lower() not in DAYS:
@@ -144,7 +144,7 @@ class SchemaFile(Catalog):
         self.dialect, self.tables = dialect, declared(schema, dialect)
 
     def table(self, name: list[Token]) -> Table | None:
-        return self.tables.get(self.dialect.table_key(name))
+        return self.tables.get(self.dialect.normalized_table_name(name))
 
     def volatile(self, names: set[str]) -> dict[str, str]:
         """All names that aren't known to give the same result at each call."""
@@ -159,9 +159,9 @@ class SchemaFile(Catalog):
         statement, pieces = Statement(sql), tokens(sql, self.dialect.rules)
         for token in _no_inner_joins(pieces):
             raise statement.refuse(token, "only inner joins of whole tables are bounded")
-        schemas = {key[0].lower() for key in self.tables if len(key) > 1}
+        schemas = {name[0].lower() for name in self.tables if len(name) > 1}
         for source in read(sql, list(pieces), self.dialect).sources:
-            if self.dialect.key_of(source.alias).lower() in schemas:
+            if self.dialect.normalized_name(source.alias).lower() in schemas:
                 raise statement.refuse(
                     source.alias, "it is the name of a schema too, and engines differ in which is meant"
                 )
@@ -197,22 +197,22 @@ class SchemaFile(Catalog):
         if len(tables) < len(sources):
             return "a table of it isn't in the schema file"
         own = {token.at for source in sources for token in (*source.table, source.alias)}
-        aliases = {self.dialect.key_of(source.alias) for source in sources}
-        columns = {key for table in tables for key in table.by_key}
+        aliases = {self.dialect.normalized_name(source.alias) for source in sources}
+        columns = {name for table in tables for name in table.by_name}
         for at, token in enumerate(inner):
-            if token.names and token.at not in own and not self._known_within(inner, at, aliases, columns):
+            if token.is_name and token.at not in own and not self._known_within(inner, at, aliases, columns):
                 return f"{token.text} isn't known to be its own"
         return None
 
     def _known_within(self, inner: Tokens, at: int, aliases: set[str], columns: set[str]) -> bool:
-        token, behind = inner[at], inner[at + 1 : at + 2]
+        token, after = inner[at], inner[at + 1 : at + 2]
         if at and inner[at - 1].says(".", "AS", "::"):
             return True
-        if behind and behind[0].says("."):
-            return self.dialect.key_of(token) in aliases
-        if behind and (behind[0].says("(") or behind[0].kind == "text") and token.kind == "word":
+        if after and after[0].says("."):
+            return self.dialect.normalized_name(token) in aliases
+        if after and (after[0].says("(") or after[0].kind == "text") and token.kind == "word":
             return True
-        return self.dialect.key_of(token) in columns or (token.kind == "word" and token.text.upper() in PLAIN)
+        return self.dialect.normalized_name(token) in columns or (token.kind == "word" and token.text.upper() in PLAIN)
 
     def merged_side(self, left: Column, right: Column) -> int | None:
         return 0 if left.type.upper() == right.type.upper() else None
@@ -264,10 +264,10 @@ def _no_inner_joins(pieces: Tokens) -> Iterator[Token]:
     for at, token in enumerate(pieces):
         if part_of_name(pieces, at) and not token.says("*"):
             continue
-        before, behind = pieces[max(at - 1, 0)], pieces[min(at + 1, len(pieces) - 1)]
-        odd = token.says(*NO_INNER_JOIN) or (token.says(*BEFORE_BY) and behind.says("BY"))
-        odd = odd or (token.says("START") and behind.says("WITH")) or (token.says("SAMPLE") and before.says("USING"))
+        before, after = pieces[max(at - 1, 0)], pieces[min(at + 1, len(pieces) - 1)]
+        odd = token.says(*NO_INNER_JOIN) or (token.says(*BEFORE_BY) and after.says("BY"))
+        odd = odd or (token.says("START") and after.says("WITH")) or (token.says("SAMPLE") and before.says("USING"))
         odd = odd or (token.says("TOP", "AS") and before.says("SELECT", "DISTINCT", "ALL"))
         star = token.says("*") and before.says("SELECT", "DISTINCT", "ALL", ",", ".", "(")
-        if odd or (star and behind.kind == "word" and not behind.says("FROM")):
+        if odd or (star and after.kind == "word" and not after.says("FROM")):
             yield token

@@ -6,7 +6,7 @@ from __future__ import annotations
 
 from .dialect import Dialect
 from .levels import Level, Plan, Shape, entries_of
-from .query import Named, Query, Text
+from .query import EntryColumn, Query, Text
 from .reducing import Parts, bracketed, own_conditions, where
 from .servers import rows_to_join
 
@@ -16,20 +16,21 @@ class Writer:
 
     def __init__(self, query: Query, dialect: Dialect, prefix: str, reduce: bool) -> None:
         self.query, self.dialect, self.prefix = query, dialect, prefix
-        self.columns = {entry.number: query.used(entry.number) for entry in query.entries}
+        self.columns = {entry.number: query.used_columns(entry.number) for entry in query.entries}
         self.parts = rows_to_join(query, dialect, self.columns, prefix) if reduce else Parts()
 
     def query_in_order(self, plan: Plan) -> str:
         """The query with its joins in the planned order."""
-        writing, query = Writing(self), self.query
+        writing, query = StatementWriter(self), self.query
         joined = writing.below_the_outputs(plan.shape)
         outputs = ", ".join(output if isinstance(output, str) else writing.column(output) for output in query.outputs)
-        lines = [f"SELECT {query.distinct and query.distinct + ' '}{outputs}", joined, *filter(None, [query.above])]
+        later = query.later_clauses
+        lines = [f"SELECT {query.distinct and query.distinct + ' '}{outputs}", joined, *filter(None, [later])]
         return writing.before("\n".join(lines))
 
     def true_rows(self, levels: list[Level]) -> str:
         """A statement that counts the rows of each level. Levels are numbered from 1."""
-        writing = Writing(self)
+        writing = StatementWriter(self)
         counts = [f"SELECT {number}, COUNT(*) {writing.joined(level.shape)}" for number, level in enumerate(levels, 1)]
         return writing.before("\nUNION ALL ".join(counts))
 
@@ -44,7 +45,7 @@ class Writer:
         return f"SELECT 1 FROM {', '.join(f'{entry.table} AS {entry.alias}' for entry in entries)}{where(conditions)}"
 
 
-class Writing:
+class StatementWriter:
     """One statement while it is written. If the engine doesn't keep the shape of a join tree, the right side of a join
     becomes a part of WITH when it has several entries. `within` has, for each entry in such a part, the name of the
     part.
@@ -63,17 +64,17 @@ class Writing:
     def text(self, text: Text) -> str:
         return text.naming(self._elsewhere)
 
-    def column(self, named: Named) -> str:
+    def column(self, named: EntryColumn) -> str:
         """A column of a star as an output, under its own name."""
         name = self.dialect.quote(named.column.name)
         visible = self._visible(named)
         return f"{self.query.entries[named.entry].alias}.{visible}{'' if visible == name else f' AS {name}'}"
 
-    def _visible(self, named: Named) -> str:
+    def _visible(self, named: EntryColumn) -> str:
         """The name of the column beside its entry's alias."""
         return self._name_within(named) if named in self.query.renamed else self.dialect.quote(named.column.name)
 
-    def _elsewhere(self, named: Named) -> str | None:
+    def _elsewhere(self, named: EntryColumn) -> str | None:
         """The column's name in a part of several entries, or its new name if it was renamed. Otherwise None."""
         part = self.within.get(named.entry)
         if part:
@@ -82,7 +83,7 @@ class Writing:
             f"{self.query.entries[named.entry].alias}.{self._visible(named)}" if named in self.query.renamed else None
         )
 
-    def _name_within(self, named: Named) -> str:
+    def _name_within(self, named: EntryColumn) -> str:
         return self.dialect.quote(f"{self.prefix}{named.entry}_{named.column.name}")
 
     def below_the_outputs(self, shape: Shape) -> str:
@@ -109,12 +110,13 @@ class Writing:
         ]
         return f"FROM (SELECT {', '.join(outputs)} {joined}) AS {rows}, {''.join(parts)}"
 
-    def _row_of(self, number: int, columns: list[Named], rows: str) -> str:
+    def _row_of(self, number: int, columns: list[EntryColumn], rows: str) -> str:
         outputs = ", ".join(f"{rows}.{self._name_within(named)} AS {self._visible(named)}" for named in columns)
         return f"LATERAL (SELECT {outputs}) AS {self.query.entries[number].alias}"
 
-    def _named_above(self, number: int) -> list[Named]:
-        return [named for column in self.columns[number] if (named := Named(number, column)) in self.query.named_above]
+    def _named_above(self, number: int) -> list[EntryColumn]:
+        columns = (EntryColumn(number, column) for column in self.columns[number])
+        return [named for named in columns if named in self.query.named_above]
 
     def _entries_of_parts(self) -> str:
         """Joins each entry of a part once more, under its own alias. Rows match by the row number that the part has."""
@@ -174,7 +176,7 @@ class Writing:
         rows = f"{self.rows.get(number, entry.table)} AS {entry.alias}"
         if not any(named.entry == number for named in self.query.renamed):
             return rows
-        columns = [Named(number, column) for column in self.columns[number]]
+        columns = [EntryColumn(number, column) for column in self.columns[number]]
         outputs = ", ".join(
             f"{entry.alias}.{self.dialect.quote(named.column.name)} AS {self._visible(named)}" for named in columns
         )
@@ -193,13 +195,13 @@ class Writing:
         """Writes the joins of this shape as a part. Returns its name."""
         outside, self.within = self.within, {}
         joins, alone = self._from(shape), self._alone(shape)
-        needed = [Named(number, column) for number in entries_of(shape) for column in self.columns[number]]
+        needed = [EntryColumn(number, column) for number in entries_of(shape) for column in self.columns[number]]
         outputs = ", ".join(f"{self._source(named)} AS {self._name_within(named)}" for named in needed) or "1 AS one"
         name = f"{self.prefix}{len(self.texts) + 1}"
         self.texts.append((name, f"SELECT {outputs} FROM {joins}{where(alone)}"))
         self.within = {**outside, **dict.fromkeys(entries_of(shape), name)}
         return name
 
-    def _source(self, named: Named) -> str:
+    def _source(self, named: EntryColumn) -> str:
         alias = self.query.entries[named.entry].alias
         return self._elsewhere(named) or f"{alias}.{self.dialect.quote(named.column.name)}"

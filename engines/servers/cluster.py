@@ -33,15 +33,15 @@ class Cluster:
         self.servers = [
             Server(os.path.join(folder, f"server{number}"), database=database) for number in range(1, SERVERS + 1)
         ]
-        self.all = [self.coordinator, *self.servers]
+        self.all_servers = [self.coordinator, *self.servers]
 
     def start(self) -> None:
         self.password = secrets.token_urlsafe(24)
-        for server, port in zip(self.all, free_ports(len(self.all))):
+        for server, port in zip(self.all_servers, free_ports(len(self.all_servers))):
             server.port = port
             os.mkdir(server.folder, 0o700)
             own(server.folder)
-        at_once(partial(self._started, server) for server in self.all)
+        at_once(partial(self._started, server) for server in self.all_servers)
         self._link(self.coordinator.database)
 
     def _started(self, server: Server) -> None:
@@ -52,7 +52,7 @@ class Cluster:
         """Makes a database of this name on each server, and links the coordinator's database to the others. Only the
         process that started the cluster may call it.
         """
-        at_once(partial(server.add_database, name) for server in self.all)
+        at_once(partial(server.add_database, name) for server in self.all_servers)
         self._link(name)
 
     def _link(self, database: str) -> None:
@@ -68,7 +68,8 @@ class Cluster:
                 coordinator.execute(f"CREATE USER MAPPING FOR postgres SERVER server{number} {mapping}")
 
     def stop(self) -> None:
-        at_once(server.stop for server in self.all if os.path.exists(os.path.join(server.data, "postmaster.pid")))
+        running = [s for s in self.all_servers if os.path.exists(os.path.join(s.data, "postmaster.pid"))]
+        at_once(server.stop for server in running)
 
     @property
     def url(self) -> str:
@@ -121,13 +122,13 @@ def at_once(calls: Iterable[Callable[[], None]]) -> None:
             done.result()
 
 
-class Here(Cluster, GoneOnLeaving):
+class TemporaryCluster(Cluster, GoneOnLeaving):
     """A cluster for a `with`. It starts on entering, and is removed on leaving."""
 
     def __init__(self) -> None:
         super().__init__(new_folder())
 
-    def __enter__(self) -> Here:
+    def __enter__(self) -> TemporaryCluster:
         with contextlib.ExitStack() as undo:
             undo.push(self)
             self.start()

@@ -1,4 +1,4 @@
-"""The statements and rows that servers of a cluster send and receive, by EXPLAIN."""
+"""The statements that servers of a cluster get, and the numbers of rows that they send, from EXPLAIN."""
 
 from __future__ import annotations
 
@@ -11,13 +11,13 @@ PREPARED = re.compile(r"\bWHERE\b|\bGROUP BY\b|\bcount\(", re.IGNORECASE)
 class Fetch(NamedTuple):
     """The statement that a server gets, and the number of rows that it sends."""
 
-    asked: str
+    statement: str
     rows: int
 
     @property
-    def whole(self) -> bool:
+    def takes_whole_table(self) -> bool:
         """Whether all rows of a table are sent unchanged."""
-        return not PREPARED.search(self.asked)
+        return not PREPARED.search(self.statement)
 
 
 def fetches(ask: Callable[[str], list[tuple[Any, ...]]], sql: str) -> list[Fetch]:

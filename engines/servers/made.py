@@ -1,4 +1,4 @@
-"""Tables that are filled by the servers of a cluster themselves, or by a single server, at a multiple of a size."""
+"""Tables whose rows the servers of a cluster, or a single server, generate themselves, as many as a factor says."""
 
 from __future__ import annotations
 
@@ -13,7 +13,7 @@ PLACES = "CREATE TABLE IF NOT EXISTS place (k INTEGER) PARTITION BY HASH (k)"
 KEPT = " WHERE satisfies_hash_partition('place'::regclass, {servers}, {number}, k)"
 
 
-class Made(NamedTuple):
+class GeneratedTables(NamedTuple):
     """The schema of some tables, and for each table a query that makes its rows at size {s}. The first column, k,
     decides which server has a row.
     """

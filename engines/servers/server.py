@@ -134,13 +134,13 @@ class GoneOnLeaving:
             shutil.rmtree(self.folder, ignore_errors=True)
 
 
-class Alone(Server, GoneOnLeaving):
+class TemporaryServer(Server, GoneOnLeaving):
     """A server for a `with`. It starts on entering, and is removed on leaving."""
 
     def __init__(self, settings: tuple[str, ...] = ()) -> None:
         super().__init__(new_folder(), settings=settings)
 
-    def __enter__(self) -> Alone:
+    def __enter__(self) -> TemporaryServer:
         with contextlib.ExitStack() as undo:
             undo.callback(shutil.rmtree, self.folder, ignore_errors=True)
             self.make()

@@ -8,7 +8,7 @@ from fractions import Fraction
 from pathlib import Path
 from typing import Any
 
-from made import Made
+from made import GeneratedTables
 
 BENCH = Path(__file__).resolve().parents[2] / "bench"
 
@@ -47,4 +47,4 @@ def rows(times: int | Fraction) -> int:
     return int(670_000 * times)
 
 
-SHOP = Made(SCHEMA, ROWS)
+SHOP = GeneratedTables(SCHEMA, ROWS)

@@ -8,7 +8,7 @@ from __future__ import annotations
 
 import random
 
-from made import Made
+from made import GeneratedTables
 
 SCHEMA = """CREATE TABLE title (id INTEGER PRIMARY KEY, kind INTEGER NOT NULL, year INTEGER NOT NULL, studio INTEGER
     NOT NULL);
@@ -25,7 +25,7 @@ def _chance(number: int) -> str:
     return f"((hashint8(i * 16 + {number}) & 2147483647) / 2147483648.0::float8)"
 
 
-def _few(most: str, power: float, number: int) -> str:
+def _skewed(most: str, power: float, number: int) -> str:
     """SQL for a pseudorandom whole number of row i, at least 0 and below `most`. If `power` is above 1, low numbers are
     more frequent.
     """
@@ -37,18 +37,20 @@ def _table(count: str, *columns: str) -> str:
     return f"SELECT {', '.join([first + ' AS k', *others])} FROM generate_series(0, {count} * {{s}} - 1) AS i"
 
 
-MADE = Made(
+MADE = GeneratedTables(
     SCHEMA,
     {
         "title": _table(
-            "20000", "i::integer", _few("6", 2, 1), "2024 - (i / (200 * {s}))::integer", _few("500 * {s}", 3, 2)
+            "20000", "i::integer", _skewed("6", 2, 1), "2024 - (i / (200 * {s}))::integer", _skewed("500 * {s}", 3, 2)
         ),
-        "person": _table("20000", "i::integer", _few("40", 3, 3), "2005 - (i % 80)::integer"),
-        "studio": _table("500", "i::integer", _few("20", 2, 4)),
-        "casting": _table("100000", _few("20000 * {s}", 2.5, 5), _few("20000 * {s}", 2, 6), _few("12", 2, 7)),
-        "keyword": _table("40000", _few("20000 * {s}", 2, 8), _few("1000 * {s}", 3, 9)),
-        "rating": _table("60000", _few("20000 * {s}", 1.5, 10), _few("20000 * {s}", 3, 11), _few("10", 0.6, 12)),
-        "award": _table("6000", _few("20000 * {s}", 2.5, 13), _few("20000 * {s}", 2.5, 14), _few("5", 2, 15)),
+        "person": _table("20000", "i::integer", _skewed("40", 3, 3), "2005 - (i % 80)::integer"),
+        "studio": _table("500", "i::integer", _skewed("20", 2, 4)),
+        "casting": _table("100000", _skewed("20000 * {s}", 2.5, 5), _skewed("20000 * {s}", 2, 6), _skewed("12", 2, 7)),
+        "keyword": _table("40000", _skewed("20000 * {s}", 2, 8), _skewed("1000 * {s}", 3, 9)),
+        "rating": _table(
+            "60000", _skewed("20000 * {s}", 1.5, 10), _skewed("20000 * {s}", 3, 11), _skewed("10", 0.6, 12)
+        ),
+        "award": _table("6000", _skewed("20000 * {s}", 2.5, 13), _skewed("20000 * {s}", 2.5, 14), _skewed("5", 2, 15)),
     },
 )
 

@@ -11,7 +11,7 @@ from collections import Counter
 from pathlib import Path
 from typing import TYPE_CHECKING, Any, Callable
 
-from safebound_sql.command import opened
+from safebound_sql.command import open_engine
 from safebound_sql.levels import MOST_BUDGET, Plan
 from safebound_sql.planner import Planner
 from safebound_sql.query import Row
@@ -101,7 +101,7 @@ class ClusterBase:
 
         assert CLUSTER
         self.cluster, self.alone = Cluster(CLUSTER, DATABASE), PostgresBase()
-        for server in self.cluster.all:
+        for server in self.cluster.all_servers:
             self.on(server, "DROP SCHEMA public CASCADE; CREATE SCHEMA public")
         self.url = self.cluster.url
 
@@ -156,20 +156,20 @@ class OnEachEngine(unittest.TestCase):
     def fill(cls) -> None:
         """Fills the tables."""
 
-    def opened(self, text: str, reduce: bool = True) -> Planner:
+    def planner_for(self, text: str, reduce: bool = True) -> Planner:
         """A planner for the query."""
-        engine = opened(self.base.url, None)
+        engine = open_engine(self.base.url, None)
         self.addCleanup(engine.connection.close)
         return Planner(engine, text, reduce)
 
     def planned(
         self, text: str, reduce: bool = True, accuracy: int = 1, tree: bool = False, budget: int = MOST_BUDGET
     ) -> tuple[Planner, Plan]:
-        planner = self.opened(text, reduce)
+        planner = self.planner_for(text, reduce)
         return planner, planner.plan(accuracy, budget, tree)
 
     def same_rows(self, planner: Planner, plan: Plan, text: str) -> None:
-        """Checks that the planned SQL returns the rows of the query itself, each as often."""
+        """Checks that the planned SQL returns the rows of the query itself, each row as often as the query does."""
         connection = planner.engine.connection
         connection.keep_order()
         self.assertEqual(counted(connection.rows(planner.sql(plan))), counted(self.base.rows(text)), text)

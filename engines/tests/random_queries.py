@@ -62,7 +62,7 @@ class RandomQuery:
     text: str = ""
 
     def count_of(self, names: set[str]) -> str:
-        """A query that counts the choices of rows of these entries that satisfy the conditions on these entries alone.
+        """A query that counts the choices for these entries that satisfy all conditions which name no other entry.
         """
         sources = ", ".join(f"t{table} AS {name}" for name, table in self.entries if name in names)
         complete = [f"({text})" for text, named in self.conditions if named <= names]

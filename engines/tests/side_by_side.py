@@ -45,38 +45,38 @@ class Piece(Generic[T]):
     work: Callable[[], T]
 
 
-Place = Dict[str, str]
+Environment = Dict[str, str]
 
 
-def all_done(pieces: list[Piece[T]], places: list[Place]) -> Iterator[tuple[Piece[T], T | None]]:
+def all_done(pieces: list[Piece[T]], environments: list[Environment]) -> Iterator[tuple[Piece[T], T | None]]:
     """The result of each piece, as soon as it is there. The result is None if the process ended without one.
 
-    A place is the environment of a process. No two processes have the same place at the same time.
+    Each process gets one of the environments. No two processes have the same one at the same time.
     """
-    waiting, free = pieces[::-1], list(places)
-    running: dict[Connection, tuple[Piece[T], Place]] = {}
+    waiting, free = pieces[::-1], list(environments)
+    running: dict[Connection, tuple[Piece[T], Environment]] = {}
     while waiting or running:
         while waiting and free:
-            piece, place = waiting.pop(), free.pop()
-            running[_started(piece, place)] = piece, place
+            piece, environment = waiting.pop(), free.pop()
+            running[_started(piece, environment)] = piece, environment
         for ready in wait(list(running)):
             assert isinstance(ready, Connection)
-            piece, place = running.pop(ready)
-            free.append(place)
+            piece, environment = running.pop(ready)
+            free.append(environment)
             yield piece, _received(ready)
 
 
-def _started(piece: Piece[T], place: Place) -> Connection:
+def _started(piece: Piece[T], environment: Environment) -> Connection:
     """Starts a process that is a copy of this one (a fork)."""
     fork = multiprocessing.get_context("fork")
     receives, sends = fork.Pipe(duplex=False)
-    fork.Process(target=_worked, args=(piece, place, sends), daemon=True).start()
+    fork.Process(target=_worked, args=(piece, environment, sends), daemon=True).start()
     sends.close()
     return receives
 
 
-def _worked(piece: Piece[T], place: Place, sends: Connection) -> None:
-    os.environ.update(place)
+def _worked(piece: Piece[T], environment: Environment, sends: Connection) -> None:
+    os.environ.update(environment)
     sends.send(piece.work())
 
 

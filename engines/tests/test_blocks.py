@@ -11,7 +11,7 @@ import tpch
 from bases import POSTGRES, ROOT, OnEachEngine, PostgresBase, counted, on_postgres
 from process import Process
 from safebound_sql import block_plans
-from safebound_sql.command import opened
+from safebound_sql.command import open_engine
 from safebound_sql.faults import PastBudget
 from safebound_sql.levels import MOST_BUDGET
 
@@ -21,20 +21,20 @@ QUERIES_OF_THE_ARCHIVE = ROOT / "bench" / "archive_queries"
 class InBlocks(OnEachEngine, Process):
     def tried_in_blocks(self, text: str, budget: int = MOST_BUDGET) -> block_plans.Planner:
         """Plans a query, and checks its rows and those of its levels. Returns the planner."""
-        engine = opened(self.base.url, None)
+        engine = open_engine(self.base.url, None)
         try:
-            self.assertTrue(block_plans.several(text, engine))
+            self.assertTrue(block_plans.has_several_blocks(text, engine))
             planner = block_plans.Planner(engine, text, 1, budget)
             planner.check()
             planner.true_rows()
             for plan in planner.plans.values():
                 for level in plan.levels:
                     if level.rows is not None:
-                        self.assertLessEqual(level.rows, level.bound, f"{level.joined} of {plan.core.called}\n{text}")
+                        self.assertLessEqual(level.rows, level.bound, f"{level.joined} of {plan.select.label}\n{text}")
             engine.connection.keep_order()
             rows, true = engine.connection.rows(planner.sql()), self.base.rows(text)
             self.assertEqual(counted(rows), counted(true), planner.sql())
-            [top] = [plan for plan in planner.plans.values() if plan.core.called == "the query"]
+            [top] = [plan for plan in planner.plans.values() if plan.select.label == "the query"]
             if not planner.query.operators and top.rows is not None:
                 self.assertLessEqual(len(true), top.rows)
             return planner
@@ -43,8 +43,8 @@ class InBlocks(OnEachEngine, Process):
 
     def bounded(self, text: str) -> bool:
         """Whether every join of the query has a bound."""
-        engine = opened(self.base.url, None)
-        several = block_plans.several(text, engine)
+        engine = open_engine(self.base.url, None)
+        several = block_plans.has_several_blocks(text, engine)
         engine.connection.close()
         if several:
             return not self.tried_in_blocks(text).unbounded

@@ -17,9 +17,9 @@ from bases import CLUSTER, DATABASE, ROOT, ClusterBase, OnEachEngine, counted, o
 from process import Process
 from random_queries import QUERIES, Randomly, RandomQuery, in_tens
 from test_random import AnyQueries
-from safebound_sql.command import opened
+from safebound_sql.command import open_engine
 from safebound_sql.counting import Counts, counts_of
-from safebound_sql.kept import Kept
+from safebound_sql.kept import KeptCounts
 from safebound_sql.planner import Planner
 from safebound_sql.tokens import tokens
 
@@ -31,7 +31,7 @@ class OnCluster(OnEachEngine):
     base_class = ClusterBase
 
     def counts(self, text: str, reduce: bool, url: str | None = None) -> Counts:
-        engine = opened(url or self.base.url, None)
+        engine = open_engine(url or self.base.url, None)
         try:
             planner = Planner(engine, text, reduce)
             return counts_of(planner.query, engine.connection.rows(planner.counting))
@@ -44,11 +44,11 @@ class OnCluster(OnEachEngine):
             with self.subTest(reduce=reduce):
                 self.assertEqual(self.counts(text, reduce), self.counts(text, reduce, self.base.alone.url), text)
 
-    def asked(self, text: str, reduce: bool = True, rows: bool = False) -> list[Fetch]:
+    def fetches_of(self, text: str, reduce: bool = True, rows: bool = False) -> list[Fetch]:
         """The statements that servers get from the counting statement, or from the statement that joins the rows."""
         from fetched import fetches
 
-        planner = self.opened(text, reduce)
+        planner = self.planner_for(text, reduce)
         if not rows:
             return fetches(planner.engine.connection.rows, planner.counting)
         plan = planner.plan(1, 2**59, False)
@@ -84,7 +84,7 @@ class TheShop(OnCluster, Process):
     def test_the_plan_is_that_of_one_server(self) -> None:
         self.same_counts(self.text)
         planner, plan = self.planned(self.text)
-        beside = Planner(opened(self.base.alone.url, None), self.text)
+        beside = Planner(open_engine(self.base.alone.url, None), self.text)
         self.addCleanup(beside.engine.connection.close)
         levels = [(level.shape, level.bound) for level in beside.plan(1, 2**59, False).levels]
         self.assertEqual([(level.shape, level.bound) for level in plan.levels], levels)
@@ -99,8 +99,8 @@ class TheShop(OnCluster, Process):
     def test_no_whole_table_is_fetched(self) -> None:
         for reduce, rows in ((True, False), (False, False), (True, True)):
             with self.subTest(reduce=reduce, rows=rows):
-                asked = self.asked(self.text, reduce, rows)
-                self.assertEqual([fetch for fetch in asked if fetch.whole], [])
+                asked = self.fetches_of(self.text, reduce, rows)
+                self.assertEqual([fetch for fetch in asked if fetch.takes_whole_table], [])
                 if reduce:
                     self.assertLess(sum(fetch.rows for fetch in asked), 10_000)
 
@@ -118,8 +118,8 @@ class TheShop(OnCluster, Process):
         """From 40,000 items each server sends some 2,000 products. A table that is partitioned by the column is grouped
         on the servers too.
         """
-        asked = self.asked("SELECT 1 FROM item i JOIN product p ON p.id = i.product", reduce=False)
-        grouped = [fetch for fetch in asked if "GROUP BY" in fetch.asked]
+        asked = self.fetches_of("SELECT 1 FROM item i JOIN product p ON p.id = i.product", reduce=False)
+        grouped = [fetch for fetch in asked if "GROUP BY" in fetch.statement]
         self.assertEqual(len(grouped), 4)
         self.assertLess(sum(fetch.rows for fetch in grouped), 10_000)
 
@@ -130,7 +130,7 @@ class TheShop(OnCluster, Process):
             " 1999"
         )
         self.same_counts(text)
-        self.assertLess(sum(fetch.rows for fetch in self.asked(text)), 1_000)
+        self.assertLess(sum(fetch.rows for fetch in self.fetches_of(text)), 1_000)
 
     def test_the_command(self) -> None:
         """Runs `engines/cluster`: it starts servers, fills them, plans, audits and runs, shows what servers send, and
@@ -147,9 +147,9 @@ class TheShop(OnCluster, Process):
         self.assertFalse(os.path.exists(folder))
 
     def test_kept_counts(self) -> None:
-        kept = [Kept("nowhere", has_to_be_there=False) for _ in range(2)]
+        kept = [KeptCounts("nowhere", has_to_be_there=False) for _ in range(2)]
         for one, url in zip(kept, (self.base.url, self.base.alone.url)):
-            planner = Planner(opened(url, None), self.text)
+            planner = Planner(open_engine(url, None), self.text)
             self.addCleanup(planner.engine.connection.close)
             one.keep(planner.query, planner.engine)
         there, here = ([(table.name, table.rows, table.runs) for table in one.tables.values()] for one in kept)
@@ -183,8 +183,8 @@ CREATE TABLE b (z INTEGER, x INTEGER, y INTEGER, v VARCHAR(9), t TEXT)"""
 
     def test_texts_of_any_length_go_along(self) -> None:
         self.checked("SELECT * FROM a JOIN b ON b.v = a.v WHERE a.y < 3 AND a.t <> 't2'")
-        asked = self.asked("SELECT 1 FROM a JOIN b ON b.v = a.v WHERE a.x = 1")
-        self.assertEqual([fetch for fetch in asked if fetch.whole], [])
+        asked = self.fetches_of("SELECT 1 FROM a JOIN b ON b.v = a.v WHERE a.x = 1")
+        self.assertEqual([fetch for fetch in asked if fetch.takes_whole_table], [])
 
     def test_what_isnt_sent(self) -> None:
         """Conditions on enum values, on functions of the user's own, and with subqueries."""
@@ -243,18 +243,18 @@ CREATE TABLE b (z INTEGER, x INTEGER, y INTEGER, v VARCHAR(9), t TEXT)"""
         self.checked("SELECT * FROM deep d JOIN deep e ON e.z = d.z WHERE d.x = 1")
 
     def test_a_look_at_a_table_sets_nothing(self) -> None:
-        engine = opened(self.base.url, None)
+        engine = open_engine(self.base.url, None)
         self.addCleanup(engine.connection.close)
         settings = "SELECT current_setting('enable_nestloop'), current_setting('jit')"
         table = engine.catalog.table(tokens("b", engine.dialect.rules))
         assert table and table.spread
         self.assertEqual(len(table.spread.parts), 2)
         self.assertEqual(engine.connection.rows(settings), [("on", "on")])
-        engine = self.opened("SELECT 1 FROM a JOIN b ON a.x = b.x").engine
+        engine = self.planner_for("SELECT 1 FROM a JOIN b ON a.x = b.x").engine
         self.assertEqual(engine.connection.rows(settings), [("off", "off")])
 
     def test_one_part_alone(self) -> None:
-        engine = opened(self.base.url, None)
+        engine = open_engine(self.base.url, None)
         self.addCleanup(engine.connection.close)
         text = "SELECT 1 FROM b_1 JOIN a ON a.x = b_1.x WHERE b_1.y = 2"
         planner = Planner(engine, text)

@@ -22,7 +22,7 @@ class Corners(OnEachEngine, Process):
         with self.subTest(text):
             try:
                 with self.assertRaises(Refused) as raised:
-                    self.opened(text)
+                    self.planner_for(text)
             finally:
                 self.doCleanups()  # an open transaction would hold what the test changes next
             for word in words:

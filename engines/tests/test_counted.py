@@ -25,7 +25,7 @@ class CountedBounds(OnEachEngine):
     """Methods for the tests of this file."""
 
     def counted(self, text: str, reduce: bool = True, tree: bool = False) -> tuple[Planner, Plan]:
-        planner = self.opened(text, reduce)
+        planner = self.planner_for(text, reduce)
         return planner, planner.plan_by_counting(1, MOST_BUDGET, tree)
 
     def bounds(self, text: str, reduce: bool = True) -> list[int]:
@@ -163,7 +163,7 @@ class NotCounted(CountedBounds):
         self.assertEqual(self.bounds("SELECT * FROM a p, a q WHERE p.u = q.u AND p.t <= q.t"), [2, 3])
 
     def test_the_limit_of_pairs(self) -> None:
-        """At the limit pairs are counted; above it they aren't."""
+        """A level with as many pairs as the limit is counted. With more pairs it isn't."""
         self.assertEqual(MOST_PAIRS, 2000 * 2000)
         text = "SELECT 1 FROM g p, g q WHERE p.x < q.x AND p.x <= 2000 AND q.x"
         self.assertEqual(self.counted(f"{text} <= 2000")[1].levels[-1].bound, 1999000)
@@ -314,7 +314,7 @@ class RandomCounts(CountedBounds):
         """
         choose = randomly.random.choice
         reduce, accuracy, tree = choose((True, True, False)), choose((1, 8)), choose((False, False, True))
-        planner = self.opened(found.text, reduce)
+        planner = self.planner_for(found.text, reduce)
         without = planner.plan(accuracy, MOST_BUDGET, tree)
         plan = planner.plan_by_counting(accuracy, MOST_BUDGET, tree)
         self.assertEqual(plan.notes, [])

@@ -170,7 +170,7 @@ class Written(Dialects):
         for entry in planner.query.entries:
             many = 10 - entry.number
             rows.append((entry.name, "", many, 1))
-            rows += [(entry.name, column.name, 1, many) for column in planner.query.joined(entry.number)]
+            rows += [(entry.name, column.name, 1, many) for column in planner.query.joined_columns(entry.number)]
         return counts_of(planner.query, rows)
 
     def test_parts_that_would_be_computed_too_often(self) -> None:

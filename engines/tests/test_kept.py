@@ -13,7 +13,7 @@ from bases import OnEachEngine, SqliteBase, on_postgres
 from process import PROGRAM, Process
 from random_queries import QUERIES, TABLES, Randomly, in_tens
 from safebound_sql.faults import WrongCounts
-from safebound_sql.kept import Kept
+from safebound_sql.kept import KeptCounts
 from safebound_sql.levels import MOST_BUDGET, Plan
 
 MOST = 60
@@ -27,15 +27,15 @@ class WithKept(OnEachEngine):
         self.file = os.path.join(folder.name, "kept.json")
 
     def keep(self, text: str) -> None:
-        planner = self.opened(text)
-        kept = Kept(self.file, has_to_be_there=False)
+        planner = self.planner_for(text)
+        kept = KeptCounts(self.file, has_to_be_there=False)
         kept.keep(planner.query, planner.engine)
         kept.save()
         planner.engine.connection.close()
 
     def append(self, table: str, condition: str) -> int:
-        engine = self.opened(f"SELECT 1 FROM {table}").engine
-        kept = Kept(self.file)
+        engine = self.planner_for(f"SELECT 1 FROM {table}").engine
+        kept = KeptCounts(self.file)
         new = kept.append(table, condition, engine)[1]
         kept.save()
         engine.connection.close()
@@ -43,8 +43,8 @@ class WithKept(OnEachEngine):
 
     def by_kept(self, text: str, tree: bool = False) -> tuple[Plan, list[int]]:
         """A plan from kept counts. Checks that no bound of it is too low."""
-        planner = self.opened(text, reduce=False)
-        plan = planner.plan_by_kept(1, MOST_BUDGET, tree, Kept(self.file))
+        planner = self.planner_for(text, reduce=False)
+        plan = planner.plan_by_kept(1, MOST_BUDGET, tree, KeptCounts(self.file))
         true = self.never_under(planner, plan, text)
         self.same_rows(planner, plan, text)
         planner.engine.connection.close()
@@ -131,7 +131,7 @@ class Taken(WithKept):
             self.append("a", "y > 1000")
         self.keep(JOINED)
         self.assertEqual(sorted(self.by_kept(JOINED)[0].kept), ["a", "b"])
-        self.assertEqual(len(Kept(self.file).tables), 2)
+        self.assertEqual(len(KeptCounts(self.file).tables), 2)
 
 
 TakenOnPostgres = on_postgres(Taken)
@@ -248,7 +248,7 @@ class KeptCommands(WithKept, Process):
             self.assertIn(old, right)
             Path(self.file).write_text(right.replace(old, new))
             with self.subTest(new), self.assertRaises(WrongCounts):
-                Kept(self.file)
+                KeptCounts(self.file)
         self.done("plan", "--kept", self.file, status=6)
 
     def test_words(self) -> None:

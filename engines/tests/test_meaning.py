@@ -27,7 +27,7 @@ class Counted(OnEachEngine):
         cls.base.fill("n", [(None,)] * 3)
 
     def counts(self, text: str, reduce: bool) -> Counts:
-        planner = self.opened(text, reduce)
+        planner = self.planner_for(text, reduce)
         return counts_of(planner.query, planner.engine.connection.rows(planner.counting))
 
     def test_null_is_no_value(self) -> None:
@@ -55,7 +55,7 @@ class Counted(OnEachEngine):
         self.assertEqual(self.counts(text, reduce=True).rows, {"p": 1, "q": 1})
 
     def test_a_column_without_values(self) -> None:
-        """A column with only NULLs joins no row. A list with one value would let it join the two rows of a in which x
+        """A column with only NULLs joins no row. With a list of one value it would join the two rows of a in which x
         is 1.
         """
         text = "SELECT a.y FROM a, n WHERE a.x = n.x"

@@ -83,7 +83,7 @@ class RandomOutputs(OnEachEngine):
             if not randomly.converts_both(schema):
                 return text
             with self.assertRaisesRegex(Refused, "it merges .* write the equality with ON") as raised:
-                self.opened(text)
+                self.planner_for(text)
             self.doCleanups()
             _, _, why = str(raised.exception).partition(": ")
             COUNTED[f"random outputs refused on {self.base.engine}: {why}"] += 1

@@ -11,7 +11,7 @@ from safebound_sql.faults import EngineFault, Refused
 class Refusing(OnEachEngine):
     def refused(self, text: str, *words: str, fault: type[Exception] = Refused) -> None:
         with self.subTest(text), self.assertRaises(fault) as raised:
-            self.opened(text)
+            self.planner_for(text)
         for word in words:
             self.assertIn(word, str(raised.exception))
 
@@ -76,7 +76,7 @@ class Refusals(Refusing):
         self.refused('SELECT 1 FROM a WHERE x IN (SELECT z FROM b WHERE z = "y")', "the subquery at line 1, column 28")
         self.refused("SELECT (SELECT max(z) FROM b WHERE b.x = a.x) FROM a", "the subquery at line 1, column 8")
         self.refused("SELECT 1 FROM a WHERE x IN (SELECT x FROM b LIMIT 1)", "LIMIT of a subquery at line 1, column 45")
-        self.opened("SELECT 1 FROM a WHERE x IN (SELECT z FROM b WHERE z = 1) AND y = (SELECT max(x) FROM b)")
+        self.planner_for("SELECT 1 FROM a WHERE x IN (SELECT z FROM b WHERE z = 1) AND y = (SELECT max(x) FROM b)")
 
     def test_what_the_engine_says(self) -> None:
         self.refused("SELECT a.q FROM a", "q", fault=EngineFault)
@@ -89,10 +89,10 @@ class Refusals(Refusing):
         self.refused("SELECT x FROM a WHERE random() < 1", "random at line 1, column 23", "anew")
         self.refused("SELECT random() FROM a", "random at line 1, column 8")
         self.refused("SELECT x FROM a WHERE x IN (SELECT z FROM b WHERE random() < 1)", "random at line 1, column 51")
-        self.opened("SELECT lower(t), abs(x) FROM a WHERE coalesce(x, 1) = 1 AND length(t) > 0")
+        self.planner_for("SELECT lower(t), abs(x) FROM a WHERE coalesce(x, 1) = 1 AND length(t) > 0")
 
     def test_views(self) -> None:
-        self.opened("SELECT x FROM lower_still")
+        self.planner_for("SELECT x FROM lower_still")
         self.refused("SELECT 1 FROM b, pale", "pale at line 1, column 18", "random")
         self.refused("SELECT 1 FROM paler_still", "paler_still at line 1, column 15", "random")
         self.refused(
@@ -116,7 +116,7 @@ class RefusalsOfPostgres(Refusing):
         self.refused(
             "SELECT 1 FROM a WHERE statement_timestamp() > '2020-01-01'", "statement_timestamp at line 1, column 23"
         )
-        self.opened("SELECT now(), current_date FROM a WHERE calm(x) = 1")
+        self.planner_for("SELECT now(), current_date FROM a WHERE calm(x) = 1")
 
     def test_forms(self) -> None:
         self.refused("SELECT x FROM a /* b", "the comment at line 1, column 17 never ends")
@@ -131,7 +131,7 @@ class RefusalsOfPostgres(Refusing):
         self.refused("SELECT x INTO c FROM a", "INTO at line 1, column 10")
         self.refused("SELECT count(a) FROM a", "a at line 1, column 14", "a whole row")
         self.refused("SELECT count(a.*) FROM a", "a star stands alone")
-        self.opened("SELECT public.a.x FROM a WHERE public.a.y = 1 ORDER BY public.a.x")
+        self.planner_for("SELECT public.a.x FROM a WHERE public.a.y = 1 ORDER BY public.a.x")
 
 
 class RefusalsOfSqlite(Refusing):
@@ -143,12 +143,12 @@ class RefusalsOfSqlite(Refusing):
         self.refused("SELECT 1 FROM a WHERE d > datetime()", "datetime at line 1, column 27")
         self.refused("SELECT 1 FROM a WHERE strftime('%Y') > d", "strftime at line 1, column 23")
         self.refused("SELECT 1 FROM a WHERE d > current_timestamp", "current_timestamp at line 1, column 27")
-        self.opened("SELECT 1 FROM a WHERE strftime('%Y', d) > '2020' AND date(d) < '2021-01-01'")
+        self.planner_for("SELECT 1 FROM a WHERE strftime('%Y', d) > '2020' AND date(d) < '2021-01-01'")
 
     def test_names_of_outputs(self) -> None:
         self.refused("SELECT a.x + 1 AS s FROM a WHERE s > 3", "s at line 1, column 34", "the name of an output")
         self.refused('SELECT b.x AS s FROM a, b WHERE a.d = "s"', '"s" at line 1, column 39')
-        self.opened("SELECT a.x + 1 AS s FROM a GROUP BY s HAVING s > 1 ORDER BY s")
+        self.planner_for("SELECT a.x + 1 AS s FROM a GROUP BY s HAVING s > 1 ORDER BY s")
 
     def test_forms(self) -> None:
         self.refused("SELECT 1 FROM a INDEXED BY i", "INDEXED at line 1, column 17")

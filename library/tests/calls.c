@@ -1,4 +1,4 @@
-/* Makes the calls that it reads, one a line, as C makes them, and writes one line for each: status, detail, elements.
+/* Reads calls, one on each line, and makes them from C. For each call it writes one line: status, detail, elements.
 
      degrees ROOM N KEY..
      append, lesser or greater, and ROOM N (DEGREE KEYS).. M (DEGREE KEYS)..
@@ -65,7 +65,7 @@ static char *rest;
 static array given[MOST_ARRAYS];
 static size_t given_count;
 
-static uint64_t number(void) {
+static uint64_t read_number(void) {
     char *end;
     uint64_t read = strtoull(rest, &end, 10);
     if (end == rest) stop("a number is missing");
@@ -74,17 +74,17 @@ static uint64_t number(void) {
 }
 
 /* Reads a length and as many elements. Each element has `narrow` numbers of 32 bits, then `wide` numbers of 64 bits. */
-static void *elements(size_t *length, size_t wide, size_t narrow) {
-    *length = number();
+static void *read_elements(size_t *length, size_t wide, size_t narrow) {
+    *length = read_number();
     array made = array_of(*length * (8 * wide + 4 * narrow));
     unsigned char *at = made.bytes;
     for (size_t i = 0; i < *length; i++) {
         for (size_t k = 0; k < narrow; k++, at += 4) {
-            uint32_t read = (uint32_t)number();
+            uint32_t read = (uint32_t)read_number();
             memcpy(at, &read, 4);
         }
         for (size_t k = 0; k < wide; k++, at += 8) {
-            uint64_t read = number();
+            uint64_t read = read_number();
             memcpy(at, &read, 8);
         }
     }
@@ -96,7 +96,7 @@ static void *elements(size_t *length, size_t wide, size_t narrow) {
 
 /* ---- the answer */
 
-static void look_at_rest(const array *into, size_t written) {
+static void check_rest(const array *into, size_t written) {
     for (size_t i = written; i < into->size; i++)
         if (into->bytes[i] != UNTOUCHED) stop("written where nothing may be written");
     for (size_t i = 0; i < given_count; i++)
@@ -104,9 +104,9 @@ static void look_at_rest(const array *into, size_t written) {
     if (kept != 0) stop("memory is kept");
 }
 
-static void tell(safebound_status status, const uint64_t *told, array *into, size_t element) {
+static void print_answer(safebound_status status, const uint64_t *told, array *into, size_t element) {
     uint64_t detail = *told;
-    look_at_rest(into, status == SAFEBOUND_OK ? detail * element : 0);
+    check_rest(into, status == SAFEBOUND_OK ? detail * element : 0);
     printf("%" PRIu32, status);
     if (detail == NO_DETAIL) printf(" -");
     else printf(" %" PRIu64, detail);
@@ -124,43 +124,43 @@ static void tell(safebound_status status, const uint64_t *told, array *into, siz
 /* ---- calls */
 
 static void degrees(uint64_t *detail) {
-    size_t room = number(), n;
+    size_t room = read_number(), n;
     array into = array_of(room * sizeof(safebound_run));
-    const uint64_t *keys = elements(&n, 1, 0);
-    tell(safebound_degrees(keys, n, (safebound_run *)into.bytes, room, detail), detail, &into, sizeof(safebound_run));
+    const uint64_t *keys = read_elements(&n, 1, 0);
+    print_answer(safebound_degrees(keys, n, (safebound_run *)into.bytes, room, detail), detail, &into, sizeof(safebound_run));
 }
 
 static void compress(uint64_t *detail) {
-    uint64_t accuracy = number();
-    size_t room = number(), n;
+    uint64_t accuracy = read_number();
+    size_t room = read_number(), n;
     array into = array_of(room * sizeof(safebound_run));
-    const safebound_run *runs = elements(&n, 2, 0);
-    tell(safebound_compress(runs, n, accuracy, (safebound_run *)into.bytes, room, detail), detail, &into, sizeof(safebound_run));
+    const safebound_run *runs = read_elements(&n, 2, 0);
+    print_answer(safebound_compress(runs, n, accuracy, (safebound_run *)into.bytes, room, detail), detail, &into, sizeof(safebound_run));
 }
 
 static void cut(uint64_t *detail) {
-    uint64_t rows = number();
-    size_t room = number(), n;
+    uint64_t rows = read_number();
+    size_t room = read_number(), n;
     array into = array_of(room * sizeof(safebound_run));
-    const safebound_run *runs = elements(&n, 2, 0);
-    tell(safebound_cut(runs, n, rows, (safebound_run *)into.bytes, room, detail), detail, &into, sizeof(safebound_run));
+    const safebound_run *runs = read_elements(&n, 2, 0);
+    print_answer(safebound_cut(runs, n, rows, (safebound_run *)into.bytes, room, detail), detail, &into, sizeof(safebound_run));
 }
 
 typedef safebound_status of_two_lists(const safebound_run *, size_t, const safebound_run *, size_t, safebound_run *, size_t,
                                       uint64_t *);
 
-static void of_both(of_two_lists *call, uint64_t *detail) {
-    size_t room = number(), n, m;
+static void call_with_two_lists(of_two_lists *call, uint64_t *detail) {
+    size_t room = read_number(), n, m;
     array into = array_of(room * sizeof(safebound_run));
-    const safebound_run *runs = elements(&n, 2, 0), *others = elements(&m, 2, 0);
-    tell(call(runs, n, others, m, (safebound_run *)into.bytes, room, detail), detail, &into, sizeof(safebound_run));
+    const safebound_run *runs = read_elements(&n, 2, 0), *others = read_elements(&m, 2, 0);
+    print_answer(call(runs, n, others, m, (safebound_run *)into.bytes, room, detail), detail, &into, sizeof(safebound_run));
 }
 
-static void append(uint64_t *detail) { of_both(safebound_append, detail); }
+static void append(uint64_t *detail) { call_with_two_lists(safebound_append, detail); }
 
-static void lesser(uint64_t *detail) { of_both(safebound_lesser, detail); }
+static void lesser(uint64_t *detail) { call_with_two_lists(safebound_lesser, detail); }
 
-static void greater(uint64_t *detail) { of_both(safebound_greater, detail); }
+static void greater(uint64_t *detail) { call_with_two_lists(safebound_greater, detail); }
 
 typedef struct {
     const uint64_t *rows;
@@ -172,71 +172,71 @@ typedef struct {
 
 static query read_query(void) {
     query read;
-    read.rows = elements(&read.entries, 1, 0);
-    read.equalities = elements(&read.equalities_length, 0, 4);
-    read.lists = elements(&read.lists_length, 2, 2);
-    read.runs = elements(&read.runs_length, 2, 0);
+    read.rows = read_elements(&read.entries, 1, 0);
+    read.equalities = read_elements(&read.equalities_length, 0, 4);
+    read.lists = read_elements(&read.lists_length, 2, 2);
+    read.runs = read_elements(&read.runs_length, 2, 0);
     return read;
 }
 
 static void bounds(uint64_t *detail) {
-    size_t room = number();
+    size_t room = read_number();
     array into = array_of(room * 8);
     query q = read_query();
     safebound_status status = safebound_bounds(q.rows, q.entries, q.equalities, q.equalities_length, q.lists, q.lists_length,
                                                q.runs, q.runs_length, (uint64_t *)into.bytes, room, detail);
-    tell(status, detail, &into, 8);
+    print_answer(status, detail, &into, 8);
 }
 
 static void bounds_within(uint64_t *detail) {
-    uint64_t limit = number();
-    size_t room = number();
+    uint64_t limit = read_number();
+    size_t room = read_number();
     array into = array_of(room * 8);
     query q = read_query();
     safebound_status status =
         safebound_bounds_within(q.rows, q.entries, q.equalities, q.equalities_length, q.lists, q.lists_length, q.runs,
                                 q.runs_length, limit, (uint64_t *)into.bytes, room, detail);
-    tell(status, detail, &into, 8);
+    print_answer(status, detail, &into, 8);
 }
 
 static void set_bound(uint64_t *detail) {
-    uint64_t set = number();
-    array into = array_of(number() * 8);
+    uint64_t set = read_number();
+    array into = array_of(read_number() * 8);
     query q = read_query();
     safebound_status status = safebound_set_bound(q.rows, q.entries, q.equalities, q.equalities_length, q.lists,
                                                   q.lists_length, q.runs, q.runs_length, set, detail);
-    tell(status, detail, &into, 0);
+    print_answer(status, detail, &into, 0);
 }
 
 static void order(uint64_t *detail) {
-    uint64_t budget = number();
-    size_t room = number(), n;
+    uint64_t budget = read_number();
+    size_t room = read_number(), n;
     array into = array_of(room * sizeof(safebound_level));
-    const uint64_t *given_bounds = elements(&n, 1, 0);
-    tell(safebound_order(given_bounds, n, budget, (safebound_level *)into.bytes, room, detail), detail, &into, sizeof(safebound_level));
+    const uint64_t *given_bounds = read_elements(&n, 1, 0);
+    print_answer(safebound_order(given_bounds, n, budget, (safebound_level *)into.bytes, room, detail), detail, &into, sizeof(safebound_level));
 }
 
 static void tree(uint64_t *detail) {
-    uint64_t budget = number();
-    size_t room = number(), n;
+    uint64_t budget = read_number();
+    size_t room = read_number(), n;
     array into = array_of(room * sizeof(safebound_join));
-    const uint64_t *given_bounds = elements(&n, 1, 0);
-    tell(safebound_tree(given_bounds, n, budget, (safebound_join *)into.bytes, room, detail), detail, &into, sizeof(safebound_join));
+    const uint64_t *given_bounds = read_elements(&n, 1, 0);
+    print_answer(safebound_tree(given_bounds, n, budget, (safebound_join *)into.bytes, room, detail), detail, &into, sizeof(safebound_join));
 }
 
 static void joined_rows(uint64_t *detail) {
-    uint64_t kind = number();
-    array into = array_of(number() * 8);
+    uint64_t kind = read_number();
+    array into = array_of(read_number() * 8);
     size_t n;
-    const uint64_t *rows = elements(&n, 1, 0);
+    const uint64_t *rows = read_elements(&n, 1, 0);
     if (n != 3) stop("there are three bounds");
-    tell(safebound_joined_rows(kind, rows[0], rows[1], rows[2], detail), detail, &into, 0);
+    print_answer(safebound_joined_rows(kind, rows[0], rows[1], rows[2], detail), detail, &into, 0);
 }
 
 static void version(uint64_t *detail) {
-    size_t room = number();
+    size_t room = read_number();
     array into = array_of(room);
-    tell(safebound_version((char *)into.bytes, room, detail), detail, &into, 1);
+    print_answer(safebound_version((char *)into.bytes, room, detail), detail, &into, 1);
 }
 
 static bool begins_with(const char *word) {
@@ -257,7 +257,7 @@ static const struct {
 
 static void make_call(void) {
     requests = 0;
-    refused = begins_with("refuse") ? (long)number() : 0;
+    refused = begins_with("refuse") ? (long)read_number() : 0;
     while (*rest == ' ') rest++;
     for (size_t i = 0; i < sizeof CALLS / sizeof *CALLS; i++) {
         if (begins_with(CALLS[i].name)) {

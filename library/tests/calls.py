@@ -48,7 +48,7 @@ ARRAYS: dict[str, list[Any]] = {
 WITHOUT_ROOM = {"set_bound", "joined_rows"}
 
 
-# A number, or several that belong together, such as a run's degree and its number of keys.
+# A number, or several numbers that belong together, such as a run's degree and its number of keys.
 Element = Union[int, Tuple[int, ...]]
 
 

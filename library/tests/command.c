@@ -1,11 +1,11 @@
-/* A program made from the library for files in memory. It reads the files of the current folder, and calls the library with the
+/* A command over the library for files in memory. It reads the files of the current folder, and calls the library with the
    words of its command line. It writes both resulting texts, and ends with the status. So cases/run-cases tests the
    library as it tests the program.
 
    Each word, name, file and room ends at the end of a page, and touching the next page ends the program. Arguments that are
    only read can't be written. Rooms begin at 16 bytes, and grow if one is too small. The text in the smaller room has to be
-   the beginning of the text in the larger one. Only notes may differ if the output was cut too: they may then have the line of
-   that fault. No memory is kept. With REFUSE=N in the environment, the request for memory after the first N fails. */
+   the beginning of the text in the larger one. Notes may differ if the output was cut: the shorter notes may then have the line
+   of that fault. No memory is kept. With REFUSE=N in the environment, the request for memory after the first N fails. */
 #define _GNU_SOURCE
 #include "safebound_command.h"
 #include "counted_memory.h"
@@ -30,9 +30,9 @@ static void stop(const char *why) {
 
 /* ---- memory */
 
-static long answered = -1;
+static long requests_left = -1;
 
-static bool is_refused(void) { return answered == 0 || (answered > 0 && answered-- == 0); }
+static bool is_refused(void) { return requests_left == 0 || (requests_left > 0 && requests_left-- == 0); }
 
 /* ---- bytes before a page that can't be touched */
 
@@ -95,36 +95,36 @@ typedef struct {
     uint64_t length;
 } stream;
 
-static void empty(stream *of) {
-    memset(of->room.bytes, UNTOUCHED, of->room.size);
-    of->length = UINT64_MAX;
+static void clear(stream *text) {
+    memset(text->room.bytes, UNTOUCHED, text->room.size);
+    text->length = UINT64_MAX;
 }
 
 /* Whether the room was filled to its end. If so, it is replaced by a larger room. */
-static bool grown(stream *of, block *before) {
-    if (of->length != of->room.size) return false;
-    *before = of->room;
-    of->room = block_of(of->room.size * GROWS);
+static bool grown(stream *text, block *before) {
+    if (text->length != text->room.size) return false;
+    *before = text->room;
+    text->room = block_of(text->room.size * GROWS);
     return true;
 }
 
-static void look_at(const stream *of, const block *before) {
-    if (of->length > of->room.size) stop("more is written than there is room");
-    for (size_t i = of->length; i < of->room.size; i++)
-        if ((unsigned char)of->room.bytes[i] != UNTOUCHED) stop("written behind the text");
+static void check_room(const stream *text, const block *before) {
+    if (text->length > text->room.size) stop("more is written than there is room");
+    for (size_t i = text->length; i < text->room.size; i++)
+        if ((unsigned char)text->room.bytes[i] != UNTOUCHED) stop("written behind the text");
     if (before->bytes == NULL) return;
-    if (of->length < before->size || memcmp(before->bytes, of->room.bytes, before->size) != 0) stop("another beginning");
+    if (text->length < before->size || memcmp(before->bytes, text->room.bytes, before->size) != 0) stop("another beginning");
     munmap(before->pages, before->mapped);
 }
 
-static void forget(block *before) {
+static void unmap(block *before) {
     if (before->bytes != NULL) munmap(before->pages, before->mapped);
     *before = (block){0};
 }
 
-static void write_all(int to, const stream *of) {
-    for (size_t done = 0; done < of->length;) {
-        ssize_t count = write(to, of->room.bytes + done, of->length - done);
+static void write_all(int to, const stream *text) {
+    for (size_t done = 0; done < text->length;) {
+        ssize_t count = write(to, text->room.bytes + done, text->length - done);
         if (count <= 0) stop("a stream can't be written");
         done += (size_t)count;
     }
@@ -142,18 +142,18 @@ int main(int count, char **arguments) {
     uint32_t status;
     bool again;
     do {
-        empty(&out);
-        empty(&notes);
-        answered = refuse == NULL ? -1 : atol(refuse);
+        clear(&out);
+        clear(&notes);
+        requests_left = refuse == NULL ? -1 : atol(refuse);
         status = safebound_command(words, words_length, files, file_count, out.room.bytes, out.room.size, notes.room.bytes,
                                    notes.room.size, &out.length, &notes.length);
         if (kept != 0) stop("memory is kept");
-        look_at(&out, &out_before);
-        look_at(&notes, &notes_before);
+        check_room(&out, &out_before);
+        check_room(&notes, &notes_before);
         out_before = notes_before = (block){0};
         bool is_cut = status == SAFEBOUND_EXIT_WRITE, out_grows = grown(&out, &out_before), notes_grow = grown(&notes, &notes_before);
         if (is_cut && !out_grows && !notes_grow) stop("a room is too small, and both have more");
-        if (out_grows) forget(&notes_before);
+        if (out_grows) unmap(&notes_before);
         again = out_grows || notes_grow;
     } while (again);
     write_all(1, &out);

@@ -192,7 +192,7 @@ static void version(void) {
     CHECK(safebound_version(text, 1, &number) == SAFEBOUND_ROOM);
 }
 
-static void *all(void *times) {
+static void *run_all_examples(void *times) {
     for (int time = 0; time < *(int *)times; time++) {
         degrees_of_a_column();
         few_runs();
@@ -215,9 +215,9 @@ static void *all(void *times) {
 
 int main(int count, char **words) {
     int once = 1, often = count > 1 ? atoi(words[1]) : TIMES;
-    all(&once);
+    run_all_examples(&once);
     pthread_t threads[THREADS];
-    for (int i = 0; i < THREADS; i++) CHECK(pthread_create(&threads[i], NULL, all, &often) == 0);
+    for (int i = 0; i < THREADS; i++) CHECK(pthread_create(&threads[i], NULL, run_all_examples, &often) == 0);
     for (int i = 0; i < THREADS; i++) CHECK(pthread_join(threads[i], NULL) == 0);
     puts("the header's examples: as it says, alone and from four threads");
     return 0;

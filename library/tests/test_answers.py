@@ -1,4 +1,6 @@
-"""Compares random calls with the slow reading of the definitions (cases/reading.py), and bounds with true counts."""
+"""Compares random calls with a slow, literal implementation of the definitions (cases/reading.py), and bounds with true
+counts.
+"""
 
 from __future__ import annotations
 
@@ -12,19 +14,19 @@ from collections import Counter
 from typing import Any, Callable, Dict, Iterable, Iterator, Sequence, Tuple, Union
 
 from calls import NO_BOUND, NO_VALUES, Answer, Call, Status, answers, by_ctypes
-import reading
+import reading as by_definition
 
 RUNS = 150
 MOST_ENTRIES = MOST_TURNS = 16
 
 Pair = Tuple[int, int]
-# Two columns. Each is a pair of an entry and a column number.
+# Two columns, each as a pair of an entry and a column number.
 Equality = Tuple[Pair, Pair]
 DegreeLists = Dict[Pair, "list[int]"]
 # An entry, or a pair of trees.
 Tree = Union[int, Tuple["Tree", "Tree"]]
-# The set of the left tree, and the places of both trees. It decides between trees of equal cost and sum.
-Place = Tuple[int, Tuple[Any, ...], Tuple[Any, ...]]
+# Decides between trees of equal cost and sum: the set of the left tree as a number, and the TieBreak of both trees.
+TieBreak = Tuple[int, Tuple[Any, ...], Tuple[Any, ...]]
 
 
 def runs_of(degrees: Iterable[int]) -> list[Pair]:
@@ -53,7 +55,7 @@ class Lists(unittest.TestCase):
             pick = random.Random(seed)
             spread = pick.choice([[0, 1, 2], range(20), [0, 2**63, 2**64 - 1], range(2**64 - 9, 2**64), [5]])
             keys = [pick.choice(spread) for _ in range(pick.choice([0, 1, 9, 60, 400]))]
-            made.append((Call("degrees", [keys], 30), reading.falling(keys)))
+            made.append((Call("degrees", [keys], 30), by_definition.degree_sequence(keys)))
         self.check(made)
 
     def test_compress(self) -> None:
@@ -62,7 +64,8 @@ class Lists(unittest.TestCase):
             pick = random.Random(seed)
             degrees, accuracy = random_degrees(pick), pick.choice([1, 2, 3, 8, 64])
             split = [(degree, 1) for degree in degrees] if pick.random() < 0.3 else runs_of(degrees)
-            made.append((Call("compress", [split], len(split) + 1, accuracy), reading.compressed(degrees, accuracy)))
+            expected = by_definition.compressed(degrees, accuracy)
+            made.append((Call("compress", [split], len(split) + 1, accuracy), expected))
         self.check(made)
 
     def test_append(self) -> None:
@@ -70,7 +73,7 @@ class Lists(unittest.TestCase):
         for seed in range(RUNS):
             pick = random.Random(seed)
             one, other = random_degrees(pick), random_degrees(pick)
-            made.append((Call("append", [runs_of(one), runs_of(other)], 24), reading.by_rank(sum, [one, other])))
+            made.append((Call("append", [runs_of(one), runs_of(other)], 24), by_definition.by_rank(sum, [one, other])))
         self.check(made)
 
     def test_lesser_and_greater(self) -> None:
@@ -79,8 +82,8 @@ class Lists(unittest.TestCase):
             pick = random.Random(seed)
             lists = [random_degrees(pick), random_degrees(pick)]
             runs = [runs_of(degrees) for degrees in lists]
-            made.append((Call("lesser", runs, 72), reading.least_sums(lists)))
-            made.append((Call("greater", runs, 24), reading.by_rank(max, lists)))
+            made.append((Call("lesser", runs, 72), by_definition.least_sums(lists)))
+            made.append((Call("greater", runs, 24), by_definition.by_rank(max, lists)))
         self.check(made)
 
     def test_cut(self) -> None:
@@ -89,32 +92,32 @@ class Lists(unittest.TestCase):
             pick = random.Random(seed)
             degrees = random_degrees(pick)
             rows = pick.choice([0, 1, pick.randint(0, sum(degrees)), sum(degrees), sum(degrees) + 1, 2**64 - 1])
-            made.append((Call("cut", [runs_of(degrees)], 13, rows), reading.cut(degrees, rows)))
+            made.append((Call("cut", [runs_of(degrees)], 13, rows), by_definition.cut(degrees, rows)))
         self.check(made)
 
     def test_lists_of_conditions_dominate(self) -> None:
-        """Rows have a key, a colour and a size. Lists that calls make for conditions on these rows are never below true
-        counts.
+        """Rows have a key, a colour and a size. Calls make lists for conditions on these rows. The running sums of such
+        a list are never below the true counts.
         """
         calls, keys = [], []
         for seed in range(RUNS):
             pick = random.Random(seed)
             rows = [(pick.choice(range(6)), pick.choice("rgb"), pick.choice("SML")) for _ in range(pick.randint(0, 60))]
             red, small, green = ([key for key, *rest in rows if value in rest] for value in "rSg")
-            lists = [runs_of(reading.falling(some)) for some in (red, small, green)]
+            lists = [runs_of(by_definition.degree_sequence(some)) for some in (red, small, green)]
             calls.append(Call("lesser", lists[:2], 99))
             keys.append([key for key, *rest in rows if rest == ["r", "S"]])
             calls.append(Call("append", lists[:2], 99))
             keys.append([key for key, colour, size in rows if colour == "r" or size == "S"])
             calls.append(Call("greater", [lists[0], lists[2]], 99))
             keys.append(pick.choice([red, green]))
-            few = pick.sample(red, pick.randint(0, len(red)))
-            calls.append(Call("cut", [lists[0]], 99, len(few)))
-            keys.append(few)
+            sampled = pick.sample(red, pick.randint(0, len(red)))
+            calls.append(Call("cut", [lists[0]], 99, len(sampled)))
+            keys.append(sampled)
         for call, some, answer in zip(calls, keys, answers(calls)):
             self.assertEqual(answer.status, Status.OK)
             bound = list(itertools.accumulate(degrees_of(answer.elements)))
-            true: list[int] = list(itertools.accumulate(reading.falling(some)))
+            true: list[int] = list(itertools.accumulate(by_definition.degree_sequence(some)))
             for rank, count in enumerate(true):
                 self.assertLessEqual(count, bound[min(rank, len(bound) - 1)], call)
 
@@ -135,8 +138,8 @@ class Lists(unittest.TestCase):
         each.
 
         At accuracy 1 the second degree isn't below half of the first, so the list begins with the first degree twice:
-        8,000,000,000 rows. The first two values and 500 of the thousand values have as many rows, so 500 of the
-        thousand are left.
+        8,000,000,000 rows. These are the rows of the first two values and of 500 of the thousand, so the other 500
+        follow.
         """
         table = [(4_000_000_000, 1), (3_000_000_000, 1), (2_000_000, 1000), (1, 1_000_000_000)]
         self.check_runs([
@@ -150,11 +153,11 @@ class Lists(unittest.TestCase):
             self.assertEqual(answer, (Status.OK, len(expected), expected), call)
 
 
-class GivenLists(reading.ListBounds):
-    """Bounds over given lists, computed as cases/reading.py does."""
+class GivenLists(by_definition.ListBounds):
+    """Bounds over given lists, computed by the definitions."""
 
     def __init__(self, equalities: list[Equality], rows: list[int], lists: DegreeLists) -> None:
-        self.all, self.rows, self.lists = equalities, rows, lists
+        self.equalities, self.rows, self.lists = equalities, rows, lists
 
 
 def with_values(rows: list[int], lists: DegreeLists, equalities: list[Equality]) -> tuple[list[int], DegreeLists]:
@@ -164,11 +167,11 @@ def with_values(rows: list[int], lists: DegreeLists, equalities: list[Equality])
     rows = list(rows)
     for entry, column in itertools.chain(*equalities):
         rows[entry] = min(rows[entry], sum(lists[entry, column]))
-    return rows, {(entry, column): reading.cut(degrees, rows[entry]) for (entry, column), degrees in lists.items()}
+    return rows, {(e, column): by_definition.cut(degrees, rows[e]) for (e, column), degrees in lists.items()}
 
 
 class RandomQuery:
-    """Small tables in which some rows have no value, equalities, and lists that dominate the columns."""
+    """Equalities over small tables, and lists that dominate the tables' columns. Some rows have no value."""
 
     def __init__(self, seed: int) -> None:
         self.pick = pick = random.Random(seed)
@@ -187,14 +190,14 @@ class RandomQuery:
             self.tables[1] = self.tables[0]
         pairs = list(itertools.combinations(range(self.entries), 2))
 
-        def place(entry: int) -> Pair:
+        def random_column(entry: int) -> Pair:
             return entry, pick.randrange(columns)
 
         self.equalities: list[Equality] = []
         for _ in range(pick.randint(0, self.entries + 1)):
             one, other = pick.sample(pick.choice(pairs), 2)
-            self.equalities.append((place(one), place(other)))
-        self.whole = [
+            self.equalities.append((random_column(one), random_column(other)))
+        self.larger_tables = [
             self.tables[e] + ([[value() for _ in range(columns)]] if pick.random() < 0.3 else [])
             for e in range(self.entries)
         ]
@@ -205,13 +208,14 @@ class RandomQuery:
         """A list that dominates the column. It is made from the degrees over the table or over a table with more rows:
         unchanged, compressed, or appended from two parts.
         """
-        values = [row[column] for row in self.whole[entry] if row[column] is not None]
-        shape, degrees = self.pick.random(), list(reading.falling(values))
+        values = [row[column] for row in self.larger_tables[entry] if row[column] is not None]
+        shape, degrees = self.pick.random(), list(by_definition.degree_sequence(values))
         if shape < 0.3:
-            return list(reading.compressed(degrees, self.pick.choice([1, 2, 8])))
+            return list(by_definition.compressed(degrees, self.pick.choice([1, 2, 8])))
         if shape < 0.5:
             at = self.pick.randint(0, len(values))
-            return list(reading.by_rank(sum, [reading.falling(values[:at]), reading.falling(values[at:])]))
+            parts = [by_definition.degree_sequence(values[:at]), by_definition.degree_sequence(values[at:])]
+            return list(by_definition.by_rank(sum, parts))
         return degrees
 
     def call(self) -> Call:
@@ -228,7 +232,7 @@ class RandomQuery:
             runs += own + [(1, 1)]
         return Call("bounds", [self.rows, equalities, lists, runs], 2**self.entries)
 
-    def read(self, entries: list[int]) -> int:
+    def bound_by_definition(self, entries: list[int]) -> int:
         """The bound of a set, by the definitions."""
         rows, lists = with_values(self.rows, self.lists, self.within(entries))
         return GivenLists(self.equalities, rows, lists).of_set(set(entries))
@@ -238,7 +242,9 @@ class RandomQuery:
         return [e for e in self.equalities if e[0][0] in entries and e[1][0] in entries]
 
     def work(self) -> int:
-        """The work of all sets: each turn of a set costs 1, and the runs of both lists of its equalities."""
+        """The work of all sets. Each turn of a set costs 1 plus the number of runs in the two lists of each of its
+        equalities.
+        """
         length = {side: len(runs_of(degrees)) for side, degrees in self.lists.items()}
         sets = [[e for e in range(self.entries) if number >> e & 1] for number in range(2**self.entries)]
         return sum(
@@ -246,9 +252,9 @@ class RandomQuery:
             for own in map(self.within, sets)
         )
 
-    def counted(self, entries: list[int]) -> int:
-        """Counts by nested loops the choices, of one row of each entry of a set, that satisfy the equalities between
-        them.
+    def count_choices(self, entries: list[int]) -> int:
+        """Counts, by nested loops, the choices for a set of entries that satisfy the equalities between them. A choice
+        has one row of each entry.
         """
         inner = self.within(entries)
         found = 0
@@ -259,7 +265,7 @@ class RandomQuery:
 
 
 def clique(entries: int, limit: int | None) -> Call:
-    """All pairs of entries, each by columns of its own."""
+    """A call in which all pairs of entries are joined, each pair by columns of its own."""
     equalities = [(a, b, b, a) for a, b in itertools.combinations(range(entries), 2)]
     lists = [(entry, column, 0, 12) for entry in range(entries) for column in range(entries) if column != entry]
     runs = [(12 - at, 1000) for at in range(12)]
@@ -282,8 +288,8 @@ class Bounds(unittest.TestCase):
             self.assertEqual((answer.status, answer.detail), (Status.OK, 2**query.entries), call)
             for number, bound in enumerate(answer.elements):
                 entries = [e for e in range(query.entries) if number >> e & 1]
-                self.assertEqual(bound, query.read(entries) if entries else 1, (entries, call))
-                count = query.counted(entries)
+                self.assertEqual(bound, query.bound_by_definition(entries) if entries else 1, (entries, call))
+                count = query.count_choices(entries)
                 self.assertLessEqual(count, bound, (entries, call))
                 joined, equal = joined + (count > 0 and len(entries) > 1), equal + (count == bound and len(entries) > 1)
         self.assertGreater(joined, 100)
@@ -291,7 +297,7 @@ class Bounds(unittest.TestCase):
 
     def test_rows_without_values(self) -> None:
         """Two tables of a million rows. Ten rows of one and all rows of the other have a value, and all values differ.
-        So at most ten rows join; alone, each table has its million rows.
+        So at most ten rows join. The bound of a single table is its million rows.
         """
         million = 10**6
         lists, runs = [(0, 0, 0, 1), (1, 0, 1, 1)], [(1, 10), (1, million)]
@@ -306,7 +312,7 @@ class Bounds(unittest.TestCase):
         self.assertEqual(apart.elements, [1, million, million, million**2])
 
     def test_sets_alone(self) -> None:
-        """The bound of a set asked alone equals its bound among all sets."""
+        """`set_bound` gives each set the bound that `bounds`, which bounds all sets, gives it."""
         queries = [RandomQuery(seed) for seed in range(RUNS)]
         calls = [query.call() for query in queries]
         for call, answer in zip(calls, answers(calls)):
@@ -316,8 +322,8 @@ class Bounds(unittest.TestCase):
             )
 
     def test_limits_of_work(self) -> None:
-        """With the smallest sufficient limit the bounds are unchanged. With one less they are refused, and the detail
-        is that limit.
+        """With the smallest sufficient limit the bounds are unchanged. With a limit of one less they are refused, and
+        the answer's detail is the smallest sufficient limit.
         """
         queries = [RandomQuery(seed) for seed in range(RUNS)]
         calls = [query.call() for query in queries]
@@ -329,9 +335,9 @@ class Bounds(unittest.TestCase):
 
     def test_a_limit_ends_at_once(self) -> None:
         """All pairs of entries are joined, each pair by columns of its own. Refusing the bounds of twelve entries takes
-        less than a twentieth of the time in which they are computed. Refusing those of sixteen, which would take most
-        of a minute or more, takes less than half of it. Time is this process's processor time, so that other work on
-        the machine doesn't count.
+        less than a twentieth of the time in which they are computed. Refusing the bounds of sixteen entries takes less
+        than half of that time; computing them would take most of a minute or more. Time is this process's processor
+        time, so that other work on the machine doesn't count.
         """
         sixteen, twelve = answers([clique(16, 10**6), clique(12, 10**6)])
         for refused in (sixteen, twelve):
@@ -343,8 +349,8 @@ class Bounds(unittest.TestCase):
             self.assertLess(part * refusing, taken, entries)
 
     def test_saturated_bounds(self) -> None:
-        """Two columns with one value each have the product of their rows as bound; with twelve columns of 2**48 rows it
-        exceeds 64 bits.
+        """If two joined columns have one value each, the bound is the product of their rows. Without equalities, two or
+        more entries of 2**48 rows have a product that exceeds 64 bits.
         """
         for rows, expected in [
             ((2**31, 2**32), 2**63),
@@ -417,7 +423,9 @@ class JoinedTables(unittest.TestCase):
 
 
 def orders(bounds: list[int], entries: int) -> Iterator[tuple[int, int, tuple[int, ...], list[int]]]:
-    """All orders with their greatest level, their sum and their levels. The first of the least triples is best."""
+    """For each order its greatest level, the sum of its levels, the order itself, and its levels. The least of these
+    tuples is best.
+    """
     for order in itertools.permutations(range(entries)):
         levels = [bounds[sum(1 << e for e in order[: k + 1])] for k in range(entries)]
         yield max(levels), sum(levels), order, levels
@@ -438,9 +446,9 @@ def set_of(tree: Tree) -> int:
     return set_of(tree[0]) | set_of(tree[1]) if isinstance(tree, tuple) else 1 << tree
 
 
-def place_of(tree: Tree) -> Place:
+def tie_break_of(tree: Tree) -> TieBreak:
     """The key that decides between trees of equal cost and sum."""
-    return (set_of(tree[0]), place_of(tree[0]), place_of(tree[1])) if isinstance(tree, tuple) else (0, (), ())
+    return (set_of(tree[0]), tie_break_of(tree[0]), tie_break_of(tree[1])) if isinstance(tree, tuple) else (0, (), ())
 
 
 def joins_of(tree: Tree, bounds: list[int], joins: list[tuple[int, int, int]], entries: int) -> int:
@@ -452,25 +460,25 @@ def joins_of(tree: Tree, bounds: list[int], joins: list[tuple[int, int, int]], e
     return entries + len(joins) - 1
 
 
-def best_tree(bounds: list[int], entries: int) -> tuple[int, int, Place, list[tuple[int, int, int]]]:
+def best_tree(bounds: list[int], entries: int) -> tuple[int, int, TieBreak, list[tuple[int, int, int]]]:
     found = []
     for tree in trees(tuple(range(entries))):
         joins: list[tuple[int, int, int]] = []
         joins_of(tree, bounds, joins, entries)
         levels = [bound for _, _, bound in joins] or [bounds[1]]
-        found.append((max(levels), sum(levels), place_of(tree), joins))
+        found.append((max(levels), sum(levels), tie_break_of(tree), joins))
     return min(found)
 
 
 def random_bounds(pick: random.Random, entries: int) -> list[int]:
     kind = pick.choice(["few", "few", "many", "large", "none"])
-    least = {
+    numbers = {
         "few": [1, 2, 3],
         "many": range(1000),
         "large": range(2**58, 2**58 + 9),
         "none": [2**59, 2**60, NO_BOUND],
     }[kind]
-    bounds = [pick.choice(least) for _ in range(2**entries)]
+    bounds = [pick.choice(numbers) for _ in range(2**entries)]
     if pick.random() < 0.3:
         bounds[pick.randrange(1, 2**entries)] = NO_BOUND
     return bounds
@@ -478,7 +486,9 @@ def random_bounds(pick: random.Random, entries: int) -> list[int]:
 
 class Plans(unittest.TestCase):
     def check(self, name: str, best: Callable[[list[int], int], tuple[int, Sequence[Any]]]) -> None:
-        """Plans random bounds with the least sufficient budget, with one less, and with the greatest budget."""
+        """Plans random bounds with the least sufficient budget, with a budget of one less, and with the greatest
+        budget.
+        """
         calls, expected = [], []
         for seed in range(2 * RUNS):
             pick = random.Random(seed)
@@ -538,7 +548,7 @@ def clique_of_one_class(entries: int, number: int) -> Call:
 
 
 def clique_of_keys(rows: list[int], number: int) -> Call:
-    """A set of entries of which each pair is joined by columns of its own, whose values occur once."""
+    """A set of entries. Each pair of them is joined by columns of its own, in which each value occurs once."""
     entries = range(len(rows))
     equalities = [(a, b, b, a) for a, b in itertools.combinations(entries, 2)]
     lists = [(entry, column, entry, 1) for entry in entries for column in entries if column != entry]
@@ -551,20 +561,20 @@ class ManyEntries(unittest.TestCase):
     SIZES = (3, *range(12, MOST_ENTRIES + 1))
 
     def test_chains(self) -> None:
-        """Chains of many entries, each with 100 keys that occur once. For each run of neighbours in it, a set has as
-        many rows as one entry.
+        """Chains of many entries, each with 100 keys that occur once. Entries of a set that are neighbours in the chain
+        have 100 rows together. So the bound of a set is 100 ** n, where n is its number of runs of neighbours.
         """
         for entries in self.SIZES:
             rows, last = 100, entries - 1
-            ends = [bin(number & ~(number >> 1)).count("1") for number in range(2**entries)]
+            run_counts = [bin(number & ~(number >> 1)).count("1") for number in range(2**entries)]
             equalities = [(e, 0, e + 1, 0) for e in range(last)]
             lists, runs = [(e, 0, e, 1) for e in range(entries)], [(1, rows)] * entries
             bounds = answers([Call("bounds", [[rows] * entries, equalities, lists, runs], 2**entries)])[0].elements
-            self.assertEqual(bounds, [rows**count for count in ends])
+            self.assertEqual(bounds, [rows**count for count in run_counts])
             order, tree = answers([Call("order", [bounds], entries, rows), Call("tree", [bounds], last, rows)])
             self.assertEqual(order, (Status.OK, entries, [(e, rows) for e in range(entries)]))
-            # Of trees with equal cost and sum, the best one has the least left sets: each entry is joined with all
-            # later ones.
+            # Of trees with equal cost and sum, the best one has the smallest left sets. So each left child is a single
+            # entry: 0 with (1 with (2 ...)).
             later = [(last - 2 - k, entries + k, rows) for k in range(entries - 2)]
             self.assertEqual(tree, (Status.OK, last, [(last - 1, last, rows)] + later))
 
@@ -586,8 +596,8 @@ class ManyEntries(unittest.TestCase):
             self.assertEqual(order, (Status.OK, entries, list(zip([first, centre, *others], [6, *joined[1:]]))))
 
     def test_rings(self) -> None:
-        """Each row joins with at most one row of the next entry, and the last entry is joined with the first. So each
-        arc of a ring has as many rows as its first entry, and the whole ring too.
+        """Each row joins with at most one row of the next entry, and the last entry is joined with the first. So an arc
+        (a run of neighbours in the ring) has as many rows as its first entry. So has the whole ring.
         """
         for entries in self.SIZES:
             (bounds,) = answers([ring(entries)])
@@ -598,9 +608,9 @@ class ManyEntries(unittest.TestCase):
                 self.assertEqual(bound, 8**arcs, (entries, number))
 
     def test_cliques(self) -> None:
-        """All pairs of entries are joined. By one column in which one value is in two of three rows, m entries have at
-        most 2**m + 1 rows. By columns of keys a set has at most as many rows as any of its entries; the last has the
-        fewest.
+        """All pairs of entries are joined. In the first call each entry has one column, with one value in two of its
+        three rows: then m entries have at most 2**m + 1 rows. In the second call each value of a column occurs once:
+        then a set has at most as many rows as its smallest entry, which is the last one.
         """
         for entries in self.SIZES:
             rows = [100 - entry for entry in range(entries)]
@@ -610,8 +620,8 @@ class ManyEntries(unittest.TestCase):
                 self.assertEqual(found, [(Status.OK, bound, []) for bound in most], (entries, number))
 
     def test_sets_of_sixteen_entries(self) -> None:
-        """The bound of a set of sixteen entries without equalities is the product of their row bounds. The last entry
-        counts like the others.
+        """The bound of a set of entries without equalities is the product of their row bounds, also with the sixteenth
+        entry.
         """
         rows = [2, 3] * 8
         given: list[Sequence[Any]] = [rows, [], [], []]

@@ -78,7 +78,7 @@ class Python(Columns):
         self.gives([None, NAN], [])
 
     def test_what_is_no_column(self) -> None:
-        """A mapping's keys and a set have each value once: for four rows of one value the list would be (1, 1)."""
+        """A set, and a mapping's keys, have each value once. For four rows of one value the list would be (1, 1)."""
         for mapping in ({"x": [1, 1, 1, 1]}, OrderedDict(x=1), Counter([1, 1, 1, 1])):
             self.refuses(mapping, type(mapping).__name__, "mapping")
         for once in ({1}, frozenset([1]), {"a": 1}.keys(), {"a": 1}.items()):

@@ -93,7 +93,8 @@ class Shown(unittest.TestCase):
         self.assertRaises(BadPlan, lambda: Tree(("r",), ()).cost)
 
     def test_explanations(self) -> None:
-        """The text has the entries, the lists that are used, and the bounds. It has no list that no equality uses."""
+        """The text has the entries, the lists that are used, and the bounds. Lists that no equality uses are left out.
+        """
         query = pair(lists={**GIVEN["lists"], ("s", "unused"): [(5, 1)]})
         for text in (query.explain(), query.best_order(12).explain(), query.best_tree(12).explain()):
             for words in (["r", "6"], ["s", "5"], ["r.x", "=", "s.x"], ["r.x", "6", "2", "3"], ["s.x", "5", "3", "2"]):
@@ -188,9 +189,7 @@ class OfOneQuery(unittest.TestCase):
             self.assertIn(words, str(caught.exception))
 
     def test_another_query_s_plan(self) -> None:
-        """The other plans need other numbers of bytes, though their entries, their numbers and even their levels are
-        equal.
-        """
+        """Plans of other queries need other amounts of memory, even where they have this query's entries or levels."""
         query = pair()
         others = [
             pair(row_bounds={"r": 60, "s": 5}),
@@ -209,7 +208,9 @@ class OfOneQuery(unittest.TestCase):
         self.assertEqual(query.memory(pair().best_tree(12)), 507)
 
     def test_the_engine_takes_twelve_entries(self) -> None:
-        """Thirteen entries are bounded and planned; SafeBound's own engine takes twelve, so no bytes are told."""
+        """Thirteen entries are bounded and planned. SafeBound's own engine takes at most twelve, so `memory` refuses
+        thirteen.
+        """
         for entries in (12, 13):
             names = [f"e{n}" for n in range(entries)]
             query = Query(names, [], dict.fromkeys(names, 2), {})

@@ -189,7 +189,7 @@ class Answers(unittest.TestCase):
         self.assertEqual(alone.best_tree(7).shape, "r")
 
     def test_threads(self) -> None:
-        """Four threads at the same time get the result that one thread gets."""
+        """Four threads that run at the same time get the results that a single thread gets."""
         asked = [
             pair(row_bounds={"r": 6, "s": rows}, lists={("r", "x"): [(3, 2)], ("s", "x"): [(2, 2), (1, rows)]})
             for rows in range(5, 205)

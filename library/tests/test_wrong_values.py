@@ -14,7 +14,8 @@ from calls import MOST_BUDGET, MOST_ROWS, NO_VALUES, Answer, Call, Status, answe
 
 _E = TypeVar("_E")
 Pair = Tuple[int, int]
-# Equality: an entry and a column, twice. List: an entry, a column, its first run and its number of runs.
+# Four numbers. An equality is an entry and a column, then the other entry and column. A list is an entry, a column, its
+# first run and its number of runs.
 Equality = Tuple[int, int, int, int]
 
 WRONG_LISTS = [

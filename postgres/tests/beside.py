@@ -1,12 +1,12 @@
-"""Random queries beside other sessions that write: no join of a plan has more rows than its bound, or than the budget.
+"""Checks random queries while other sessions write: no join of a plan has more rows than its bound, or than the budget.
 
     postgres/tests/beside.py URL [SEED [SETS [QUERIES]]] [--unwatched]
 
-For each of SETS sets of tables, QUERIES queries are asked while three other sessions insert, update, delete, copy,
-truncate and fold. Half of the queries run in REPEATABLE READ, where the plan's numbers are bounds for the snapshot in
-which it runs. The others are prepared, and run in READ COMMITTED under a budget near their bound; if a query is
-admitted, no join has more rows than the budget. With --unwatched, new rows aren't followed. Then some joins have to
-exceed their bounds, which shows that the test would notice it.
+For each of SETS sets of tables, QUERIES queries are asked while three other sessions insert, update, delete, copy and
+truncate, and call safebound.fold. Half of the queries run in REPEATABLE READ, where the plan's numbers are bounds for
+the snapshot in which it runs. The others are prepared, and run in READ COMMITTED under a budget near their bound; if a
+query is admitted, no join has more rows than the budget. With --unwatched, new rows aren't followed. Then some joins
+have to exceed their bounds, which shows that the test would notice it.
 """
 
 from __future__ import annotations
@@ -18,21 +18,21 @@ from collections import Counter
 from collections.abc import Iterator
 
 import psycopg
-from never_under import ASKING, JOINS, KINDS, NOT_RUN, PARTITIONED, PRELUDE
-from never_under import Connection, Plan, Table, limited, nodes, query, value
+from never_under import PLAN_BY_BOUNDS, JOINS, KINDS, NOT_RUN, PARTITIONED, PRELUDE
+from never_under import Connection, Plan, Table, with_time_limit, nodes, query, value
 
 WRITERS = 3
 # SQLSTATEs of a refused query.
 ABOVE, UNBOUNDED = "SB001", "SB002"
 
 
-def all_joins(plan: Plan, repeated: bool = False) -> Iterator[Plan]:
+def unrepeated_joins(plan: Plan, repeated: bool = False) -> Iterator[Plan]:
     """The joins of a plan that aren't repeated for each row of another relation."""
     if plan["Node Type"] in JOINS and plan["Actual Loops"] == 1 and not repeated:
         yield plan
     for below in plan.get("Plans", []):
         inner = plan["Node Type"] == "Nested Loop" and below["Parent Relationship"] == "Inner"
-        yield from all_joins(below, repeated or inner)
+        yield from unrepeated_joins(below, repeated or inner)
 
 
 class Writer(threading.Thread):
@@ -42,7 +42,7 @@ class Writer(threading.Thread):
         super().__init__()
         self.url, self.r, self.tables, self.watched = url, random.Random(seed), tables, watched
         self.stopping = threading.Event()
-        self.done: Counter[str] = Counter()
+        self.counts: Counter[str] = Counter()
 
     def run(self) -> None:
         with psycopg.connect(self.url) as connection:
@@ -64,10 +64,11 @@ class Writer(threading.Thread):
                 connection.commit()
         except psycopg.Error as error:
             connection.rollback()
-            self.done[f"error {error.sqlstate}"] += 1
+            self.counts[f"error {error.sqlstate}"] += 1
 
     def row(self, table: Table) -> list[str]:
-        return [value(self.r, of, distinct, 0.1) for of, distinct in zip(table.columns, table.distinct)]
+        columns = zip(table.columns, table.distinct)
+        return [value(self.r, column_type, distinct, 0.1) for column_type, distinct in columns]
 
     def statement(self, connection: Connection, table: Table) -> None:
         r = self.r
@@ -95,65 +96,66 @@ class Writer(threading.Thread):
             connection.execute(f"TRUNCATE {into} CASCADE")
         else:
             connection.execute(f"SELECT safebound.fold('{r.choice([table.name, *table.parts()])}')")
-        self.done[kind] += 1
+        self.counts[kind] += 1
 
 
-class Asking:
-    """The session that asks queries, and counts of what it saw."""
+class QuerySession:
+    """The session that asks queries, with its counters."""
 
     def __init__(self, connection: Connection, r: random.Random, watched: bool) -> None:
         self.connection, self.r, self.watched = connection, r, watched
         self.seen: Counter[str] = Counter()
 
-    def node(self, node: Plan, most: int, name: str, text: str) -> None:
+    def check_node(self, node: Plan, most: int, name: str, text: str) -> None:
         self.seen[name] += 1
         if node["Actual Rows"] > most:
-            self.seen["under"] += 1
-            if self.seen["under"] <= 3:
+            self.seen["too many rows"] += 1
+            if self.seen["too many rows"] <= 3:
                 print(f"{node['Node Type']} has {node['Actual Rows']} rows, at most {most}: {text}")
 
-    def all_known(self) -> None:
-        """Counts the watched tables that have become unknown. The writers of this file make no table unknown."""
+    def count_unknown_tables(self) -> None:
+        """Counts the watched tables whose statistics aren't valid any more. The writers make no table so."""
         unknown = self.connection.execute('SELECT "table" FROM safebound.kept WHERE NOT known').fetchall()
         self.seen["unknown tables"] += len(unknown)
 
-    def bounded(self, told: list[Plan], known: set[str], text: str) -> None:
+    def check_bounds(self, explained: list[Plan], known: set[str], text: str) -> None:
         """Checks that each scan and join of known tables has at most as many rows as the plan says."""
-        for node in nodes(told[0]["Plan"], known):
-            self.node(node, node["Plan Rows"], f"snapshot {'joins' if node['Node Type'] in JOINS else 'scans'}", text)
+        for node in nodes(explained[0]["Plan"], known):
+            kind = "joins" if node["Node Type"] in JOINS else "scans"
+            self.check_node(node, node["Plan Rows"], f"snapshot {kind}", text)
 
-    def admitted(self, told: list[Plan], budget: int, text: str) -> None:
+    def check_budget(self, explained: list[Plan], budget: int, text: str) -> None:
         """Checks that each join of an admitted query has at most as many rows as the budget."""
         self.seen["admitted"] += 1
-        for node in all_joins(told[0]["Plan"]):
-            self.node(node, budget, "budget joins", text)
+        for node in unrepeated_joins(explained[0]["Plan"]):
+            self.check_node(node, budget, "budget joins", text)
 
-    def explained(self, text: str) -> list[Plan]:
-        cursor = self.connection.execute(limited(f"EXPLAIN (ANALYZE, TIMING OFF, FORMAT JSON) {text}"))
+    def explain(self, text: str) -> list[Plan]:
+        cursor = self.connection.execute(with_time_limit(f"EXPLAIN (ANALYZE, TIMING OFF, FORMAT JSON) {text}"))
         cursor.nextset()
         row = cursor.fetchone()
         assert row is not None
-        told: list[Plan] = row[0]
-        return told
+        explained: list[Plan] = row[0]
+        return explained
 
-    def in_snapshot(self, text: str, known: set[str]) -> None:
+    def check_in_snapshot(self, text: str, known: set[str]) -> None:
         with self.connection.transaction():
             self.connection.execute("SET TRANSACTION ISOLATION LEVEL REPEATABLE READ")
             for _ in range(3):
-                self.bounded(self.explained(text), known, text)
+                self.check_bounds(self.explain(text), known, text)
 
-    def under_budget(self, text: str) -> None:
+    def check_under_budget(self, text: str) -> None:
         """Runs a prepared query several times under a budget near its bound."""
         self.connection.execute(f"PREPARE asked AS {text}")
         for _ in range(4):
-            told = self.connection.execute("EXPLAIN (FORMAT JSON) EXECUTE asked").fetchone()
-            assert told is not None
-            budget = max(1, int(told[0][0]["Plan"]["Plan Rows"] * self.r.choice([0.5, 1, 1, 1, 2])))
+            explained = self.connection.execute("EXPLAIN (FORMAT JSON) EXECUTE asked").fetchone()
+            assert explained is not None
+            budget = max(1, int(explained[0][0]["Plan"]["Plan Rows"] * self.r.choice([0.5, 1, 1, 1, 2])))
             if budget > 2_000_000_000:
                 return
             self.connection.execute(f"SET safebound.budget = {budget}")
             try:
-                self.admitted(self.explained("EXECUTE asked"), budget, text)
+                self.check_budget(self.explain("EXECUTE asked"), budget, text)
             except psycopg.Error as error:
                 if error.sqlstate not in (ABOVE, UNBOUNDED):
                     raise
@@ -164,53 +166,53 @@ class Asking:
     def ask(self, text: str, known: set[str]) -> None:
         try:
             if not self.watched or self.r.random() < 0.5:
-                self.in_snapshot(text, known)
+                self.check_in_snapshot(text, known)
             else:
-                self.under_budget(text)
+                self.check_under_budget(text)
             self.seen["queries"] += 1
         except (*NOT_RUN, psycopg.errors.DeadlockDetected) as error:
             self.seen[f"not run {error.sqlstate}"] += 1
         self.connection.execute("DEALLOCATE ALL")
 
 
-def make_tables(connection: Connection, r: random.Random, watched: bool) -> list[Table]:
-    """Creates plain tables, or also partitioned tables and tables with children. In half of the sets, tables refer to
-    earlier ones.
+def create_tables(connection: Connection, r: random.Random, watched: bool) -> list[Table]:
+    """Creates plain tables; in half of the sets, partitioned tables and tables with children too. In half of the sets,
+    tables refer to earlier ones.
     """
     kinds = r.choice([("plain",), KINDS])
     refers = r.random() < 0.5
     tables = [Table(r, f"nu{i}", kinds) for i in range(3)]
     for i, table in enumerate(tables):
         table.make(connection, tables[:i] if refers else [])
-        for kept in [table.name, *table.parts()] if watched else []:
-            connection.execute(f"SELECT safebound.watch('{kept}')")
+        for name in [table.name, *table.parts()] if watched else []:
+            connection.execute(f"SELECT safebound.watch('{name}')")
     return tables
 
 
-def one_set(url: str, asking: Asking, r: random.Random, watched: bool, queries: int) -> Counter[str]:
-    """Runs a set of tables, with writers beside the queries."""
-    asking.connection.execute("SET safebound.estimates = off")
-    tables = make_tables(asking.connection, r, watched)
+def check_set(url: str, session: QuerySession, r: random.Random, watched: bool, queries: int) -> Counter[str]:
+    """Creates a set of tables, and asks queries of them while writers change them."""
+    session.connection.execute("SET safebound.estimates = off")
+    tables = create_tables(session.connection, r, watched)
     known = {table.name for table in tables if table.kind in ("plain", *PARTITIONED)}
-    asking.connection.execute(f"SET plan_cache_mode = {r.choice(['force_generic_plan', 'auto'])}")
-    asking.connection.execute(ASKING)
+    session.connection.execute(f"SET plan_cache_mode = {r.choice(['force_generic_plan', 'auto'])}")
+    session.connection.execute(PLAN_BY_BOUNDS)
     for method in ("hashjoin", "mergejoin", "nestloop"):
-        asking.connection.execute(f"SET enable_{method} = {r.choice(['on', 'on', 'off'])}")
+        session.connection.execute(f"SET enable_{method} = {r.choice(['on', 'on', 'off'])}")
     writers = [Writer(url, r.randrange(1 << 30), tables, watched) for _ in range(WRITERS)]
     for writer in writers:
         writer.start()
     try:
-        asking.all_known()
+        session.count_unknown_tables()
         for _ in range(queries):
             text, alone = query(r, tables)
-            asking.ask(text, known | alone)
+            session.ask(text, known | alone)
     finally:
         for writer in writers:
             writer.stopping.set()
         for writer in writers:
             writer.join()
-    asking.all_known()
-    return sum((writer.done for writer in writers), Counter())
+    session.count_unknown_tables()
+    return sum((writer.counts for writer in writers), Counter())
 
 
 def main() -> int:
@@ -223,15 +225,15 @@ def main() -> int:
     with psycopg.connect(words[0], autocommit=True, prepare_threshold=None) as connection:
         connection.execute(PRELUDE)
         connection.execute("SET jit = off; SET max_parallel_workers_per_gather = 0")
-        asking = Asking(connection, r, watched)
+        session = QuerySession(connection, r, watched)
         for _ in range(sets):
-            written += one_set(words[0], asking, r, watched, queries)
-    for counts in (asking.seen, written):
+            written += check_set(words[0], session, r, watched, queries)
+    for counts in (session.seen, written):
         print(", ".join(f"{name} {count}" for name, count in sorted(counts.items())))
-    under, joins = asking.seen["under"], asking.seen["snapshot joins"] + asking.seen["budget joins"]
+    too_many, joins = session.seen["too many rows"], session.seen["snapshot joins"] + session.seen["budget joins"]
     if not watched:
-        return 0 if under else 1
-    return 1 if under or asking.seen["unknown tables"] or not joins else 0
+        return 0 if too_many else 1
+    return 1 if too_many or session.seen["unknown tables"] or not joins else 0
 
 
 if __name__ == "__main__":

@@ -2,9 +2,9 @@
 
     postgres/tests/mutants.py [WORD]
 
-Each bug is an edit of a C file. WORD selects the edits whose name has it. For each edit the extension is built again,
-and the test that has to fail is run on a server of its own. If that test passes, the edit is printed as MISSED, and the
-exit status is 1. Without WORD each of these tests is first run without an edit, and has to pass.
+Each bug is an edit of a C file. WORD selects the edits whose name contains it. For each edit the extension is built
+again, and the test that has to fail is run on a server of its own. If that test passes, the edit is printed as MISSED,
+and the exit status is 1. Without WORD each of these tests is first run without an edit, and has to pass.
 """
 
 from __future__ import annotations
@@ -21,14 +21,15 @@ sys.dont_write_bytecode = True
 HERE = Path(__file__).resolve().parent
 ROOT = HERE.parents[1]
 sys.path[:0] = [str(HERE.parent)]
-from installed import SETTINGS, Alone, lay_server
+from installed import SETTINGS, TemporaryServer, copy_server
 
 
 @dataclass
 class Edit:
     """A bug: what goes wrong, the C file, pairs of an old and a new text in it, and the test that has to fail.
 
-    The test is the name of a regression or an isolation test.
+    The test is the name of a regression or an isolation test. In the names of edits a table is known if its statistics
+    are valid for the table as it is now.
     """
 
     name: str
@@ -56,8 +57,9 @@ EDITS = [
          [("bound_of_ways(query, present, rest), less, UNKNOWN);\n\t\tcase JOIN_LEFT",
            "bound_of_ways(query, join->syn_righthand, rest), less, UNKNOWN);\n\t\tcase JOIN_LEFT")], "estimates"),
     Edit("a condition above an outer join counts as one on the scan below it", "conditions.c",
-         [("list = list_of_all(&of, rel->baserestrictinfo, &list)",
-           "list = list_of_all(&of, list_concat_copy(rel->baserestrictinfo, rel->joininfo), &list)")], "estimates"),
+         [("list = list_of_all(&context, rel->baserestrictinfo, &list)",
+           "list = list_of_all(&context, list_concat_copy(rel->baserestrictinfo, rel->joininfo), &list)")],
+         "estimates"),
     Edit("the missing side of a full join has no rows", "joins.c",
          [("bound_of_ways(query, bms_difference(present, join->syn_lefthand), rest));", "0);")], "estimates"),
     Edit("the missing side of a left join has no rows", "joins.c",
@@ -69,7 +71,7 @@ EDITS = [
          [("bms_is_member(carried->referring, relids) && bms_is_member(carried->referred, relids)",
            "bms_is_member(carried->referring, relids)")], "estimates"),
     Edit("a list along references is taken in a set with other references", "joins.c",
-         [("bms_equal(((Narrowed *) lfirst(cell))->held, held)", "true")], "estimates"),
+         [("bms_equal(((NarrowedList *) lfirst(cell))->held, held)", "true")], "estimates"),
     Edit("scans with parameters keep PostgreSQL's numbers of rows", "planning.c",
          [("\tif (first || rel->ppilist != NIL)\n\t\tmake_scan_paths", "\tif (first)\n\t\tmake_scan_paths")],
          "estimates"),
@@ -81,9 +83,9 @@ EDITS = [
     Edit("a mean takes the whole table's bound though no condition has a list", "planning.c",
          [("entry->used == NULL;", "false;")], "estimates"),
     Edit("a partial index finds all rows", "expected.c",
-         [("whole = path->indexinfo->indpred == NIL", "whole = true")], "estimates"),
+         [("is_full_index = path->indexinfo->indpred == NIL", "is_full_index = true")], "estimates"),
     Edit("referring rows count once for each value", "columns.c",
-         [("coding->weights ? coding->weights[row] : 1", "1")], "estimates"),
+         [("coder->weights ? coder->weights[row] : 1", "1")], "estimates"),
     Edit("the last degree of a group is lost", "counts.c",
          [("\tadd_degree(&degrees, (last & joined_mask) == 0 ? 0 : degree);\n\tend_group", "\tend_group")],
          "estimates"),
@@ -105,7 +107,8 @@ EDITS = [
     Edit("lists that can't be read stay in memory", "kept.c",
          [('(CurrentMemoryContext, "safebound statistics"', '(CacheMemoryContext, "safebound statistics"')], "rows"),
     Edit("updates bring no rows", "followed.c", [("!same_values(new, new->slot, old)", "false")], "rows"),
-    Edit("a table is known while a statement writes to it", "kept.c", [(" || is_writing(&seen)", "")], "rows"),
+    Edit("a table is known while a statement writes to it", "kept.c",
+         [(" || is_being_written(&kept_row)", "")], "rows"),
     Edit("a table with a mark is known", "kept.c", [("table->deltas && table->deltas->not_counted", "false")], "rows"),
     Edit("a table whose triggers were dropped is known", "watch.c",
          [("return statements == 3 && (rows == 1 || !applies)", "return true")], "rows"),
@@ -118,7 +121,7 @@ EDITS = [
     Edit("a table is known after its rows were rewritten", "watch.c", [("\t\tmark_rewritten();", "\t\t;")], "rows"),
     Edit("a materialized view is known after a refresh", "watch.c", [("\t\tmark_refreshed();", "\t\t;")], "rows"),
     Edit("statistics outlive a table that was dropped", "watch.c",
-         [("\t\t\tforget_dropped(seen->relation);", "\t\t\tcontinue;")], "rows"),
+         [("\t\t\tforget_dropped(kept_row->relation);", "\t\t\tcontinue;")], "rows"),
     Edit("deltas of a referred table aren't looked at", "deltas.c",
          [("count_deltas(then->relation, snapshot) == then->deltas", "true")], "rows"),
     Edit("a referred table may have been counted anew", "deltas.c", [("now.version == then->version", "true")], "rows"),
@@ -127,9 +130,9 @@ EDITS = [
     Edit("a user may count a table without owning it", "keep.c",
          [("if (!pg_class_ownercheck(relation, GetUserId()))", "if (false)")], "rows"),
     Edit("statistics are the newest ones, not those of the snapshot", "kept.c",
-         [("see_table(relation, snapshot, &seen)", "see_table(relation, NULL, &seen)")], "counting"),
+         [("find_kept_row(relation, snapshot, &kept_row)", "find_kept_row(relation, NULL, &kept_row)")], "counting"),
     Edit("statistics in memory are taken for any version", "kept.c",
-         [("found && entry->table->version == seen->version", "found")], "admission"),
+         [("found && entry->table->version == kept_row->version", "found")], "admission"),
     Edit("counting takes no new snapshot", "watch.c",
          [("\tif (IsolationUsesXactSnapshot())\n\t{\n\t\tPushCopied", "\tif (true)\n\t{\n\t\tPushCopied")], "counting"),
     Edit("counting other columns doesn't wait for writers", "watch.c",
@@ -137,8 +140,8 @@ EDITS = [
     Edit("deltas stay when they are counted", "watch.c",
          [("\tdelete_deltas(id, GetActiveSnapshot());", "")], "counting"),
     Edit("a plan is checked when it is made, and not when it runs", "admit.c",
-         [("\tif (joins != NIL)\n\t\tput_recipe(plan, joins);",
-           "\tif (joins != NIL)\n\t\tput_recipe(plan, joins);\n\tcheck_plan(plan, parameters);"),
+         [("\tif (joins != NIL)\n\t\tput_bound_data(plan, joins);",
+           "\tif (joins != NIL)\n\t\tput_bound_data(plan, joins);\n\tcheck_plan(plan, parameters);"),
           ("static void\non_budget",
            "static void check_plan(PlannedStmt *plan, ParamListInfo parameters);\n\nstatic void\non_budget"),
           ("if (budget > 0 && !admission_paused && !(flags",
@@ -150,7 +153,7 @@ EDITS = [
     Edit("a budget takes bounds of tables that aren't watched", "admit.c",
          [("kept_fresh_only = true", "kept_fresh_only = false")], "budget"),
     Edit("EXPLAIN is refused", "admit.c", [("EXEC_FLAG_EXPLAIN_ONLY | ", "")], "budget"),
-    Edit("parameters have no value", "recipe.c",
+    Edit("parameters have no value", "bound_data.c",
          [("root->glob->boundParams = parameters", "root->glob->boundParams = NULL")], "budget"),
     Edit("cached plans aren't made anew when a budget is set", "admit.c",
          [("\t\tResetPlanCache();", "\t\t;")], "budget"),
@@ -158,15 +161,16 @@ EDITS = [
          [("\t\tif (lfirst(cell) != NULL)\n\t\t\tscans_below", "\t\tif (false)\n\t\t\tscans_below")], "budget"),
     Edit("rows that no scan makes aren't noticed", "plan_joins.c",
          [("return (Scans) {NULL, is_empty(plan)}", "return (Scans) {NULL, true}")], "budget"),
-    Edit("a partitioned table is known after a part was attached", "kept.c", [(" || !same_parts(&seen)", "")], "parts"),
+    Edit("a partitioned table is known after a part was attached", "kept.c",
+         [(" || !same_parts(&kept_row)", "")], "parts"),
     Edit("statements on parts bring no rows", "watch.c",
          [("sources = list_concat_unique_oid(sources, parts);", "list_free(parts);")], "partitions"),
     Edit("replicas apply rows to the whole alone", "watch.c",
          [("(source == relation || is_part_of(source, relation))", "source == relation")], "partitions"),
     Edit("a partitioned table is known after a part's rows were rewritten", "watch.c",
-         [("if (is_part_of(relation, ((Seen *) lfirst(cell))->relation))", "if (false)")], "partitions"),
+         [("if (is_part_of(relation, ((KeptRow *) lfirst(cell))->relation))", "if (false)")], "partitions"),
     Edit("new rows of a part are read by the whole's column numbers", "followed.c",
-         [("new->written == new->seen->relation ? number : name ?", "true ? number : name ?")], "partitions"),
+         [("new->written == new->kept_row->relation ? number : name ?", "true ? number : name ?")], "partitions"),
     Edit("rows of a part are read by the whole's column numbers", "rows.c",
          [("rows->map ? execute_attr_map_slot(rows->map, rows->read, rows->mapped) : rows->read", "rows->read")],
          "partitions"),
@@ -192,13 +196,13 @@ def passes(folder: Path, test: str) -> bool:
     """Whether one test of the folder passes, on a new server with the extension that was built there."""
     kind = "ISOLATION" if (folder / "specs" / f"{test}.spec").exists() else "REGRESS"
     other = {"ISOLATION": "REGRESS", "REGRESS": "ISOLATION"}[kind]
-    with Alone(SETTINGS) as server:
-        reach = {**os.environ, "PGHOST": server.folder, "PGUSER": "postgres"}
+    with TemporaryServer(SETTINGS) as server:
+        environment = {**os.environ, "PGHOST": server.folder, "PGUSER": "postgres"}
         # The test `keep` creates the extension itself.
         extension = "" if test == "keep" else "--load-extension=safebound "
         words = [f"{kind}={test}", f"{other}=", f"REGRESS_OPTS={extension}--dbname=contrib_regression"]
         command = ["make", "-s", "-C", str(folder), "installcheck", *words]
-        return subprocess.run(command, env=reach, capture_output=True).returncode == 0
+        return subprocess.run(command, env=environment, capture_output=True).returncode == 0
 
 
 def build(folder: Path, *targets: str) -> None:
@@ -211,7 +215,7 @@ def main() -> int:
     missed = 0
     with tempfile.TemporaryDirectory(prefix="safebound-wrong-") as root:
         os.chmod(root, 0o755)
-        os.environ["PATH"] = lay_server(root) + os.pathsep + os.environ["PATH"]
+        os.environ["PATH"] = copy_server(root) + os.pathsep + os.environ["PATH"]
         for name in ("include", "dist", "library"):
             os.symlink(ROOT / name, Path(root) / name)
         built, folder = Path(root) / "built", Path(root) / "postgres"

@@ -40,12 +40,14 @@ SCANS = ("Seq Scan", "Index Scan", "Index Only Scan", "Bitmap Heap Scan")
 # A partitioned table is read by its parts.
 APPENDS = ("Append", "Merge Append")
 # Nodes between a join and the tables below it. They have the rows of the node below.
-PASSES = ("Hash", "Sort", "Incremental Sort", "Materialize", "Memoize", "Bitmap Index Scan", "BitmapOr", "BitmapAnd")
+PASSING_NODES = (
+    "Hash", "Sort", "Incremental Sort", "Materialize", "Memoize", "Bitmap Index Scan", "BitmapOr", "BitmapAnd",
+)
 # A join with more outer and semi-joins in it isn't bounded.
 MOST_SPECIAL_JOINS = 6
-# How many queries are sent in one text, and after how many sets progress is printed.
-TOGETHER, TOLD_AFTER = 20, 250
-ASKING = "SET safebound.estimates = bound"
+# How many queries are sent in one text, and after how many sets of tables progress is printed.
+QUERIES_IN_ONE_TEXT, SETS_BETWEEN_REPORTS = 20, 250
+PLAN_BY_BOUNDS = "SET safebound.estimates = bound"
 KINDS = ("plain", "plain", "plain", "hash", "list", "children")
 # These tables have only the rows of their parts, and statistics as a whole.
 PARTITIONED = ("hash", "list")
@@ -57,7 +59,7 @@ DO $$ BEGIN CREATE DOMAIN small AS integer CHECK (VALUE < 100000); EXCEPTION WHE
 """
 
 
-def limited(queries: str) -> str:
+def with_time_limit(queries: str) -> str:
     """Queries with a time limit, since some would take minutes. The statements that create tables have no limit. If a
     query ends just as the limit is reached, PostgreSQL cancels the statement after it. So the statement that lifts the
     limit is in the same text.
@@ -65,11 +67,11 @@ def limited(queries: str) -> str:
     return f"SET LOCAL statement_timeout = '1s'; {queries}; SET LOCAL statement_timeout = 0"
 
 
-def value(r: random.Random, of: str, distinct: int, null: float) -> str:
+def value(r: random.Random, column_type: str, distinct: int, null: float) -> str:
     if r.random() < null:
         return "NULL"
     skewed = min(r.randrange(distinct), r.randrange(distinct))
-    return TYPES[of].format(n=skewed, zeros="0" * r.randint(1, 3), case=r.choice("vV"))
+    return TYPES[column_type].format(n=skewed, zeros="0" * r.randint(1, 3), case=r.choice("vV"))
 
 
 class Table:
@@ -86,35 +88,36 @@ class Table:
             return []
         return [f"{self.name}_{i}" for i in range(2)]
 
-    def listed(self, part: int) -> str:
+    def list_values(self, part: int) -> str:
         """The values of a list partition: one value and NULL, or all other values."""
         return "DEFAULT" if part else f"FOR VALUES IN (NULL, {TYPES[self.columns[0]].format(n=0, zeros='0', case='v')})"
 
-    def created(self) -> Iterator[str]:
-        columns = ", ".join(f"c{i} {of}" for i, of in enumerate(self.columns))
+    def create_statements(self) -> Iterator[str]:
+        columns = ", ".join(f"c{i} {column_type}" for i, column_type in enumerate(self.columns))
         by = {"hash": " PARTITION BY HASH (c0)", "list": " PARTITION BY LIST (c0)"}.get(self.kind, "")
         yield f"DROP TABLE IF EXISTS {self.name} CASCADE"
         yield f"CREATE TABLE {self.name} ({columns}){by}"
         for i, part in enumerate(self.parts()):
-            of = {
+            kind = {
                 "hash": f"PARTITION OF {self.name} FOR VALUES WITH (MODULUS 2, REMAINDER {i})",
-                "list": f"PARTITION OF {self.name} {self.listed(i)}",
+                "list": f"PARTITION OF {self.name} {self.list_values(i)}",
                 "children": f"() INHERITS ({self.name})",
             }[self.kind]
-            yield f"CREATE TABLE {part} {of}"
+            yield f"CREATE TABLE {part} {kind}"
         yield f"CREATE VIEW {self.name}_view AS SELECT * FROM {self.name}"
 
-    def filled(self) -> Iterator[str]:
+    def fill_statements(self) -> Iterator[str]:
         r = self.r
         rows = r.choice([0, 1, 10, 40, 120, 400])
         nulls = [r.choice([0, 0, 0.2, 0.9]) for _ in self.columns]
         if rows:
-            tuples = (", ".join(value(r, *of) for of in zip(self.columns, self.distinct, nulls)) for _ in range(rows))
+            columns = list(zip(self.columns, self.distinct, nulls))
+            tuples = (", ".join(value(r, *column) for column in columns) for _ in range(rows))
             yield f"INSERT INTO {self.name} VALUES ({'), ('.join(tuples)})"
             if self.kind == "children":
                 yield f"INSERT INTO {self.name}_0 SELECT * FROM ONLY {self.name} LIMIT 30"
 
-    def keyed(self) -> Iterator[str]:
+    def key_statements(self) -> Iterator[str]:
         """Makes the first column the key. Rows without a value there are deleted, and all rows but one of each value.
         """
         again = f"EXISTS (SELECT FROM {self.name} b WHERE a.c0 = b.c0 AND a.ctid < b.ctid)"
@@ -122,33 +125,33 @@ class Table:
         yield f"ALTER TABLE {self.name} ADD PRIMARY KEY (c0)"
         self.has_key = True
 
-    def referring(self, other: Table) -> Iterator[str]:
+    def reference_statements(self, other: Table) -> Iterator[str]:
         """Makes each column of the key's type refer to the other table's key. Rows with other values are deleted."""
-        for i, of in enumerate(self.columns):
-            if other.has_key and of == other.columns[0] and (i > 0 or not self.has_key):
+        for i, column_type in enumerate(self.columns):
+            if other.has_key and column_type == other.columns[0] and (i > 0 or not self.has_key):
                 there = f"EXISTS (SELECT FROM {other.name} o WHERE o.c0 = {self.name}.c{i})"
                 yield f"UPDATE {self.name} SET c{i} = NULL WHERE NOT {there}"
                 yield f"ALTER TABLE {self.name} ADD FOREIGN KEY (c{i}) REFERENCES {other.name}"
 
-    def kept(self) -> Iterator[str]:
+    def keep_statements(self) -> Iterator[str]:
         r = self.r
-        for kept in [self.name, *self.parts()]:
+        for name in [self.name, *self.parts()]:
             some = f"common => {r.choice([0, 1, 3, 100])}, ranges => {r.choice([0, 1, 3, 64])}"
-            yield f"SELECT safebound.keep('{kept}', {some}, accuracy => {r.choice([1, 2, 8, 64])})"
+            yield f"SELECT safebound.keep('{name}', {some}, accuracy => {r.choice([1, 2, 8, 64])})"
 
-    def made(self, others: list[Table]) -> Iterator[str]:
-        yield from self.created()
-        yield from self.filled()
+    def all_statements(self, others: list[Table]) -> Iterator[str]:
+        yield from self.create_statements()
+        yield from self.fill_statements()
         if self.kind == "plain" and self.r.random() < 0.5:
-            yield from self.keyed()
+            yield from self.key_statements()
         for other in others:
-            yield from self.referring(other)
+            yield from self.reference_statements(other)
         if self.r.random() < 0.5:
             yield f"CREATE INDEX ON {self.name} (c{self.r.randrange(len(self.columns))})"
 
     def make(self, connection: Connection, others: list[Table]) -> None:
         """Creates the table, and in a later transaction its statistics."""
-        for statements in (self.made(others), self.kept()):
+        for statements in (self.all_statements(others), self.keep_statements()):
             connection.execute("; ".join(statements))
 
     def read(self, alias: str, alone: set[str]) -> str:
@@ -309,7 +312,7 @@ def is_known(plan: Plan, known: set[str]) -> bool:
         name = plan["Relation Name"]
         return name in known or name.rpartition("_")[0] in known or plan["Alias"] in known
     below = [part for part in plan.get("Plans", []) if part["Parent Relationship"] in ("Outer", "Inner", "Member")]
-    return plan["Node Type"] in (*JOINS, *PASSES, *APPENDS) and all(is_known(part, known) for part in below)
+    return plan["Node Type"] in (*JOINS, *PASSING_NODES, *APPENDS) and all(is_known(part, known) for part in below)
 
 
 def is_read_again(join: Plan, below: Plan) -> bool:
@@ -341,31 +344,31 @@ NOT_RUN = (psycopg.errors.QueryCanceled, psycopg.errors.FeatureNotSupported, psy
 Asked = Tuple[str, Set[str]]
 
 
-class Counting:
+class QuerySession:
     """The session that asks queries, and its counters."""
 
-    def __init__(self, connection: Connection, r: random.Random, told: str) -> None:
-        self.connection, self.r, self.told = connection, r, told
-        self.sets = self.queries = self.failed = self.scans = self.under = 0
-        self.tight: list[float] = []
+    def __init__(self, connection: Connection, r: random.Random, head: str) -> None:
+        self.connection, self.r, self.head = connection, r, head
+        self.sets = self.queries = self.failed = self.scans = self.too_many_rows = 0
+        self.bounds_by_rows: list[float] = []
 
-    def node(self, node: Plan, text: str) -> None:
+    def check_node(self, node: Plan, text: str) -> None:
         if node["Node Type"] in JOINS:
-            self.tight.append(node["Plan Rows"] / max(1, node["Actual Rows"]))
+            self.bounds_by_rows.append(node["Plan Rows"] / max(1, node["Actual Rows"]))
         else:
             self.scans += 1
         if node["Actual Rows"] > node["Plan Rows"]:
-            self.under += 1
-            print(f"{self.told}: {node['Node Type']} has {node['Actual Rows']} rows, not {node['Plan Rows']}: {text}")
+            self.too_many_rows += 1
+            print(f"{self.head}: {node['Node Type']} has {node['Actual Rows']} rows, not {node['Plan Rows']}: {text}")
 
-    def plan(self, plan: Plan, text: str, known: set[str]) -> None:
-        before = self.under
+    def check_plan(self, plan: Plan, text: str, known: set[str]) -> None:
+        before = self.too_many_rows
         for node in nodes(plan, known):
-            self.node(node, text)
-        if self.under > before and "-v" in sys.argv:
+            self.check_node(node, text)
+        if self.too_many_rows > before and "-v" in sys.argv:
             raise SystemExit(json.dumps(plan, indent=1))
 
-    def not_run(self, text: str, error: psycopg.Error) -> None:
+    def note_not_run(self, text: str, error: psycopg.Error) -> None:
         self.failed += 1
         if "-v" in sys.argv:
             print(text, error)
@@ -374,18 +377,18 @@ class Counting:
         """Sends queries in one text. If one of them can't be run, each is sent alone."""
         explain = "EXPLAIN (ANALYZE, TIMING OFF, FORMAT JSON)"
         try:
-            cursor = self.connection.execute(limited("; ".join(f"{explain} {text}" for text, _ in asked)))
+            cursor = self.connection.execute(with_time_limit("; ".join(f"{explain} {text}" for text, _ in asked)))
         except NOT_RUN as error:
             if len(asked) == 1:
-                return self.not_run(asked[0][0], error)
-            return self.each_alone(asked)
+                return self.note_not_run(asked[0][0], error)
+            return self.ask_one_by_one(asked)
         for text, known in asked:
             cursor.nextset()
             row = cursor.fetchone()
             assert row is not None
-            self.plan(row[0][0]["Plan"], text, known)
+            self.check_plan(row[0][0]["Plan"], text, known)
 
-    def each_alone(self, asked: list[Asked]) -> None:
+    def ask_one_by_one(self, asked: list[Asked]) -> None:
         for one in asked:
             self.ask([one])
 
@@ -396,22 +399,23 @@ class Counting:
         for i, table in enumerate(tables):
             table.make(self.connection, tables[:i])
         self.connection.execute("ANALYZE nu0, nu1, nu2")
-        self.connection.execute(ASKING)
+        self.connection.execute(PLAN_BY_BOUNDS)
         known = {table.name for table in tables if table.kind in ("plain", *PARTITIONED)}
         for method in ("hashjoin", "mergejoin", "nestloop"):
             self.connection.execute(f"SET enable_{method} = {self.r.choice(['on', 'on', 'off'])}")
         asked = [(text, known | alone) for text, alone in (query(self.r, tables) for _ in range(queries))]
-        for first in range(0, queries, TOGETHER):
-            self.ask(asked[first : first + TOGETHER])
+        for first in range(0, queries, QUERIES_IN_ONE_TEXT):
+            self.ask(asked[first : first + QUERIES_IN_ONE_TEXT])
         self.sets += 1
         self.queries += queries
 
-    def said(self) -> str:
-        tight = sorted(self.tight) or [0]
+    def report(self) -> str:
+        sorted_ratios = sorted(self.bounds_by_rows) or [0]
         return (
             f"{self.sets} sets, {self.queries - self.failed} queries ({self.failed} not run), {self.scans} scans and "
-            f"{len(self.tight)} joins, {self.under} under; bound by rows of a join: "
-            f"median {tight[len(tight) // 2]:.2f}, 90th percentile {tight[len(tight) * 9 // 10]:.1f}"
+            f"{len(self.bounds_by_rows)} joins, {self.too_many_rows} under; bound by rows of a join: "
+            f"median {sorted_ratios[len(sorted_ratios) // 2]:.2f}, "
+            f"90th percentile {sorted_ratios[len(sorted_ratios) * 9 // 10]:.1f}"
         )
 
 
@@ -421,13 +425,13 @@ def main() -> int:
     with psycopg.connect(sys.argv[1], autocommit=True) as connection:
         connection.execute(PRELUDE)
         connection.execute("SET jit = off; SET max_parallel_workers_per_gather = 0")
-        counting = Counting(connection, random.Random(seed), f"seed {seed}")
+        session = QuerySession(connection, random.Random(seed), f"seed {seed}")
         for number in range(sets):
-            counting.one_set(queries)
-            if number % TOLD_AFTER == TOLD_AFTER - 1:
-                print(counting.said(), flush=True)
-    print(counting.said())
-    return 1 if counting.under or not counting.tight else 0
+            session.one_set(queries)
+            if number % SETS_BETWEEN_REPORTS == SETS_BETWEEN_REPORTS - 1:
+                print(session.report(), flush=True)
+    print(session.report())
+    return 1 if session.too_many_rows or not session.bounds_by_rows else 0
 
 
 if __name__ == "__main__":

@@ -19,12 +19,12 @@ sys.dont_write_bytecode = True
 HERE = Path(__file__).resolve().parent
 ROOT = HERE.parents[1]
 sys.path[:0] = [str(HERE.parent)]
-from installed import SETTINGS, Alone, lay_server
+from installed import SETTINGS, TemporaryServer, copy_server
 
 FLAGS = "-fno-sanitize=alignment -fno-sanitize-recover=undefined"
 # AddressSanitizer starts at the first malloc and looks for this function. If it is missing, AddressSanitizer asks the C
-# library for the text of that error, which the C library translates. If the translation code made the first malloc, its
-# lock is then released twice, and the next thread to take the lock waits forever.
+# library for the text of that error, which the C library translates. If that first malloc came from the translation
+# code, its lock is released twice; the next thread to take it waits forever.
 DEMANGLES_NOTHING = "char *swift_demangle(void) { return 0; }"
 
 
@@ -52,7 +52,7 @@ def starts(preload: dict[str, str]) -> bool:
 def main() -> int:
     with tempfile.TemporaryDirectory(prefix="safebound-sanitized-") as root:
         os.chmod(root, 0o755)
-        os.environ["PATH"] = lay_server(root) + os.pathsep + os.environ["PATH"]
+        os.environ["PATH"] = copy_server(root) + os.pathsep + os.environ["PATH"]
         for name in ("include", "dist", "library"):
             os.symlink(ROOT / name, Path(root) / name)
         folder = Path(root) / "postgres"
@@ -65,9 +65,9 @@ def main() -> int:
         for target in ("all", "install"):
             subprocess.run(["make", "-s", "-C", str(folder), options, target], check=True)
         os.environ.update(preload if whole else {})
-        with Alone(SETTINGS) as server:
-            reach = {**os.environ, "PGHOST": server.folder, "PGUSER": "postgres", "LD_PRELOAD": ""}
-            failed = subprocess.run(["make", "-s", "-C", str(folder), "installcheck"], env=reach).returncode
+        with TemporaryServer(SETTINGS) as server:
+            environment = {**os.environ, "PGHOST": server.folder, "PGUSER": "postgres", "LD_PRELOAD": ""}
+            failed = subprocess.run(["make", "-s", "-C", str(folder), "installcheck"], env=environment).returncode
             with open(os.path.join(server.folder, "log"), encoding="utf-8", errors="replace") as log:
                 found = [line for line in log if "Sanitizer" in line or "runtime error" in line]
     print("".join(found) or f"no {'fault of memory and no ' if whole else ''}undefined behaviour was seen")

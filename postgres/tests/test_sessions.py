@@ -18,7 +18,7 @@ import psycopg
 sys.dont_write_bytecode = True
 HERE = os.path.dirname(os.path.abspath(__file__))
 sys.path[:0] = [os.path.join(HERE, "..")]
-from installed import Alone, Installed, programs
+from installed import TemporaryServer, Installed, programs
 
 # Sessions don't load the library by themselves: each test decides where it is loaded.
 SETTINGS = ("session_preload_libraries=", "wal_level=logical", "max_prepared_transactions=2",
@@ -35,7 +35,7 @@ SELECT safebound.watch('r'), safebound.watch('s');
 """
 
 
-server: Alone
+server: TemporaryServer
 
 
 def setUpModule() -> None:

@@ -44,7 +44,7 @@ class Join(ctypes.Structure):
 
 
 class Status:
-    """The numbers of safebound.h."""
+    """The statuses of safebound.h, under their names there."""
 
     OK, ROOM, NO_MEMORY, BUDGET, PAST_BITS, WORK = range(6)
     (BAD_KEYS, BAD_ACCURACY, BAD_RUN, BAD_OTHER_RUN, BAD_SUM, BAD_ENTRIES, BAD_ROWS, BAD_EQUALITIES, BAD_EQUALITY,
@@ -76,7 +76,7 @@ WRONG = {
 
 
 def _folders() -> Iterator[Path]:
-    """Folders of shared objects, this package first; each with its subfolder for this architecture, if it has one."""
+    """The folders in which the shared object is looked for, in this order."""
     here = Path(__file__).resolve().parent
     yield here
     libraries = [folder for folder in here.parents if folder.name == "lib"]
@@ -147,18 +147,18 @@ def _library() -> ctypes.CDLL:
         "version": [ctypes.c_char_p, size, detail],
     }
     for name, form in forms.items():
-        # The library of the last release doesn't have calls that were added later.
+        # A library of the same version may be an older build, without calls that were added later.
         function = getattr(found, "safebound_" + name, None)
         if function is not None:
             function.argtypes, function.restype = form, ctypes.c_uint32
-    text, told = ctypes.create_string_buffer(64), _Number()
-    if found.safebound_version(text, 64, ctypes.byref(told)) != Status.OK or text.value.decode() != VERSION:
+    text, length = ctypes.create_string_buffer(64), _Number()
+    if found.safebound_version(text, 64, ctypes.byref(length)) != Status.OK or text.value.decode() != VERSION:
         raise errors.LibraryNotFound(f"{path()} isn't of version {VERSION}")
     return found
 
 
 def _function(name: str) -> Any:
-    """A call of the library."""
+    """The library's function safebound_NAME."""
     found = getattr(_library(), "safebound_" + name, None)
     if found is None:
         raise errors.LibraryNotFound(f"{path()} has no call safebound_{name}: it is older than this package")
@@ -213,8 +213,9 @@ def raise_for(status: int, detail: int) -> None:
     raise kind(message.format(detail), detail)
 
 
-def whole(value: object) -> int | None:
-    """The number, or None if 64 bits can't hold it. Whole numbers of other libraries are accepted, floats aren't.
+def whole_number(value: object) -> int | None:
+    """The number, or None if 64 bits can't hold it. Integers of other types, such as numpy's, are accepted; floats
+    aren't.
 
     Raises:
         WrongType: it isn't a whole number.

@@ -31,7 +31,7 @@ def keys_of(values: object) -> Any:
     if found is None:
         found = _of_numpy(values)
     keys = _in_memory(values if found is None else found)
-    return _as_keys(_numbered(_listed(values))) if keys is None else keys
+    return _as_keys(_numbers_for(_python_values(values))) if keys is None else keys
 
 
 def _refuse_what_is_no_column(values: object) -> None:
@@ -100,7 +100,7 @@ def _of_numpy(values: object) -> Any:
     return None
 
 
-def _listed(values: object) -> Iterable[object]:
+def _python_values(values: object) -> Iterable[object]:
     """The values one by one, as Python objects if the column has a method for that."""
     by = next((name for name in _LISTED_BY if callable(getattr(values, name, None))), None)
     listed: Any = values if by is None else getattr(values, by)()
@@ -111,7 +111,7 @@ def _listed(values: object) -> Iterable[object]:
     return listed  # type: ignore[no-any-return]
 
 
-def _numbered(values: Iterable[object]) -> array[int]:
+def _numbers_for(values: Iterable[object]) -> array[int]:
     """A number for each value, the same number for equal values.
 
     None, `pandas.NA`, and values that don't equal themselves, such as NaN, count as missing and get no number.

@@ -7,7 +7,7 @@ import functools
 from typing import Any, Iterable, List, Mapping, NamedTuple, Optional, SupportsIndex, Tuple, TypeVar, Union
 
 from . import errors
-from ._library import find, whole
+from ._library import find, whole_number
 from ._version import VERSION
 from .plan_texts import read_plan
 from .plans import Order
@@ -80,8 +80,8 @@ def _files(files: Any) -> List[_File]:
 def run(words: Iterable[Text], files: Mapping[_Name, Text]) -> Output:
     """Runs the program over files in memory.
 
-    The words are those of its command line, without its own name. Name a file as the words name it; for a table, the
-    name is the table's in lower case, and `.csv`. Output, statuses and limits are those of the program: see
+    The words are those of its command line, without its own name. Name each file as the words name it; a table's file
+    has the table's name in lower case, with `.csv`. Output, statuses and limits are those of the program: see
     docs/USING.md and docs/ERRORS.md.
 
     >>> files = {
@@ -196,7 +196,7 @@ def append_stats(schema: Text, stats: Text, table: str, rows: Text) -> bytes:
 
 
 def _budget(budget: SupportsIndex) -> int:
-    number = whole(budget)
+    number = whole_number(budget)
     if number is None:
         raise errors.BadBudget(f"a budget is from 1 to 20,000,000, not {budget}", budget)
     return number

@@ -23,9 +23,9 @@ def joined_rows(
         kind: `"left"`, `"right"` or `"full"` for an outer join; `"semi"` for the rows of the left side that have a
             match, as EXISTS keeps them; `"anti"` for those that have none, as NOT EXISTS keeps them.
         inner: a bound of the inner join of both sides by the same condition, or None if no bound is known.
-        left: a bound of the left side, or None. It counts all rows of the side: an outer join and an anti-join keep
-            rows that fail their own condition (ON), even where it names that side alone.
-        right: a bound of the right side, or None.
+        left: a bound of all rows of the left side, or None. A condition in ON that names only this side mustn't lower
+            it: an outer join and an anti-join keep rows that fail it.
+        right: a bound of all rows of the right side, or None; likewise.
 
     Returns:
         For an outer join, `inner` and the rows that the join adds to it; for a semi-join the lesser of `inner` and
@@ -48,7 +48,7 @@ def joined_rows(
 def _bound(rows: Optional[SupportsIndex]) -> int:
     if rows is None:
         return NO_BOUND
-    number = _library.whole(rows)
+    number = _library.whole_number(rows)
     if number is None:
         raise BadRows(f"a bound is from 0 to 2**64 - 1, not {rows}", rows)
     return number

@@ -6,7 +6,7 @@ ENGINE_ENTRIES = 12
 
 MOST_EQUALITIES = 256
 
-# In how many turns a set is looked at.
+# In how many turns a set is bounded, at most.
 MOST_TURNS = 16
 
 MOST_ACCURACY = 64

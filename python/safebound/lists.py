@@ -38,7 +38,7 @@ def degree_sequence(values: Iterable[Hashable]) -> list[Run]:
 
     Raises:
         WrongType: a text, bytes, a mapping or a set; an object with more than one dimension, such as a table; a value
-            that isn't hashable. As columns these would give the list of something else.
+            that isn't hashable. Iterating over these wouldn't give one value per row, so the list would be wrong.
         BadKeys: more than 2**48 values.
         OutOfMemory: there was too little memory.
 
@@ -69,7 +69,7 @@ def compress(runs: Runs, accuracy: SupportsIndex) -> list[Run]:
     >>> compress([(5, 1), (4, 1), (3, 1), (1, 1)], 1)
     [Run(degree=5, keys=2), Run(degree=3, keys=1)]
     """
-    given, number = encoded(runs), _library.whole(accuracy)
+    given, number = encoded(runs), _library.whole_number(accuracy)
     if number is None:
         raise BadAccuracy(f"an accuracy is from 1 to 64, not {accuracy}", accuracy)
     return _runs_of("compress", [given, len(given), number], len(given) + 1, given)
@@ -146,7 +146,7 @@ def greater(runs: Runs, others: Runs) -> list[Run]:
 
 
 def cut(runs: Runs, rows: SupportsIndex) -> list[Run]:
-    """The list for at most so many rows: a list that is cut at this number.
+    """The list for at most `rows` of the rows that a list counts.
 
     Args:
         runs: pairs of a degree and a number of keys, as for `compress`.
@@ -164,7 +164,7 @@ def cut(runs: Runs, rows: SupportsIndex) -> list[Run]:
     >>> cut([(5, 1), (4, 1)], 7)
     [Run(degree=5, keys=1), Run(degree=2, keys=1)]
     """
-    given, number = encoded(runs), _library.whole(rows)
+    given, number = encoded(runs), _library.whole_number(rows)
     if number is None:
         raise BadRows(f"a number of rows is from 0 to 2**64 - 1, not {rows}", rows)
     return _runs_of("cut", [given, len(given), number], len(given) + 1, given)
@@ -177,7 +177,7 @@ def encoded(runs: Runs, error: type[BadRun] = BadRun, column: object = None) -> 
     pairs = []
     for place, run in enumerate(runs):
         degree, keys = _pair(run, place, _message_head(error, column))
-        pair = (_library.whole(degree), _library.whole(keys))
+        pair = (_library.whole_number(degree), _library.whole_number(keys))
         if None in pair:
             what, number = ("degree", degree) if pair[0] is None else ("number of keys", keys)
             said = f"{_message_head(error, column)}the {what} of run {place} is {number}, which isn't from 1 to 2**48"

@@ -57,7 +57,7 @@ class PlanText:
 
 
 class NoPlan(ValueError):
-    """The text is no plan, or no audit of this plan."""
+    """The text isn't a plan, or isn't an audit of this plan."""
 
 
 def read_plan(text: str) -> PlanText:
@@ -73,8 +73,8 @@ def read_plan(text: str) -> PlanText:
     scans = _matches(r"scan (.*) ([0-9]+)", lines)
     levels = _matches(r"level [0-9]+ (.*) ([0-9]+)", lines)
     nodes = _matches(r"node ([0-9]+) ([0-9]+) ([0-9]+) ([0-9]+)", lines)
-    is_whole = scans and len(scans) + len(levels) + len(nodes) == len(lines)
-    if not is_whole or not (len(levels) == len(scans) and not nodes or not levels and _is_tree(nodes, len(scans))):
+    is_complete = scans and len(scans) + len(levels) + len(nodes) == len(lines)
+    if not is_complete or not (len(levels) == len(scans) and not nodes or not levels and _is_tree(nodes, len(scans))):
         raise NoPlan("this is no plan text: " + (lines[0] if lines else "nothing"))
     return PlanText(
         {m[1]: int(m[2]) for m in scans}, [(m[1], int(m[2])) for m in levels],

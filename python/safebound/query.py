@@ -79,7 +79,7 @@ class Query:
         lists: for each column that an equality names, runs that dominate its values, as `degree_sequence`, `compress`
             and `append` give them. If they sum to less than the entry's row bound, the other rows are taken for rows
             without a value, which join with nothing. If they sum to more, they are cut at the row bound. If no row of a
-            column has a value, give `NO_VALUES`; an empty list is treated as forgotten, unless the row bound is 0.
+            column has a value, give `NO_VALUES`. An empty list is refused, unless the row bound is 0.
 
     A query doesn't change once it is made. Two queries are equal if all their arguments are.
 
@@ -135,7 +135,7 @@ class Query:
         for entry in self.entries:
             if entry not in row_bounds:
                 raise BadRows(f"entry {entry!r} has no row bound", entry)
-            number = _library.whole(row_bounds[entry])
+            number = _library.whole_number(row_bounds[entry])
             if number is None:
                 raise self._bad_rows(entry, row_bounds[entry])
             rows.append(number)
@@ -283,7 +283,7 @@ class Query:
         ]
         return ", ".join(map(_equality_text, used))
 
-    # ---- what the library answers
+    # ---- calls of the library
 
     def _given(self) -> List[Any]:
         """The query as arguments of the library's calls."""
@@ -325,8 +325,8 @@ class Query:
 
         Args:
             limit: the most work that may be done. The amount of work is computed first. A set has as many turns as
-                equalities, but at least one and at most 16. Each turn costs 1, and 1 for each run of both lists of each
-                equality of the set.
+                equalities, but at least one and at most 16. Each turn costs 1 plus the number of runs in the two lists
+                of each equality of the set.
 
         Returns:
             A mapping from each of the 2**n sets of names to a number of rows. It is at least the number of choices, one
@@ -341,13 +341,13 @@ class Query:
         """
         if limit is None:
             return Bounds(self.entries, list(self._bounds))
-        number = _library.whole(limit)
+        number = _library.whole_number(limit)
         if number is None:
             raise BadLimit(f"a limit is from 0 to 2**64 - 1, not {limit}", limit)
         return Bounds(self.entries, list(self._asked("bounds_within", [*self._given(), number])))
 
     def bound_of(self, entries: Collection[str]) -> Optional[int]:
-        """The bound of one set of entries, the same as in `bounds()`. It takes the time of this set alone.
+        """The bound of one set of entries, the same as in `bounds()`. No other set is bounded.
 
         Args:
             entries: a collection of names, such as `query.entries` for all entries.
@@ -377,8 +377,8 @@ class Query:
     def best_order(self, budget: SupportsIndex) -> Order:
         """The best left-deep order.
 
-        It has the least cost, which is the largest bound of its levels. Of several such orders it has the least sum of
-        bounds. Of several such again, it is the first by the places of its entries in `entries`.
+        It has the least cost, which is the largest bound of its levels. Of orders with equal cost it has the least sum
+        of bounds. Of these it is the first by the places of its entries in `entries`.
 
         Args:
             budget: the largest bound that a level may have, 0 to 2**59.
@@ -396,7 +396,7 @@ class Query:
     def best_tree(self, budget: SupportsIndex) -> Tree:
         """The best join tree of any shape.
 
-        It has the least cost, which is the largest bound of its joins. Of several such trees it has the least sum of
+        It has the least cost, which is the largest bound of its joins. Of trees with equal cost it has the least sum of
         bounds.
 
         Args:
@@ -417,7 +417,7 @@ class Query:
         the same on every machine.
 
         Args:
-            plan: what `best_order` or `best_tree` gave.
+            plan: a result of `best_order` or `best_tree`.
 
         Raises:
             BadPlan: the plan isn't one of this query. Another query made it, or its entries, nodes or bounds differ.
@@ -484,7 +484,7 @@ class Query:
             raise BadPlan(f"the bound of {part} is {given!r}, and this query's is {bound}", place)
 
     def _best(self, name: str, budget: SupportsIndex, element: Any, room: int) -> List[Any]:
-        number = _library.whole(budget)
+        number = _library.whole_number(budget)
         if number is None:
             raise BadBudget(f"a budget is from 0 to 2**59, not {budget}", budget)
         status, detail, into = _library.call(name, [self._bounds, len(self._bounds), number], element, room)

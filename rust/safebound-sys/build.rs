@@ -1,16 +1,16 @@
-//! Finds the library. If SAFEBOUND_LIBRARY_DIR names a folder, it is looked for there and nowhere else. Otherwise pkg-config
-//! finds it where `make install` put it, or it is in a clone of the repository, where `make library` leaves it. The archive is
-//! taken if it is there, so that the program needs no library when it runs, and otherwise the shared object. With the feature
-//! `command` the library for the whole program is taken from the same folder.
+//! Finds the library. If SAFEBOUND_LIBRARY_DIR names a folder, the library is searched only there. Otherwise pkg-config finds
+//! it where `make install` put it, or it is in a clone of the repository, where `make library` leaves it. The archive is
+//! preferred to the shared object, since the program then needs no library when it runs. With the feature `command` the
+//! library for the whole program is taken from the same folder.
 
 use std::env;
 use std::path::{Path, PathBuf};
 use std::process::Command;
 
-const NAMED: &str = "SAFEBOUND_LIBRARY_DIR";
+const VARIABLE: &str = "SAFEBOUND_LIBRARY_DIR";
 
 fn main() {
-    for name in [NAMED, "PKG_CONFIG", "PKG_CONFIG_PATH", "PKG_CONFIG_LIBDIR", "PKG_CONFIG_SYSROOT_DIR"] {
+    for name in [VARIABLE, "PKG_CONFIG", "PKG_CONFIG_PATH", "PKG_CONFIG_LIBDIR", "PKG_CONFIG_SYSROOT_DIR"] {
         println!("cargo:rerun-if-env-changed={name}");
     }
     let folder = folder();
@@ -32,8 +32,10 @@ fn link(folder: &Path, name: &str) {
 }
 
 fn folder() -> PathBuf {
-    env::var_os(NAMED).map(PathBuf::from).or_else(installed).or_else(in_clone).unwrap_or_else(|| {
-        panic!("no library: neither pkg-config nor library/out of this repository has it, and {NAMED} names no folder")
+    env::var_os(VARIABLE).map(PathBuf::from).or_else(installed).or_else(in_clone).unwrap_or_else(|| {
+        panic!(
+            "no library: neither pkg-config nor library/out of this repository has it, and {VARIABLE} names no folder"
+        )
     })
 }
 

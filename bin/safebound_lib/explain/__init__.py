@@ -12,7 +12,7 @@ from .. import terminal
 from ..words import option_of
 from ..spot import plain
 from ..table import STATS
-from ..words import places
+from ..words import positional_words
 
 if TYPE_CHECKING:
     from ..faults import Fault
@@ -52,7 +52,7 @@ class Run:
     ) -> None:
         self.words, self.program, self.user_folder, self.is_proposed = words, program, user_folder, is_proposed
         self.command = words[0] if words else ""
-        found = places(words[1:])
+        found = positional_words(words[1:])
         self.schema_file, self.query_file = (
             (found + ["", ""])[:2] if self.command != "demo" else ("schema.sql", "query.sql")
         )
@@ -99,13 +99,13 @@ def explained(fault: Fault, run: Run) -> str:
     """The explanation of a fault. It ends in a line end."""
     part = importlib.import_module(f".{PARTS[fault.kind]}", __name__)
     try:
-        return laid_out(part.explain(fault, run))
+        return wrapped_blocks(part.explain(fault, run))
     except UNEXPLAINED:
         # Without an explanation, the fault's line and the exit status stay as they are.
         return ""
 
 
-def laid_out(blocks: list[str]) -> str:
+def wrapped_blocks(blocks: list[str]) -> str:
     """Wraps each line of each block, and keeps its indentation. Excerpts of texts are coloured."""
     return "".join(terminal.coloured("\n".join(map(wrapped, block.split("\n")))) + "\n" for block in blocks if block)
 
@@ -126,6 +126,6 @@ def not_connected(run: Run) -> str:
     """For a plan whose equalities don't connect all entries: a sentence that says so. A bound is then a product."""
     from .budgets import not_connected as said
     try:
-        return "" if run.command not in ("run", "plan", "audit") else laid_out([said(run)])
+        return "" if run.command not in ("run", "plan", "audit") else wrapped_blocks([said(run)])
     except UNEXPLAINED:
         return ""

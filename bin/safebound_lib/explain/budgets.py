@@ -8,7 +8,7 @@ from safebound.plan_texts import PlanText, read_plan
 
 from . import read
 from ..faults import fault_of
-from ..near import listed
+from ..near import series
 from ..program import answer
 from ..query import components, equality
 from ..table import ACCURACY, BUDGET, BUSHY, COUNT, KEYS, MOST_BUDGET, MOST_BUDGET_OF_A_TREE, REDUCE, USUAL_BUDGET
@@ -21,13 +21,13 @@ if TYPE_CHECKING:
     from ..table import Option
 
 SECONDS = 60
-CLOSER = "8"
+TRIED_ACCURACY = "8"
 
 
 def explain(fault: Fault, run: Run) -> list[str]:
     budget, most = int(option_of(run.words, BUDGET.word) or USUAL_BUDGET), most_of(run)
     is_past_bits, least = fault.kind == "past-bits", fault.least
-    shape, step = ("join tree", "node") if has(run, BUSHY) else ("order", "level")
+    shape, step = ("join tree", "node") if has_flag(run, BUSHY) else ("order", "level")
     if is_past_bits:
         first = f"In every {shape} some {step} has a bound of 2^128 - 1 rows or more. No budget helps."
     elif least > most:
@@ -41,15 +41,15 @@ def explain(fault: Fault, run: Run) -> list[str]:
             f" budget is --budget {least}."
         )
     apart = not_connected(run)
-    several = [] if has(run, COUNT) else several_equalities(run)
+    several = [] if has_flag(run, COUNT) else several_equalities(run)
     with saying("trying other options .."):
         past = "" if is_past_bits else at_fault(run, least, budget)
-        return [first, past, apart, *several, *tried(run, budget, apart)]
+        return [first, past, apart, *several, *ways_out(run, budget, apart)]
 
 
 def most_of(run: Run) -> int:
     """The greatest budget that the run accepts."""
-    return MOST_BUDGET_OF_A_TREE if has(run, BUSHY) else MOST_BUDGET
+    return MOST_BUDGET_OF_A_TREE if has_flag(run, BUSHY) else MOST_BUDGET
 
 
 def not_connected(run: Run) -> str:
@@ -58,7 +58,7 @@ def not_connected(run: Run) -> str:
     found = components(query, run.schema)
     if len(found) < 2:
         return ""
-    named = [listed(query.entries[i].name for i in group) for group in found]
+    named = [series(query.entries[i].name for i in group) for group in found]
     parts = "; ".join(named)
     return (
         f"These entries aren't connected: {parts}. No condition of the form A.X = B.Y leads from one of these groups to"
@@ -78,7 +78,7 @@ def several_equalities(run: Run) -> list[str]:
             )
     names = [entry.name for entry in query.entries]
     return [
-        f"{names[one]} and {names[other]} are joined by {len(said)} equalities: {listed(said)}. A bound counts one of"
+        f"{names[one]} and {names[other]} are joined by {len(said)} equalities: {series(said)}. A bound counts one of"
         " them alone: together they count as one, so there may be far fewer rows than it says."
         for (one, other), said in found.items() if len(said) > 1
     ]
@@ -119,37 +119,37 @@ def at_fault(run: Run, least: int, budget: int) -> str:
     """Names the levels or nodes above the budget. It plans the query under the least budget to see them."""
     if least > most_of(run):
         return ""
-    plan = with_words(run, given(run, least))
+    plan = with_words(run, given_options(run, least))
     if plan is None or isinstance(plan, int):
         return ""
     if plan.is_tree:
         nodes = [(number, node.bound) for number, node in enumerate(plan.nodes, len(plan.scans)) if node.bound > budget]
-        said = listed(f"node {number} ({listed(plan.leaves(number))}), of {bound:,} rows" for number, bound in nodes)
+        said = series(f"node {number} ({series(plan.leaves(number))}), of {bound:,} rows" for number, bound in nodes)
         return f"Past the budget: {said}." if nodes else ""
     past = [(number + 1, alias, bound) for number, (alias, bound) in enumerate(plan.levels) if bound > budget]
     if not past:
         return ""
-    order = listed((alias for alias, _ in plan.levels), "and then")
-    said = listed(f"level {number} ({alias}), of {bound:,} rows" for number, alias, bound in past)
+    order = series((alias for alias, _ in plan.levels), "and then")
+    said = series(f"level {number} ({alias}), of {bound:,} rows" for number, alias, bound in past)
     return f"That order is {order}. Past the budget: {said}."
 
 
-def given(run: Run, budget: int, accuracy: str | None = None, flag: Option | None = None) -> list[str]:
+def given_options(run: Run, budget: int, accuracy: str | None = None, flag: Option | None = None) -> list[str]:
     """The run's options, and the given ones. A flag that is tried replaces the flags with which it can't be combined.
     """
-    flags = [one for one in (REDUCE, BUSHY, KEYS, COUNT) if has(run, one)]
+    flags = [one for one in (REDUCE, BUSHY, KEYS, COUNT) if has_flag(run, one)]
     if flag is not None:
         flags = [one for one in flags if BUSHY in (one, flag)] + [flag]
     kept = None if COUNT in flags else accuracy or option_of(run.words, ACCURACY.word)
     return [BUDGET.word, str(budget)] + ([ACCURACY.word, kept] if kept else []) + [one.word for one in flags]
 
 
-def has(run: Run, flag: Option) -> bool:
+def has_flag(run: Run, flag: Option) -> bool:
     before = run.words[:run.words.index("--")] if "--" in run.words else run.words
     return flag.word in before
 
 
-def refers(run: Run) -> bool:
+def has_reference(run: Run) -> bool:
     """Whether a table of the query declares a reference."""
     schema = run.schema
     tables = [schema.table(entry.table.name) for entry in run.query.entries]
@@ -158,33 +158,34 @@ def refers(run: Run) -> bool:
 
 def other_sources(run: Run) -> list[tuple[str, tuple[str | None, Option | None]]]:
     """Options that may lower the bounds, each with its name. With `--count` no other option lowers them."""
-    if has(run, COUNT):
+    if has_flag(run, COUNT):
         return []
-    is_close = int(option_of(run.words, ACCURACY.word) or 1) >= int(CLOSER)
+    is_close = int(option_of(run.words, ACCURACY.word) or 1) >= int(TRIED_ACCURACY)
     ways: list[tuple[str, tuple[str | None, Option | None]]] = []
-    if not has(run, REDUCE):
+    if not has_flag(run, REDUCE):
         ways.append((f"With {REDUCE.word}", (None, REDUCE)))
     if not is_close:
-        ways.append((f"With {ACCURACY.word} {CLOSER}", (CLOSER, None)))
+        ways.append((f"With {ACCURACY.word} {TRIED_ACCURACY}", (TRIED_ACCURACY, None)))
     if len(ways) == 2:
-        ways.append(("With both", (CLOSER, REDUCE)))
-    if not has(run, KEYS) and refers(run):
+        ways.append(("With both", (TRIED_ACCURACY, REDUCE)))
+    if not has_flag(run, KEYS) and has_reference(run):
         ways.append((f"With {KEYS.word}", (None, KEYS)))
     return [*ways, (f"With {COUNT.word}", (None, COUNT))]
 
 
-def tried(run: Run, budget: int, apart: str) -> list[str]:
+def ways_out(run: Run, budget: int, apart: str) -> list[str]:
     """The least budget or the bounds with other options, and other things that the user can do."""
     ways = other_sources(run)
-    if not has(run, BUSHY) and len(run.query.entries) > 3 and budget <= MOST_BUDGET_OF_A_TREE:
+    if not has_flag(run, BUSHY) and len(run.query.entries) > 3 and budget <= MOST_BUDGET_OF_A_TREE:
         ways.append((f"With {BUSHY.word}", (None, BUSHY)))
-    found = [f"    {name} {said_of(with_words(run, given(run, budget, *how)), budget)}" for name, how in ways]
+    results = [(name, with_words(run, given_options(run, budget, *how))) for name, how in ways]
+    found = [f"    {name} {result_in_words(result, budget)}" for name, result in results]
     found = [line for line in found if not line.endswith(" None")]
     rest = "" if apart else "A condition on a column of one entry lowers bounds most: = or a range."
     return (["What other options come to:\n" + "\n".join(found)] if found else []) + [rest]
 
 
-def said_of(found: int | PlanText | None, budget: int) -> str | None:
+def result_in_words(found: int | PlanText | None, budget: int) -> str | None:
     if found is None:
         return None
     if isinstance(found, int):

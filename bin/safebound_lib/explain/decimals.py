@@ -8,7 +8,7 @@ from safebound.decimals import digits_of, first_decimal, scale_of, scaled
 from safebound.sql_texts import name_of, typed_name, written_name
 
 from .. import decimals
-from ..query import Literal, Reference, resolved, visible
+from ..query import Literal, Reference, resolved_column, visible_columns
 from ..spot import plain
 
 if TYPE_CHECKING:
@@ -39,7 +39,7 @@ def of_kind(query: Query, schema: Schema, at: int, run: Run) -> list[str]:
     if literal is None or beside is None:
         return []
     sign = test.operator if test.operator in COMPARISONS and beside is sides[0] else ""
-    return said(query, schema, beside, "".join(token.source for token in literal.tokens), sign, run)
+    return two_sentences(query, schema, beside, "".join(token.source for token in literal.tokens), sign, run)
 
 
 def of_point(query: Query, schema: Schema, at: int, run: Run) -> list[str]:
@@ -53,18 +53,19 @@ def of_point(query: Query, schema: Schema, at: int, run: Run) -> list[str]:
     if whole.kind != "number" or not sign.is_one(*COMPARISONS) or not column.is_name:
         return []
     scope = range(len(query.entries))
-    found = [r for r in (Reference(None, column, scope),) if visible(query, r, schema)]
-    return said(query, schema, found[0], f"{whole.source}.{behind[1].source}", sign.source, run) if found else []
+    found = [r for r in (Reference(None, column, scope),) if visible_columns(query, r, schema)]
+    value = f"{whole.source}.{behind[1].source}"
+    return two_sentences(query, schema, found[0], value, sign.source, run) if found else []
 
 
-def said(query: Query, schema: Schema, beside: Reference, number: str, sign: str, run: Run) -> list[str]:
+def two_sentences(query: Query, schema: Schema, beside: Reference, number: str, sign: str, run: Run) -> list[str]:
     """The two sentences on the column `beside`, which the query compares with `number` by `sign`.
 
-    If `sign` is empty, the second sentence gives the number alone. The list is empty if the schema declares the column
+    If `sign` is empty, the second sentence gives only the number. The list is empty if the schema declares the column
     as a number, if the table's file can't be read, or if the file has no decimals in the column.
     """
     from ..sheets import NoTable, sheet_of
-    _, table, column = resolved(query, beside, schema)
+    _, table, column = resolved_column(query, beside, schema)
     if column.is_number or not os.path.isfile(table.file):
         return []
     word = run.path_of(table.file)
@@ -77,7 +78,7 @@ def said(query: Query, schema: Schema, beside: Reference, number: str, sign: str
     if found is None or first is None:
         return []
     digits = max(scale_of(found.values), digits_of(number) or 0)
-    new = typed_name(decimals.called(name_of(found.name), digits))
+    new = typed_name(decimals.new_column_name(name_of(found.name), digits))
     whole = scaled(number, digits)
     declared = f", and {plain(run.schema_file)} declares it: {plain(new)} INTEGER NOT NULL"
     schema_too = "" if run.is_proposed else declared

@@ -11,10 +11,10 @@ from . import read
 from .decimals import of_decimals
 from .query_advice import CERTAIN, GUESSES
 from .reads import missing_table
-from .texts import accented, advised, bad_character, marked, no_text, place_of, quotes_for
+from .texts import accented, with_advice, bad_character, marked_line_of_text, not_utf8, place_of, quotes_for
 from ..convert import not_text_message
-from ..near import hint, listed, nearest
-from ..query import Literal, Reference, resolved, visible
+from ..near import hint, series, nearest
+from ..query import Literal, Reference, resolved_column, visible_columns
 from ..records import records
 from ..spot import plain
 
@@ -30,8 +30,8 @@ NO_RECORD: tuple[int, list[str]] = (0, [])
 
 def explain(fault: Fault, run: Run) -> list[str]:
     data, query, at = read(run.query_file), run.query, fault.at
-    says = {"syntax": syntax, "name": name, "kind": kind}[fault.cause]
-    other = no_text(run.query_file, data, at, run) or no_query(run, data)
+    says = {"syntax": syntax, "name": name, "kind": wrong_kind}[fault.cause]
+    other = not_utf8(run.query_file, data, at, run) or no_query(run, data)
     if other:
         return other
     schema, name_there = run.schema, accented(data, query.tokens, at)
@@ -40,7 +40,7 @@ def explain(fault: Fault, run: Run) -> list[str]:
         else of_decimals(fault.cause, query, schema, at, run) or of_a_proposal(fault, query, schema, run)
         or says(query, schema, at)
     )
-    return [marked(run.query_file, data, query, at, length(query, at)), *said]
+    return [marked_line_of_text(run.query_file, data, query, at, length(query, at)), *said]
 
 
 def no_query(run: Run, data: bytes) -> list[str]:
@@ -76,21 +76,21 @@ def of_a_proposal(fault: Fault, query: Query, schema: Schema, run: Run) -> list[
 
 
 def odd_value(query: Query, schema: Schema, at: int) -> list[str]:
-    """For a number compared with a column in which nearly all values are numbers: sentences on a value that isn't one.
+    """Sentences on a value that isn't a number, if a number is compared with a column of which nearly all values are.
     """
-    from ..sheets import of_values, sheet_of
+    from ..sheets import odd_values_warnings, sheet_of
     test = next(t for t in query.tests if any(o.token.start == at for o in t.operands[1:]))
     other = next(o for o in test.operands[1:] if o.token.start == at)
     literal, beside = (other, test.operands[0]) if isinstance(other, Literal) else (test.operands[0], other)
     if not isinstance(literal, Literal) or not literal.is_number or not isinstance(beside, Reference):
         return []
-    entry, table, column = resolved(query, beside, schema)
+    entry, table, column = resolved_column(query, beside, schema)
     found = next((c for c in sheet_of(table.file, table.file).columns if c.name == written_name(column.name)), None)
     if found is None or found.odd is None and not found.has_gaps:
         return []
     return [
-        f"{side(query, beside, schema)}, and {side(query, literal, schema)}.",
-        f"{plain(table.file)}: {of_values(found)[0]}",
+        f"{operand_in_words(query, beside, schema)}, and {operand_in_words(query, literal, schema)}.",
+        f"{plain(table.file)}: {odd_values_warnings(found)[0]}",
     ]
 
 
@@ -119,7 +119,7 @@ def syntax(query: Query, schema: Schema, at: int) -> list[str]:
     if several:
         return [f"{several} is a name of several words, and stands in double quotes."]
     place.outs = outputs(query, schema)
-    return advised(place, CERTAIN, GUESSES)
+    return with_advice(place, CERTAIN, GUESSES)
 
 
 def outputs(query: Query, schema: Schema) -> tuple[tuple[set[str], bool], ...]:
@@ -158,7 +158,7 @@ def name(query: Query, schema: Schema, at: int) -> list[str]:
         if entry.table.start == at and schema.table(entry.table.name) is None:
             return [unknown_table(entry.table, schema)]
         if (entry.alias or entry.table).start == at and entry.name in earlier:
-            return [twice(entry)]
+            return [twice_in_from(entry)]
     reference = next(r for r in query.references if r.token.start == at)
     joined = next((said for i in reference.scope for said in [no_comma(query, query.entries[i])] if said), "")
     if joined:
@@ -184,18 +184,18 @@ def unknown_table(token: Token, schema: Schema) -> str:
     tables = [table.name for table in schema.tables]
     return (
         f"The schema has no table {plain(token.name)}. Its tables are"
-        f" {listed(tables)}.{hint(token.name, tables)}{case(token, tables)}"
+        f" {series(tables)}.{hint(token.name, tables)}{letter_case_hint(token, tables)}"
     )
 
 
-def case(token: Token, names: Iterable[str]) -> str:
+def letter_case_hint(token: Token, names: Iterable[str]) -> str:
     """A sentence if a name in double quotes differs from an existing name only in upper and lower case."""
     if token.kind == "quoted" and token.name.upper() in names:
         return f" A name in double quotes keeps its case: write {token.name.upper()} without quotes."
     return ""
 
 
-def twice(entry: Entry) -> str:
+def twice_in_from(entry: Entry) -> str:
     table = plain(entry.table.name)
     how = "Give this one another alias" if entry.alias else f"Give each an alias, as FROM {table} A, {table} B"
     return f"{plain(entry.name)} is the name of two entries. {how}, and write its columns with it."
@@ -216,7 +216,7 @@ def unknown_entry(query: Query, reference: Reference, schema: Schema) -> list[st
     missing = cast("Token", reference.column)
     return [
         f"{called} has no column {plain(missing.name)}. Its columns are"
-        f" {listed(columns(table))}.{hint(missing.name, columns(table))}{case(missing, columns(table))}"
+        f" {series(columns(table))}.{hint(missing.name, columns(table))}{letter_case_hint(missing, columns(table))}"
     ]
 
 
@@ -225,7 +225,7 @@ def no_entry(query: Query, reference: Reference, scope: list[Entry]) -> str:
     if any(entry.name == wanted for entry in query.entries):
         return (
             f"{plain(wanted)} can't be named in this ON: there only the entries of its own JOIN, up to the one just"
-            f" joined, may stand: {listed(names)}. Put the condition into WHERE."
+            f" joined, may stand: {series(names)}. Put the condition into WHERE."
         )
     renamed = next((entry for entry in scope if entry.table.name == wanted), None)
     if renamed:
@@ -233,19 +233,19 @@ def no_entry(query: Query, reference: Reference, scope: list[Entry]) -> str:
             f"The table {plain(wanted)} has the alias {plain(renamed.name)} here, and goes by that alone: write"
             f" {plain(renamed.name)}.{plain(reference.column.source) if reference.column else '*'}."
         )
-    return f"There is no entry {plain(wanted)} in FROM. There are {listed(names)}.{hint(wanted, names)}"
+    return f"There is no entry {plain(wanted)} in FROM. There are {series(names)}.{hint(wanted, names)}"
 
 
 def unknown_column(query: Query, reference: Reference, schema: Schema) -> list[str]:
-    """Explains a column without an entry that several entries have, or that no entry has."""
-    token, found = reference.token, visible(query, reference, schema)
+    """Explains a column name without an entry before it, if several entries or none have such a column."""
+    token, found = reference.token, visible_columns(query, reference, schema)
     if found:
         having = [
             f"{plain(entry.name)} (table {plain(table.name)})" if entry.alias else plain(entry.name)
             for entry, table, _ in found
         ]
         return [
-            f"{plain(token.name)} is a column of {listed(having)}. Write it with one of them, as"
+            f"{plain(token.name)} is a column of {series(having)}. Write it with one of them, as"
             f" {plain(found[0][0].name)}.{plain(token.source)}."
         ]
     tables = {query.entries[i].name: schema.table(query.entries[i].table.name) for i in reference.scope}
@@ -253,12 +253,12 @@ def unknown_column(query: Query, reference: Reference, schema: Schema) -> list[s
     if repeated:
         return [f"No entry has a column {plain(token.name)}. {repeated}"]
     if token.kind == "quoted":
-        return quoted(token, tables)
+        return name_in_quotes(token, tables)
     every = [f"{entry}.{column}" for entry, table in tables.items() for column in columns(table)]
     near = nearest(token.name, {name.split(".", 1)[1] for name in every})
     near = next((name for name in every if name.split(".", 1)[1] == near), None)
-    each = "".join(f"\n    {plain(entry)}: {listed(map(plain, columns(table)))}" for entry, table in tables.items())
-    words = two_words(query, token, [column for table in tables.values() for column in columns(table)])
+    each = "".join(f"\n    {plain(entry)}: {series(map(plain, columns(table)))}" for entry, table in tables.items())
+    words = name_beginning_at(query, token, [column for table in tables.values() for column in columns(table)])
     if words:
         return [f"No entry has a column {plain(token.name)}. A name with a blank stands in double quotes: {words}."]
     as_text = (
@@ -271,11 +271,11 @@ def unknown_column(query: Query, reference: Reference, schema: Schema) -> list[s
 
 
 def name_of_words(query: Query, at: int, names: list[str]) -> str:
-    """Looks for a column's name of several words, written without quotes around the token of this number. Returns it in
-    double quotes, or nothing.
+    """Looks, around the token of this number, for a column name of several words that was written without quotes.
+    Returns it in double quotes, or nothing.
     """
     firsts = query.tokens[max(at - 3, 0):at + 1]
-    found = (two_words(query, token, names) for token in firsts if token.kind == "word")
+    found = (name_beginning_at(query, token, names) for token in firsts if token.kind == "word")
     return next((name for name in found if name), "")
 
 
@@ -291,7 +291,7 @@ def named_twice(token: Token, table: Table | None) -> str:
     )
 
 
-def two_words(query: Query, token: Token, names: list[str]) -> str:
+def name_beginning_at(query: Query, token: Token, names: list[str]) -> str:
     """The column's name of several words that begins with this token, in double quotes, or nothing."""
     at = query.tokens.index(token)
     for name in names:
@@ -306,11 +306,11 @@ def is_compared(query: Query, reference: Reference) -> bool:
     return any(reference in test.operands[1:] for test in query.tests)
 
 
-def quoted(token: Token, tables: dict[str, Table | None]) -> list[str]:
+def name_in_quotes(token: Token, tables: dict[str, Table | None]) -> list[str]:
     """Explains a name in double quotes that no entry has. Mostly a text was meant."""
     names = {column for table in tables.values() for column in columns(table)}
     if token.name.upper() in names:
-        return ["No entry has a column of that name." + case(token, names)]
+        return ["No entry has a column of that name." + letter_case_hint(token, names)]
     near = nearest(token.name, names, 0.85)
     if near:
         return [
@@ -324,27 +324,29 @@ def quoted(token: Token, tables: dict[str, Table | None]) -> list[str]:
     ]
 
 
-def kind(query: Query, schema: Schema, at: int) -> list[str]:
+def wrong_kind(query: Query, schema: Schema, at: int) -> list[str]:
     test = next(t for t in query.tests if any(o.token.start == at for o in t.operands[1:]))
     left, other = test.operands[0], next(o for o in test.operands[1:] if o.token.start == at)
     return [
         (
-            f"Both sides of a comparison are numbers or both are texts. {side(query, left, schema)} and"
-            f" {side(query, other, schema)}."
+            f"Both sides of a comparison are numbers or both are texts. {operand_in_words(query, left, schema)} and"
+            f" {operand_in_words(query, other, schema)}."
         ),
-        *mended(query, left, other, schema),
+        *how_to_write_literal(query, left, other, schema),
     ]
 
 
-def side(query: Query, operand: Literal | Reference, schema: Schema) -> str:
+def operand_in_words(query: Query, operand: Literal | Reference, schema: Schema) -> str:
     if isinstance(operand, Literal):
         shown = "".join(plain(token.source) for token in operand.tokens)
         return f"{shown} is a number" if operand.is_number else f"{shown} is a text"
-    entry, _, column = resolved(query, operand, schema)
+    entry, _, column = resolved_column(query, operand, schema)
     return f"{plain(entry.name)}.{plain(column.name)} is {column.type}"
 
 
-def mended(query: Query, left: Literal | Reference, other: Literal | Reference, schema: Schema) -> list[str]:
+def how_to_write_literal(
+    query: Query, left: Literal | Reference, other: Literal | Reference, schema: Schema
+) -> list[str]:
     """How to write the literal so that it has the other operand's kind, number or text."""
     if isinstance(left, Reference) and isinstance(other, Reference):
         return [of_the_kind(query, left, other, schema)]
@@ -361,10 +363,10 @@ def mended(query: Query, left: Literal | Reference, other: Literal | Reference, 
 
 def of_the_kind(query: Query, left: Reference, other: Reference, schema: Schema) -> str:
     """The columns of the right entry that can be compared with the left one."""
-    (_, _, column), (entry, table, _) = resolved(query, left, schema), resolved(query, other, schema)
+    (_, _, column), (entry, table, _) = resolved_column(query, left, schema), resolved_column(query, other, schema)
     fitting = [f"{plain(entry.name)}.{plain(c.name)}" for c in table.columns if c.is_number == column.is_number]
     kind_there = "numbers" if column.is_number else "texts"
     return (
-        f"Of {plain(entry.name)} these are {kind_there} too: {listed(fitting)}." if fitting
+        f"Of {plain(entry.name)} these are {kind_there} too: {series(fitting)}." if fitting
         else f"{plain(entry.name)} has no column of {kind_there}: declare both columns as one kind."
     )

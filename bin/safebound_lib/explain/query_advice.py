@@ -119,7 +119,7 @@ WORDS = {
 }
 
 
-def swapped(place: Place) -> str | None:
+def swapped_texts(place: Place) -> str | None:
     if place.at == 0 and place.word() == "CREATE":
         return "This looks like a schema: the command takes SCHEMA first and then QUERY."
     return None
@@ -149,13 +149,13 @@ def call(place: Place) -> str | None:
     return None
 
 
-def dated(place: Place) -> str | None:
+def date_literal(place: Place) -> str | None:
     if place.word(-1) in OF_DATES and place.token().kind == "text" or place.word() in OF_DATES:
         return DATES
     return None
 
 
-def decimal(place: Place) -> str | None:
+def decimal_literal(place: Place) -> str | None:
     if place.token().is_one(".") and (place.token(-1).kind == "number" or place.token(1).kind == "number"):
         return DECIMALS
     if place.token(-1).kind == "number" and re.fullmatch(r"[eE][0-9]*", place.token().source):
@@ -186,8 +186,8 @@ def two_nots(place: Place) -> str | None:
 
 def wrong_quotes(place: Place) -> str | None:
     """A text in the place of a name, or a name in the place of a text."""
-    token, tested = place.token(), place.tested
-    wants_name = [what for what in tested if what in ("a table", "a column", "an alias", "a name for it")]
+    token, expected = place.token(), place.expected
+    wants_name = [what for what in expected if what in ("a table", "a column", "an alias", "a name for it")]
     if token.kind == "text" and wants_name and token.source.lower().endswith(".csv'"):
         return of_file(token.source[1:-1])
     if token.kind == "text" and wants_name:
@@ -195,7 +195,7 @@ def wrong_quotes(place: Place) -> str | None:
             f"In single quotes stands a text, and here {wants_name[0]} has to stand: write"
             f" {plain(token.source[1:-1])} without quotes."
         )
-    if "a text in single quotes" in tested and "a column" not in tested and token.is_name:
+    if "a text in single quotes" in expected and "a column" not in expected and token.is_name:
         text = plain(token.name if token.kind == "quoted" else token.source).replace("'", "''")
         return (
             f"Here a text or a number has to stand, and {plain(token.source)} is a"
@@ -204,7 +204,7 @@ def wrong_quotes(place: Place) -> str | None:
     return None
 
 
-def order(place: Place) -> str | None:
+def order_by(place: Place) -> str | None:
     """For ORDER BY: the options with which `sort` sorts by its columns."""
     if place.word() != "ORDER" or place.word(1) != "BY":
         return None
@@ -241,18 +241,18 @@ def sort_key(item: list[Token], outs: tuple[tuple[set[str], bool], ...]) -> tupl
     return last.source, f"-k{at + 1},{at + 1}{'n' * outs[at][1]}{'r' * down}"
 
 
-def by_word(place: Place) -> str | None:
+def sql_word(place: Place) -> str | None:
     """A word of SQL that isn't part of the language. ORDER and GROUP without BY are taken for names."""
     if place.word() in ("ORDER", "GROUP") and place.word(1) != "BY":
         return None
     return WORDS.get(place.word())
 
 
-def grouped(place: Place) -> str | None:
+def grouped_digits(place: Place) -> str | None:
     """A comma within a number: `5,000`."""
     if (
         place.token().is_one(",") and place.token(-1).kind == "number" and place.token(1).kind == "number"
-        and "AND" in place.tested
+        and "AND" in place.expected
     ):
         if len(place.token(1).source) != 3:
             return DECIMALS.replace(
@@ -268,7 +268,7 @@ def grouped(place: Place) -> str | None:
 
 def half_a_comparison(place: Place) -> str | None:
     """`X = 'A' OR 'B'`, and an operand in parentheses."""
-    if place.word(-2) in ("OR", "AND") and "=" in str(place.tested) and place.token(-1).kind in ("text", "number"):
+    if place.word(-2) in ("OR", "AND") and "=" in str(place.expected) and place.token(-1).kind in ("text", "number"):
         return (
             f"Each side of {place.word(-2)} is a whole comparison, as X = 1 {place.word(-2)} X = 2. Several values of"
             " one column can stand in a list: X IN (1, 2)."
@@ -278,11 +278,11 @@ def half_a_comparison(place: Place) -> str | None:
     return None
 
 
-def qualified(place: Place) -> str | None:
+def qualified_name(place: Place) -> str | None:
     """A table's name with the name of a schema or a database before it."""
     if place.token().is_one(".") and place.word(1) == "CSV":
         return of_file(f"{place.token(-1).source}.{place.token(1).source}")
-    if place.token().is_one(".") and "an alias" in place.tested and place.token(-2).is_one("FROM", "JOIN", ","):
+    if place.token().is_one(".") and "an alias" in place.expected and place.token(-2).is_one("FROM", "JOIN", ","):
         return "A table has one name: there are no names of schemas or databases before it."
     return None
 
@@ -292,7 +292,7 @@ def of_file(name: str) -> str:
     return f"{plain(name)} is a file's name, and a query names the table: FROM {plain(name[:-4].upper())}."
 
 
-def doubled(place: Place) -> str | None:
+def doubled_sign(place: Place) -> str | None:
     if place.token().is_one("=") and place.token(-1).is_one("="):
         return "Equal is written with one =."
     if place.token().is_one(">", "<", "=") and place.token(-1).is_one("<", ">", "=", "<=", ">="):
@@ -300,7 +300,7 @@ def doubled(place: Place) -> str | None:
     return None
 
 
-def unquoted(place: Place) -> str | None:
+def unquoted_value(place: Place) -> str | None:
     """A date or a code that begins with a digit, without its quotes."""
     token, before = place.token(), place.token(-1)
     if before.kind == "number" and token.kind == "word" and token.start == before.end:
@@ -325,9 +325,9 @@ def star(place: Place) -> str | None:
     return None
 
 
-def reserved(place: Place) -> str | None:
+def reserved_word(place: Place) -> str | None:
     """A reserved word in the place of a name."""
-    wants_name = any(what.startswith("a ") and what != "a number" for what in place.tested)
+    wants_name = any(what.startswith("a ") and what != "a number" for what in place.expected)
     if (
         place.word() in RESERVED and wants_name
         and place.word() not in ("FROM", "WHERE", "SELECT", "AND", "OR", "ON", "JOIN")
@@ -355,7 +355,7 @@ def misspelled(place: Place) -> str | None:
 def comma_missing(place: Place) -> str | None:
     """Two or more names in a row, without commas, in a list."""
     token, before = place.token(), place.token(-1)
-    if token.is_name and (before.is_name or before.is_one("*")) and "," in place.tested:
+    if token.is_name and (before.is_name or before.is_one("*")) and "," in place.expected:
         return f"Is a comma missing before {plain(token.source)}?"
     if token.is_one(".") and before.is_name and (place.token(-2).is_name or place.token(-2).is_one("AS")):
         return (
@@ -370,13 +370,13 @@ def comma_missing(place: Place) -> str | None:
 def no_condition(place: Place) -> str | None:
     if place.word() in ("WHERE", "ON") and place.word(-1) == "WHERE":
         return "WHERE stands once; conditions are joined by AND."
-    if "ON" in place.tested and place.word() != "ON":
+    if "ON" in place.expected and place.word() != "ON":
         return "Each JOIN has its condition: JOIN B ON B.X = A.X."
     return None
 
 
 CERTAIN = (
-    swapped, second_query, subquery, call, dated, decimal, unquoted, alias_word, two_nots, wrong_quotes, order, by_word,
-    doubled, grouped, half_a_comparison, qualified, arithmetic, star,
+    swapped_texts, second_query, subquery, call, date_literal, decimal_literal, unquoted_value, alias_word, two_nots,
+    wrong_quotes, order_by, sql_word, doubled_sign, grouped_digits, half_a_comparison, qualified_name, arithmetic, star,
 )
-GUESSES = (comma_too_many, reserved, no_condition, misspelled, comma_missing)
+GUESSES = (comma_too_many, reserved_word, no_condition, misspelled, comma_missing)

@@ -7,7 +7,7 @@ from typing import TYPE_CHECKING
 
 from .texts import convert_line
 from .usage import is_query
-from ..near import listed, nearest
+from ..near import series, nearest
 from ..spot import plain
 from ..tokens import tokens_of
 
@@ -27,7 +27,7 @@ def explain(fault: Fault, run: Run) -> list[str]:
             f"Here stands the text of a query, {plain(file)[:60]}, and the name of a file has to. Write the text into a"
             f" file, as query.sql, and name that{lines_of_text(file, run)}"
         ]
-    return [why(file), *where(file, run), *without_schema(file, run)]
+    return [why_unreadable(file), *where_looked_for(file, run), *without_schema(file, run)]
 
 
 def lines_of_text(text: str, run: Run) -> str:
@@ -46,7 +46,7 @@ def is_one_query(words: str) -> bool:
 
 
 def without_schema(file: str, run: Run) -> list[str]:
-    """For a schema that doesn't exist beside tables and a query that do: the command that needs no schema."""
+    """If tables and query exist but the schema doesn't: the command that needs no schema."""
     is_able = (
         file == run.schema_file and not run.is_proposed and is_query(run.query_file)
         and any(name.endswith(".csv") for name in names_in("."))
@@ -65,7 +65,7 @@ def missing_table(name: str, run: Run) -> list[str]:
     near = near_file(file, ".", run)
     return [
         f"There is no file {plain(file)} in {plain(folder)}, so there is no table {plain(name)}.",
-        near or alike(file, "."),
+        near or files_with_same_ending(file, "."),
     ]
 
 
@@ -79,7 +79,7 @@ def no_table(file: str, run: Run) -> list[str]:
     return []
 
 
-def why(file: str) -> str:
+def why_unreadable(file: str) -> str:
     if os.path.isdir(file):
         return f"{plain(file)} is a folder, and no file."
     if os.path.exists(file):
@@ -91,14 +91,15 @@ def why(file: str) -> str:
     return f"There is no file {plain(file)}."
 
 
-def where(file: str, run: Run) -> list[str]:
+def where_looked_for(file: str, run: Run) -> list[str]:
     """Where the file was looked for, and which file, in that folder or another, has its name or a similar one."""
     if os.path.exists(file):
         return []
     is_table = file not in run.named
     folder = os.path.dirname(file) or "."
     found = [
-        f"It was looked for in {plain(os.path.abspath(folder)) if working() else 'a working folder that is gone'}."
+        "It was looked for in "
+        f"{plain(os.path.abspath(folder)) if working_folder() else 'a working folder that is gone'}."
     ]
     if is_table:
         found.append(
@@ -111,10 +112,10 @@ def where(file: str, run: Run) -> list[str]:
         found.append("With --data every file is looked up in that folder, the schema and the query too.")
     elif is_table:
         found.append("Where the tables lie elsewhere, give their folder: --data DIR.")
-    return found + [alike(file, folder)]
+    return found + [files_with_same_ending(file, folder)]
 
 
-def working() -> str | None:
+def working_folder() -> str | None:
     try:
         return os.getcwd()
     except OSError:
@@ -197,8 +198,8 @@ def rename(other: str, file: str, run: Run) -> str:
     return f"\n    mv {' '.join(map(plain, words))}"
 
 
-def alike(file: str, folder: str) -> str:
+def files_with_same_ending(file: str, folder: str) -> str:
     """The files of the folder with the same ending."""
     ending = os.path.splitext(file)[1].casefold()
     found = [plain(name) for name in names_in(folder) if os.path.splitext(name)[1].casefold() == ending]
-    return f"Files of that kind there: {listed(found)}." if found else ""
+    return f"Files of that kind there: {series(found)}." if found else ""

@@ -7,9 +7,9 @@ from typing import TYPE_CHECKING
 
 from . import read
 from .schema_advice import CERTAIN, GUESSES
-from .texts import accented, advised, bad_character, marked, no_text, place_of, quotes_for
+from .texts import accented, with_advice, bad_character, marked_line_of_text, not_utf8, place_of, quotes_for
 from .usage import is_query, tables_named, with_tables
-from ..near import hint, listed
+from ..near import hint, series
 from ..spot import plain
 from ..table import BY_WORD
 from ..tokens import tokens_of
@@ -25,12 +25,13 @@ def explain(fault: Fault, run: Run) -> list[str]:
     data, schema, at = read(run.schema_file), run.schema, fault.at
     token = next((t for t in tokens_of(data) if t.start == at and t.kind != "bad"), None)
     says = {"syntax": syntax, "name": name, "nullable": nullable}[fault.cause]
-    other = no_text(run.schema_file, data, at, run) or no_schema(run)
+    other = not_utf8(run.schema_file, data, at, run) or no_schema(run)
     if other:
         return other
     name_there = accented(data, schema.tokens, at)
     said = [quotes_for(name_there, [])] if name_there else says(schema, at)
-    return [marked(run.schema_file, data, schema, at, token.end - at if token else 1), *said, in_order(run)]
+    line = marked_line_of_text(run.schema_file, data, schema, at, token.end - at if token else 1)
+    return [line, *said, in_order(run)]
 
 
 def in_order(run: Run) -> str:
@@ -64,7 +65,7 @@ def syntax(schema: Schema, at: int) -> list[str]:
     place = place_of(schema, at)
     if place.token().kind == "bad":
         return [bad_character(place)]
-    return advised(place, CERTAIN, GUESSES)
+    return with_advice(place, CERTAIN, GUESSES)
 
 
 def nullable(schema: Schema, at: int) -> list[str]:
@@ -115,7 +116,7 @@ def of_keys(table: Table, at: int) -> str | None:
             f"{plain(table.name)} has two primary keys. A key of several columns is one rule, PRIMARY KEY (A, B); a"
             " further key is UNIQUE."
         )
-    lists = table.keys + [reference.of for reference in table.references]
+    lists = table.keys + [reference.referring_columns for reference in table.references]
     return next((said for tokens in lists for said in [of_list(table, tokens, at)] if said), None)
 
 
@@ -132,15 +133,15 @@ def of_list(table: Table, tokens: list[Token], at: int) -> str | None:
         )
     return (
         f"{plain(table.name)} has no column {plain(token.name)}. Its columns are"
-        f" {listed(names)}.{hint(token.name, names)}"
+        f" {series(names)}.{hint(token.name, names)}"
     )
 
 
 def of_references(schema: Schema, table: Table, at: int) -> str | None:
     for reference in table.references:
         target = schema.table(reference.target.name)
-        if target and any(token.start == at for token in reference.columns):
-            return of_list(target, reference.columns, at)
+        if target and any(token.start == at for token in reference.target_columns):
+            return of_list(target, reference.target_columns, at)
         if reference.target.start == at:
             return of_target(schema, reference, target)
     return None
@@ -151,15 +152,15 @@ def of_target(schema: Schema, reference: Reference, target: Table | None) -> str
     if target is None:
         return (
             f"The schema has no table {plain(reference.target.name)}. Its tables are"
-            f" {listed(names)}.{hint(reference.target.name, names)}"
+            f" {series(names)}.{hint(reference.target.name, names)}"
         )
-    if not reference.columns and not target.primary:
+    if not reference.target_columns and not target.primary:
         return (
             f"{plain(target.name)} has no primary key to refer to. Name the columns, as REFERENCES"
             f" {plain(target.name)} (X), or leave the reference out: rows aren't checked against it."
         )
-    count = len(reference.columns or target.primary[0][1])
+    count = len(reference.target_columns or target.primary[0][1])
     return (
-        f"The reference has {len(reference.of)} columns, and leads to {count} of {plain(target.name)}. Both sides have"
-        " equally many."
+        f"The reference has {len(reference.referring_columns)} columns, and leads to {count} of {plain(target.name)}."
+        " Both sides have equally many."
     )

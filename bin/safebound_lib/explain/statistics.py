@@ -6,7 +6,7 @@ from __future__ import annotations
 import shlex
 from typing import TYPE_CHECKING
 
-from ..near import hint, listed
+from ..near import hint, series
 from ..spot import plain
 
 if TYPE_CHECKING:
@@ -50,7 +50,7 @@ def without_section(file: str, run: Run) -> list[str]:
     """Says what is missing: the table in the schema, or its statistics in the file."""
     names = [table.name for table in run.schema.tables]
     if not any(name.upper() == run.table.upper() for name in names):
-        return [f"The schema has no table {plain(run.table)}. Its tables are {listed(names)}.{hint(run.table, names)}"]
+        return [f"The schema has no table {plain(run.table)}. Its tables are {series(names)}.{hint(run.table, names)}"]
     table = plain(run.table)
     return [
         (

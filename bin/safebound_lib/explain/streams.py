@@ -23,12 +23,12 @@ def explain(fault: Fault, run: Run) -> list[str]:
             ),
         ]
     return [
-        f"{wanting(1 if fault.cause == 'out' else 2)} What was written until then is a beginning of the answer."
+        f"{why_failed(1 if fault.cause == 'out' else 2)} What was written until then is a beginning of the answer."
         " Nothing is wrong with the data."
     ]
 
 
-def wanting(number: int) -> str:
+def why_failed(number: int) -> str:
     try:
         mode = os.fstat(number).st_mode
     except OSError:

@@ -9,9 +9,9 @@ from safebound.sql_texts import LEAST_NUMBER, MOST_NUMBER, folded, number_of
 from . import read
 from .texts import convert_line, how_to_convert
 from ..convert import not_text_message
-from ..near import listed, nearest
+from ..near import series, nearest
 from ..records import chosen, column_place, left_open, records
-from ..spot import cut, plain, spot
+from ..spot import cut_text, plain, spot
 from ..terminal import columns
 
 if TYPE_CHECKING:
@@ -30,7 +30,7 @@ def explain(fault: Fault, run: Run) -> list[str]:
         (lambda t: t.name.upper() == run.table.upper()) if run.command == "append" else (lambda t: t.file == fault.file)
     )
     table = next(filter(is_it, schema.tables))
-    says = {"utf8": utf8, "header": header, "width": width, "field": field, "key": key}[fault.cause]
+    says = {"utf8": utf8, "header": header, "width": wrong_width, "field": field, "key": key}[fault.cause]
     data = read(fault.file)
     if not_text_message(data):
         return [f"{fault.file} {not_text_message(data)}."]
@@ -38,8 +38,7 @@ def explain(fault: Fault, run: Run) -> list[str]:
 
 
 def header_differs(data: bytes) -> str:
-    """A sentence if two or more rows all have as many fields as each other and the header has another number; else "".
-    """
+    """If all rows (two or more) have one number of fields and the header has another: a sentence on that; else ""."""
     found = records(data)
     wide, widths, ends, rows = len(next(found, (0, []))[1]), set(), set(), 0
     for rows, (_, fields) in enumerate(found, 1):
@@ -72,7 +71,7 @@ def closed_late(data: bytes, number: int) -> str:
     )
 
 
-def quoted(value: str) -> str:
+def quoted_value(value: str) -> str:
     """A value between backticks, as the file has it. A long value is cut."""
     return f"`{plain(value[:MOST_OF_VALUE])}{'...' if len(value) > MOST_OF_VALUE else ''}`"
 
@@ -99,7 +98,8 @@ def header(table: Table, fault: Fault, data: bytes, run: Run) -> list[str]:
         if count else f"The header of {fault.file}, its first line, has no column {plain(column)}."
     )
     shown = (
-        f"\n    found:    {cut(','.join(found), columns() - 14)}\n    expected: {cut(','.join(wanted), columns() - 14)}"
+        f"\n    found:    {cut_text(','.join(found), columns() - 14)}"
+        f"\n    expected: {cut_text(','.join(wanted), columns() - 14)}"
     )
     return [
         first + shown, "Columns may come in any order, and further ones are passed over.",
@@ -125,20 +125,20 @@ def why_no_header(found: list[str], wanted: list[str], column: str, count: int, 
         return f"The first line looks like a row. Put the names above it: {plain(','.join(wanted))}"
     padded = next((name for name in found if name != name.strip() and folded(name.strip()) == folded(column)), None)
     if padded:
-        return f"Blanks count: {quoted(padded)} has some at its ends."
+        return f"Blanks count: {quoted_value(padded)} has some at its ends."
     near = nearest(column, found)
-    return f"Is it {quoted(near)}? Give it the column's name." if near else ""
+    return f"Is it {quoted_value(near)}? Give it the column's name." if near else ""
 
 
-def width(table: Table, fault: Fault, data: bytes, run: Run) -> list[str]:
+def wrong_width(table: Table, fault: Fault, data: bytes, run: Run) -> list[str]:
     (_, head), (line, fields) = chosen(data, 0, fault.record)
     first = (
         f"{at_record(fault, line)}: this record has {fault.found} field{'' if fault.found == 1 else 's'}, and"
         f" the header has {len(head)}."
     )
     shown = (
-        f"\n    header: {cut(','.join(head), columns() - 12)}\n    record:"
-        f" {cut(' | '.join(f[:MOST_OF_VALUE] for f in fields[:MOST_FIELDS]), columns() - 12)}"
+        f"\n    header: {cut_text(','.join(head), columns() - 12)}\n    record:"
+        f" {cut_text(' | '.join(f[:MOST_OF_VALUE] for f in fields[:MOST_FIELDS]), columns() - 12)}"
     )
     opened = left_open(data, fault.record)
     if opened is not None:
@@ -175,7 +175,8 @@ def field(table: Table, fault: Fault, data: bytes, run: Run) -> list[str]:
     column = next(c for c in table.columns if c.name == fault.column)
     value = fields[column_place(head, column.name)]
     first = (
-        f"{at_record(fault, line)}, column {plain(column.name)}: here stands {quoted(value) if value else 'nothing'},"
+        f"{at_record(fault, line)}, column {plain(column.name)}:"
+        f" here stands {quoted_value(value) if value else 'nothing'},"
         f" and the column is {column.type}."
     )
     return [
@@ -238,14 +239,14 @@ def key(table: Table, fault: Fault, data: bytes, run: Run) -> list[str]:
         if [fields[i] for i in at] == [before[i] for i in at] or all(
             is_same(table, t, fields[i], before[i]) for t, i in zip(tokens, at)
         ):
-            names, values = listed(plain(t.name) for t in tokens), ", ".join(quoted(fields[i]) for i in at)
+            names, values = series(plain(t.name) for t in tokens), ", ".join(quoted_value(fields[i]) for i in at)
             key_there = key_in_schema(tokens[0], run)
             break
     return [
         (
             f"{at_record(fault, line)}: {values} stands in the key {names} already, on line {earlier} (record"
-            f" {fault.earlier}).\n    line {earlier}: {cut(','.join(before), columns() - 20)}\n    line {line}:"
-            f" {cut(','.join(fields), columns() - 20)}"
+            f" {fault.earlier}).\n    line {earlier}: {cut_text(','.join(before), columns() - 20)}\n    line {line}:"
+            f" {cut_text(','.join(fields), columns() - 20)}"
         ),
         (
             "No two records have the same values in a PRIMARY KEY or UNIQUE. Remove one of the two, or the key from the"

@@ -10,7 +10,7 @@ from collections.abc import Callable
 from typing import Optional, Tuple, TYPE_CHECKING
 
 from ..convert import not_text_message
-from ..near import hint, listed
+from ..near import hint, series
 from ..spot import plain, spot
 from ..tokens import Token
 
@@ -60,14 +60,12 @@ NO_ARITHMETIC_THERE = (
 
 @dataclass
 class Place:
-    """Where the grammar fails on the tokens of a text: the token at that place, its neighbours, and what may stand
-    there.
-    """
+    """A place in the tokens of a text: the token there, its neighbours, and what the grammar allows there."""
     tokens: list[Token]
     at: int
-    tested: tuple[str, ...]
+    expected: tuple[str, ...]
     # Whether the grammar fails at this token.
-    is_grammar: bool = True
+    is_grammar_error: bool = True
     # For ORDER BY: for each output column of the query its names, and whether it is a number.
     outs: tuple[tuple[set[str], bool], ...] = ()
 
@@ -89,10 +87,10 @@ def is_in_select(place: Place) -> bool:
 def place_of(read: Query | Schema, at: int) -> Place:
     """The place of the first token that begins at this byte or later."""
     found = next((i for i, token in enumerate(read.tokens) if token.start >= at), len(read.tokens))
-    return Place(read.tokens, found, read.tested, read.wrong == found)
+    return Place(read.tokens, found, read.expected, read.wrong_at == found)
 
 
-def marked(file: str, data: bytes, read: Query | Schema, at: int, length: int) -> str:
+def marked_line_of_text(file: str, data: bytes, read: Query | Schema, at: int, length: int) -> str:
     """The line of a text with a mark below the place. A name with accents is marked whole. At the end of the text, the
     mark is right behind the last token.
     """
@@ -146,7 +144,7 @@ def quotes_for(found: Accented, names: list[str]) -> str:
     )
 
 
-def no_text(file: str, data: bytes, at: int, run: Run) -> list[str] | None:
+def not_utf8(file: str, data: bytes, at: int, run: Run) -> list[str] | None:
     """An explanation if the bytes are no UTF-8, else None."""
     try:
         data.decode("utf-8")
@@ -180,7 +178,7 @@ def bad_character(place: Place) -> str:
     token = place.token()
     first = token.source[:1]
     if token.source[:2] in JOINERS:
-        return joiner(token.source[:2], "AND" in place.tested)
+        return instead_of_joiner(token.source[:2], "AND" in place.expected)
     if first in WITHIN_NAMES:
         return (
             f'Here is {WITHIN_NAMES[first]} within a name in double quotes. A name stands on one line, and has no'
@@ -226,7 +224,7 @@ def quote_within(place: Place) -> str:
 JOINERS = {"||": "OR", "&&": "AND"}
 
 
-def joiner(sign: str, is_behind_a_condition: bool) -> str:
+def instead_of_joiner(sign: str, is_behind_a_condition: bool) -> str:
     """What to write in place of a sign that joins conditions or texts in other languages."""
     if sign == "||" and not is_behind_a_condition:
         return (
@@ -245,18 +243,18 @@ def bad_name(source: str) -> str:
 SPOKEN = {",": "a comma", ".": "a point", ";": "a semicolon"}
 
 
-def spoken(source: str) -> str:
+def token_in_words(source: str) -> str:
     """How a sentence names a token."""
     return SPOKEN.get(source, plain(source)[:40])
 
 
-def stands(place: Place) -> str:
+def what_stands(place: Place) -> str:
     """What was read at the place, and behind which token."""
     token, before = place.token(), place.token(-1)
-    behind = f" behind {spoken(before.source)}" if before.source else ""
+    behind = f" behind {token_in_words(before.source)}" if before.source else ""
     if token.kind == "end":
         return f"The text ends here{behind}." if behind else "The text holds nothing."
-    said = spoken(token.source)
+    said = token_in_words(token.source)
     return (
         f"{said[0].upper()}{said[1:]} can't stand here{behind}." if token.source in SPOKEN
         else f"{said} can't stand here{behind}."
@@ -264,8 +262,8 @@ def stands(place: Place) -> str:
 
 
 def may_stand(place: Place) -> str:
-    tested = list(dict.fromkeys(spoken(what) for group in place.tested for what in group.split(" or ")))
-    return f"Here may stand {listed(tested, 'or', 16)}." if tested else ""
+    expected = list(dict.fromkeys(token_in_words(what) for group in place.expected for what in group.split(" or ")))
+    return f"Here may stand {series(expected, 'or', 16)}." if expected else ""
 
 
 # Functions that each give advice for a place, or None if they don't fit it.
@@ -277,7 +275,7 @@ def first_said(rules: Rules, place: Place) -> str:
     return next((said for rule in rules for said in [rule(place)] if said), "")
 
 
-def advised(place: Place, certain: Rules, guesses: Rules) -> list[str]:
+def with_advice(place: Place, certain: Rules, guesses: Rules) -> list[str]:
     """What was read, and what to do. If the advice is a guess, the list also says what may stand there."""
     said = first_said(certain, place)
-    return [stands(place), said] if said else [stands(place), first_said(guesses, place), may_stand(place)]
+    return [what_stands(place), said] if said else [what_stands(place), first_said(guesses, place), may_stand(place)]

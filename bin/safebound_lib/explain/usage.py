@@ -6,8 +6,8 @@ import re
 import shlex
 from typing import TYPE_CHECKING
 
-from ..near import hint, listed
-from ..pages import entry, places_of
+from ..near import hint, series
+from ..pages import word_with_meaning, places_of
 from ..spot import plain
 from ..table import (
     ACCURACY, BUDGET, BUSHY, BY_WORD, COMMANDS, COUNT, DATA, KEYS, MOST_BUDGET_OF_A_TREE, MOST_SEED, REDUCE, STATS,
@@ -15,7 +15,7 @@ from ..table import (
 )
 from ..terminal import columns
 from ..tokens import tokens_of
-from ..words import options, places
+from ..words import options, positional_words
 
 if TYPE_CHECKING:
     from ..faults import Fault
@@ -32,7 +32,7 @@ def explain(fault: Fault, run: Run) -> list[str]:
     command = BY_WORD.get(run.command)
     if command is None or command.is_own:
         return wrong_command(run)
-    if command.places == TEXTS and not first_strange(command, run) and with_tables(places(run.words[1:])):
+    if command.positional == TEXTS and not first_strange(command, run) and with_tables(positional_words(run.words[1:])):
         return [tables_named(command, run)]
     return [first_wrong(command, run.words[1:]) or "These words are no command.",
             f"It is: safebound {command.spelled}{may_lack(command)}",
@@ -40,13 +40,13 @@ def explain(fault: Fault, run: Run) -> list[str]:
 
 
 def may_lack(command: Command) -> str:
-    return ". Beside --data SCHEMA may be left out." if command.places == TEXTS and DATA in command.options else ""
+    return ". Beside --data SCHEMA may be left out." if command.positional == TEXTS and DATA in command.options else ""
 
 
 def line_meant(command: Command, run: Run) -> str:
     """The probable command where a schema was left out: with the only query in this folder, or in a folder below it."""
-    files = places(run.words[1:])
-    if command.places != TEXTS or len(files) > 1 or first_strange(command, run):
+    files = positional_words(run.words[1:])
+    if command.positional != TEXTS or len(files) > 1 or first_strange(command, run):
         return ""
     if not files:
         found = [name for name in os.listdir(".") if is_query(name)] if run.user_folder else []
@@ -85,13 +85,13 @@ def first_strange(command: Command, run: Run) -> list[str]:
 
 
 def overview() -> list[str]:
-    commands = "\n".join(entry(" ".join([c.word, *places_of(c)]), c.help, columns()) for c in COMMANDS)
+    commands = "\n".join(word_with_meaning(" ".join([c.word, *places_of(c)]), c.help, columns()) for c in COMMANDS)
     return [f"The commands are:\n{commands}", "`safebound help COMMAND` says more, with examples."]
 
 
 def wrong_command(run: Run) -> list[str]:
     word, words = run.command, [c.word for c in COMMANDS]
-    files = places(run.words)
+    files = positional_words(run.words)
     if 0 < len(files) < 3 and files[0] == word and all(file.lower().endswith(".sql") for file in files):
         alone = len(files) == 1 and is_query(word)
         line = (
@@ -117,11 +117,11 @@ def first_wrong(command: Command, words: list[str]) -> str | None:
         if not word.startswith("-") or word == "-":
             found.append(word)
             continue
-        if command.places == ("NUMBER",) and DIGITS.fullmatch(word[1:]):
+        if command.positional == ("NUMBER",) and DIGITS.fullmatch(word[1:]):
             found.append(word)
             continue
         if head not in options:
-            return unknown(command, head, (behind if equals else "".join(left[:1])) or "FILE")
+            return unknown_option(command, head, (behind if equals else "".join(left[:1])) or "FILE")
         value = behind if equals else left.pop(0) if options[head].value and left else None
         wrong = wrong_option(options[head], head in seen, value)
         if wrong:
@@ -134,14 +134,14 @@ def first_wrong(command: Command, words: list[str]) -> str | None:
     )
 
 
-def unknown(command: Command, word: str, behind: str) -> str:
+def unknown_option(command: Command, word: str, behind: str) -> str:
     """A sentence on an unknown option; `behind` is the word after the option."""
     if word in OUTPUTS:
         return (
             f"{command.word} has no option {plain(word)}: what it prints goes into a file behind a >, as in safebound"
             f" {command.word} .. > {plain(shlex.quote(behind))}"
         )
-    may = f"Its options are {listed(o.spelled for o in command.options)}."
+    may = f"Its options are {series(o.spelled for o in command.options)}."
     if word in FOLDERS and DATA in command.options:
         return f"{command.word} has no option {plain(word)}. Did you mean --data? {may}"
     if word in {o.word for c in COMMANDS for o in c.options}:
@@ -237,11 +237,11 @@ def with_tables(files: list[str]) -> bool:
 
 def tables_named(command: Command, run: Run) -> str:
     """What to do if table files are given after a query."""
-    query, *tables = places(run.words[1:])
+    query, *tables = positional_words(run.words[1:])
     are = "is a table" if len(tables) == 1 else "are tables"
     line = run.line_without_schema(query) if run.user_folder else line_of_query(command, query)
     return (
-        f"{plain(listed(tables))} {are}, and no line names tables: the query does. They are found in their folder, and"
+        f"{plain(series(tables))} {are}, and no line names tables: the query does. They are found in their folder, and"
         f" a schema is proposed from them:{line}"
     )
 
@@ -255,23 +255,23 @@ def line_of_query(command: Command, query: str) -> str:
 
 
 def wrong_places(command: Command, found: list[str]) -> str | None:
-    if len(found) == 1 and is_query(found[0]) and command.places == TEXTS:
+    if len(found) == 1 and is_query(found[0]) and command.positional == TEXTS:
         return (
             f"{command.word} lacks SCHEMA: {plain(found[0])} is a query. Without a schema, one is proposed from the"
             f" tables where you say in which folder they are:{line_of_query(command, found[0])}"
         )
-    if len(found) == 1 and command.places == TEXTS and re.match(r"\s*SELECT\s", found[0], re.IGNORECASE):
+    if len(found) == 1 and command.positional == TEXTS and re.match(r"\s*SELECT\s", found[0], re.IGNORECASE):
         return (
             f"{command.word} takes files, and here stands the text of a query. Write it into a file beside the tables:"
             f"\n    echo {plain(shlex.quote(found[0]))} > query.sql\n    safebound {command.word} query.sql --data ."
         )
-    if len(found) < len(command.places):
-        return f"{command.word} lacks {listed(command.places[len(found):])}."
-    if len(found) > len(command.places):
+    if len(found) < len(command.positional):
+        return f"{command.word} lacks {series(command.positional[len(found):])}."
+    if len(found) > len(command.positional):
         return (
-            f"{plain(found[len(command.places)])} is a word too many: {command.word} takes"
-            f" {listed(command.places)} alone."
+            f"{plain(found[len(command.positional)])} is a word too many: {command.word} takes"
+            f" {series(command.positional)} alone."
         )
-    if command.places == ("NUMBER",) and not (DIGITS.fullmatch(found[0]) and int(found[0][-4000:]) <= MOST_SEED):
+    if command.positional == ("NUMBER",) and not (DIGITS.fullmatch(found[0]) and int(found[0][-4000:]) <= MOST_SEED):
         return f"{plain(found[0])} is no number from 0 to {MOST_SEED:,}, in digits alone."
     return None

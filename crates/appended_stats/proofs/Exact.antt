@@ -58,22 +58,22 @@ module _ (texts : List (List ℕ)) (differ : HaveDifferentCharacters texts) (cel
   values_there column exists = values_are db in_order differ 0 (omega arith) column exists
 
   module _ (accuracy filter joined : ℕ) (has_filter : Exists filter) (has_joined : Exists joined) where
-    one : IsColumn texts cells.rows (kind_at filter) (cells_at filter)
-    one = column_there filter has_filter
+    filter_is_column : IsColumn texts cells.rows (kind_at filter) (cells_at filter)
+    filter_is_column = column_there filter has_filter
 
-    other : IsColumn texts cells.rows (kind_at joined) (cells_at joined)
-    other = column_there joined has_joined
+    joined_is_column : IsColumn texts cells.rows (kind_at joined) (cells_at joined)
+    joined_is_column = column_there joined has_joined
 
     first_same : pair_in_cells texts cells accuracy filter joined ≡ pair_in_table (tables_of_rows rows) accuracy 0 filter joined
     first_same =
-        pair_is texts differ (kind_at filter) (kind_at joined) (cells_at filter) (cells_at joined) one.cells other.cells (one.height ∙ sym other.height) accuracy filter joined
+        pair_is texts differ (kind_at filter) (kind_at joined) (cells_at filter) (cells_at joined) filter_is_column.cells joined_is_column.cells (filter_is_column.height ∙ sym joined_is_column.height) accuracy filter joined
         ∙ ap (λ (s : List Value). pair_of_values accuracy s (map (value_of_cell texts (kind_at joined)) (cells_at joined)) filter joined) (values_there filter has_filter)
         ∙ ap (λ (s : List Value). pair_of_values accuracy (values_in rows filter) s filter joined) (values_there joined has_joined)
 
     more_same : (pair : PairStats) → grown_pair (value_of_cell texts (kind_at filter)) accuracy (zip (cells_at filter) (cells_at joined)) pair
         ≡ grown_pair (value_of_row (values_in rows filter)) accuracy (paired (values_in rows filter) (values_in rows joined)) pair
     more_same pair =
-        grown_is texts differ (kind_at filter) (kind_at joined) (cells_at filter) (cells_at joined) one.cells other.cells (one.height ∙ sym other.height) accuracy pair
+        grown_is texts differ (kind_at filter) (kind_at joined) (cells_at filter) (cells_at joined) filter_is_column.cells joined_is_column.cells (filter_is_column.height ∙ sym joined_is_column.height) accuracy pair
         ∙ ap (λ (s : List Value). grown_pair (value_of_row s) accuracy (paired s (map (value_of_cell texts (kind_at joined)) (cells_at joined))) pair) (values_there filter has_filter)
         ∙ ap (λ (s : List Value). grown_pair (value_of_row (values_in rows filter)) accuracy (paired (values_in rows filter) s) pair) (values_there joined has_joined)
 

@@ -13,20 +13,20 @@ use Rattle.std.proofs.lemmas.Option.{get_or_from_slice_get, none-some}
 use Rattle.degree_sequences.specs.ByRank.{rank_maximum}
 use Rattle.degree_sequences.specs.Compression.{compressed}
 use Rattle.degree_sequences.specs.Degrees.{degree, degree_list}
-use Rattle.degree_sequences.specs.RunningSums.{cut_at}
+use Rattle.degree_sequences.specs.RunningSums.{capped_at}
 use Rattle.cond_stats.specs.Lists.{greatest, keys_with, maxima}
 use Rattle.cond_stats.specs.Rows.{filter_values}
 use Rattle.cond_stats.proofs.Maxima.{greatest-le, greatest-push, maxima-push}
 use Rattle.cond_stats.proofs.Members.{length-keys_where}
-use Rattle.cond_stats.proofs.Sums.{sum-cut_at}
-use Rattle.level_bounds.proofs.Lists.{map_both}
+use Rattle.cond_stats.proofs.Sums.{sum-capped_at}
+use Rattle.level_bounds.proofs.Lists.{map_of_map}
 use Rattle.degree_sequences.specs.Saturation.{saturated}
 use Rattle.appended_stats.specs.Grown.{list_for_any_of}
 use Rattle.appended_stats.proofs.Small.{all_small_degrees, saturated_small, small_degrees, small_maxima, small_maximum}
 use Rattle.appended_stats.proofs.Walks.{no_key_more, one_key_more}
 
-pub nowhere : (cell : ℕ) (cells : List ℕ) → position (nat_eq cell) cells ≡ None → (k : ℕ) → k < length cells → nat_eq cell (get_or cells k 0) ≡ false
-nowhere cell cells missing k low = elim (cases_lt (position_or_len (nat_eq cell) cells) (length cells)) [
+pub cell_not_found : (cell : ℕ) (cells : List ℕ) → position (nat_eq cell) cells ≡ None → (k : ℕ) → k < length cells → nat_eq cell (get_or cells k 0) ≡ false
+cell_not_found cell cells missing k low = elim (cases_lt (position_or_len (nat_eq cell) cells) (length cells)) [
   | inl found ↦ absurd (none-some (position_or_len (nat_eq cell) cells) (sym missing ∙ ap (λ (b : Bool). cond b (Some (position_or_len (nat_eq cell) cells)) None) (lt-ltb (position_or_len (nat_eq cell) cells) (length cells) found)))
   | inr past ↦ fails_before_first (nat_eq cell) cells k 0 (omega (arith, past, low))
 ]
@@ -37,9 +37,9 @@ module _ (others column joined : List ℕ) (apart : IsDistinct nat_eq others) (s
   AreGrouped i groups = (length groups ≡ length others)
       × ((k : ℕ) → k < length others → get_or groups k [] ≡ keys_with (get_or others k 0) (zip (take i column) (take i joined)))
 
-  pub one_grouped : (before new : List (List ℕ)) (i place key : ℕ) → i < length column → AreGrouped i before → position (nat_eq (get_or column i 0)) others ≡ Some place
+  pub row_with_group : (before new : List (List ℕ)) (i place key : ℕ) → i < length column → AreGrouped i before → position (nat_eq (get_or column i 0)) others ≡ Some place
       → key ≡ get_or joined i 0 → new ≡ set before place (get_or before place [] ++ key ∷ []) → AreGrouped (i + 1) new
-  one_grouped before new i place key low are found is put =
+  row_with_group before new i place key low are found is put =
       let cell : ℕ = get_or column i 0 in
       let at = position-Some (nat_eq cell) others place 0 found in
       let mine : cell ≡ get_or others place 0 = eqb-true cell (get_or others place 0) at.1 in
@@ -70,17 +70,17 @@ module _ (others column joined : List ℕ) (apart : IsDistinct nat_eq others) (s
         | inr not_below ↦ (let above : b < a = omega_below a b not_below other in all_apart b a 0 above low (sym e))
       ]
 
-  pub none_grouped : (before new : List (List ℕ)) (i : ℕ) → i < length column → AreGrouped i before → position (nat_eq (get_or column i 0)) others ≡ None
+  pub row_without_group : (before new : List (List ℕ)) (i : ℕ) → i < length column → AreGrouped i before → position (nat_eq (get_or column i 0)) others ≡ None
       → new ≡ before → AreGrouped (i + 1) new
-  none_grouped before new i low are missing is = (
+  row_without_group before new i low are missing is = (
     ap (λ s. length s) is ∙ are.0,
     λ k below.
-        let other : nat_eq (get_or column i 0) (get_or others k 0) ≡ false = nowhere (get_or column i 0) others missing k below in
+        let other : nat_eq (get_or column i 0) (get_or others k 0) ≡ false = cell_not_found (get_or column i 0) others missing k below in
         no_key_more (λ other. eqb other (get_or others k 0)) column joined (get_or before k []) (get_or new k []) i low same (are.1 k below) other (ap (λ s. get_or s k []) is),
   )
 
-  pub all_grouped : (groups : List (List ℕ)) (i : ℕ) → length column ≤ i → AreGrouped i groups → groups ≡ map (λ cell. keys_with cell (zip column joined)) others
-  all_grouped groups i past are =
+  pub groups_complete : (groups : List (List ℕ)) (i : ℕ) → length column ≤ i → AreGrouped i groups → groups ≡ map (λ cell. keys_with cell (zip column joined)) others
+  groups_complete groups i past are =
       let made : ℕ → List ℕ = λ cell. keys_with cell (zip column joined) in
       let left : take i column ≡ column = take_all i column past in
       let right : take i joined ≡ joined = take_all i joined (omega (arith, past, same)) in
@@ -110,11 +110,11 @@ pub group_is : (groups : List (List ℕ)) (i : ℕ) (keys : List ℕ) → i < le
 group_is groups i keys low is = is ∙ get_or_default groups i keys [] low
 
 abbrev pub list_of_groups : ℕ → List (List ℕ) → List ℕ
-list_of_groups accuracy groups = compressed accuracy (cut_at (maxima (map degree_list groups)) (greatest (map (λ (keys : List ℕ). length keys) groups)))
+list_of_groups accuracy groups = compressed accuracy (capped_at (maxima (map degree_list groups)) (greatest (map (λ (keys : List ℕ). length keys) groups)))
 
-module _ (groups : List (List ℕ)) (few : All (λ (keys : List ℕ). length keys < 2 ^ 32) groups) where
-  all_few : (i : ℕ) → AllByRecursion (λ (keys : List ℕ). length keys < 2 ^ 64) (take i groups)
-  all_few i = weaker (take i groups) (recursion_from_All (λ (keys : List ℕ). length keys < 2 ^ 32) (take i groups) (All-take (λ (keys : List ℕ). length keys < 2 ^ 32) i groups few))
+module _ (groups : List (List ℕ)) (all_below_2_32 : All (λ (keys : List ℕ). length keys < 2 ^ 32) groups) where
+  all_groups_below_2_64 : (i : ℕ) → AllByRecursion (λ (keys : List ℕ). length keys < 2 ^ 64) (take i groups)
+  all_groups_below_2_64 i = weaker (take i groups) (recursion_from_All (λ (keys : List ℕ). length keys < 2 ^ 32) (take i groups) (All-take (λ (keys : List ℕ). length keys < 2 ^ 32) i groups all_below_2_32))
     where
       weaker : (gs : List (List ℕ)) → AllByRecursion (λ (keys : List ℕ). length keys < 2 ^ 32) gs → AllByRecursion (λ (keys : List ℕ). length keys < 2 ^ 64) gs
       weaker [] all = tt
@@ -132,8 +132,8 @@ module _ (groups : List (List ℕ)) (few : All (λ (keys : List ℕ). length key
       let keys : List ℕ = get_or groups i [] in
       raised ∙ ap (λ s. map saturated (rank_maximum s degrees)) are ∙ ap (λ s. map saturated (rank_maximum (maxima_to i) s)) is
       ∙ saturated_small (rank_maximum (maxima_to i) (degree_list keys))
-      (small_maximum (maxima_to i) (degree_list keys) (small_maxima (map degree_list (take i groups)) (all_small_degrees (take i groups) (all_few i)))
-      (small_degrees keys (omega (arith, few i [] low))))
+      (small_maximum (maxima_to i) (degree_list keys) (small_maxima (map degree_list (take i groups)) (all_small_degrees (take i groups) (all_groups_below_2_64 i)))
+      (small_degrees keys (omega (arith, all_below_2_32 i [] low))))
       ∙ sym (maxima-push (map degree_list (take i groups)) (degree_list keys)) ∙ ap maxima (sym (map_push degree_list (take i groups) keys))
       ∙ ap (λ s. maxima (map degree_list s)) (sym (take_more groups i [] low))
 
@@ -147,16 +147,16 @@ module _ (groups : List (List ℕ)) (few : All (λ (keys : List ℕ). length key
   pub greatest_small : (i : ℕ) → greatest_to i ≤ 2 ^ 32
   greatest_small i =
       greatest-le (λ (keys : List ℕ). length keys) (take i groups) (2 ^ 32)
-      (λ k d low. omega (arith, All-take (λ (keys : List ℕ). length keys < 2 ^ 32) i groups few k d low))
+      (λ k d low. omega (arith, All-take (λ (keys : List ℕ). length keys < 2 ^ 32) i groups all_below_2_32 k d low))
 
-  pub capped_small : (i : ℕ) (maxima_are capped : List ℕ) (most : ℕ) → most ≡ greatest_to i → capped ≡ cut_at maxima_are most → sum capped ≤ 2 ^ 48
-  capped_small i maxima_are capped most is cut = omega (arith, ap sum cut, sum-cut_at maxima_are most, is, greatest_small i)
+  pub capped_small : (i : ℕ) (maxima_are capped : List ℕ) (most : ℕ) → most ≡ greatest_to i → capped ≡ capped_at maxima_are most → sum capped ≤ 2 ^ 48
+  capped_small i maxima_are capped most is cut = omega (arith, ap sum cut, sum-capped_at maxima_are most, is, greatest_small i)
 
-  pub whole_list : (accuracy i : ℕ) (maxima_are capped list : List ℕ) (most : ℕ) → length groups ≤ i → maxima_are ≡ maxima_to i → most ≡ greatest_to i → capped ≡ cut_at maxima_are most
+  pub whole_list : (accuracy i : ℕ) (maxima_are capped list : List ℕ) (most : ℕ) → length groups ≤ i → maxima_are ≡ maxima_to i → most ≡ greatest_to i → capped ≡ capped_at maxima_are most
       → list ≡ compressed accuracy capped → list ≡ list_of_groups accuracy groups
   whole_list accuracy i maxima_are capped list most past are is cut made =
       let all : take i groups ≡ groups = take_all i groups past in
-      made ∙ ap (compressed accuracy) (cut ∙ ap (λ s. cut_at s most) are ∙ ap (cut_at (maxima_to i)) is)
+      made ∙ ap (compressed accuracy) (cut ∙ ap (λ s. capped_at s most) are ∙ ap (capped_at (maxima_to i)) is)
       ∙ ap (λ (s : List (List ℕ)). list_of_groups accuracy s) all
 
 -- ---- the groups of the cells in `others` have the keys of these cells' rows
@@ -165,17 +165,17 @@ pub groups_are : (accuracy : ℕ) (rows : List (ℕ × ℕ)) (others : List ℕ)
     → list_of_groups accuracy groups ≡ list_for_any_of accuracy rows others
 groups_are accuracy rows others groups are =
     ap (list_of_groups accuracy) are
-    ∙ ap (λ (s : List (List ℕ)). compressed accuracy (cut_at (maxima s) (greatest (map (λ (keys : List ℕ). length keys) (map (λ cell. keys_with cell rows) others)))))
-    (map_both degree_list (λ cell. keys_with cell rows) (λ value. degree_list (keys_with value rows)) (λ value. refl) others)
-    ∙ ap (λ (s : List ℕ). compressed accuracy (cut_at (maxima (map (λ value. degree_list (keys_with value rows)) others)) (greatest s)))
-    (map_both (λ (keys : List ℕ). length keys) (λ cell. keys_with cell rows) (degree (filter_values rows)) (λ value. length-keys_where (λ other. eqb other value) rows) others)
+    ∙ ap (λ (s : List (List ℕ)). compressed accuracy (capped_at (maxima s) (greatest (map (λ (keys : List ℕ). length keys) (map (λ cell. keys_with cell rows) others)))))
+    (map_of_map degree_list (λ cell. keys_with cell rows) (λ value. degree_list (keys_with value rows)) (λ value. refl) others)
+    ∙ ap (λ (s : List ℕ). compressed accuracy (capped_at (maxima (map (λ value. degree_list (keys_with value rows)) others)) (greatest s)))
+    (map_of_map (λ (keys : List ℕ). length keys) (λ cell. keys_with cell rows) (degree (filter_values rows)) (λ value. length-keys_where (λ other. eqb other value) rows) others)
 
-pub groups_few : (rows : List (ℕ × ℕ)) (others : List ℕ) (groups : List (List ℕ)) → length rows < 2 ^ 32 → groups ≡ map (λ cell. keys_with cell rows) others
+pub all_groups_below_2_32 : (rows : List (ℕ × ℕ)) (others : List ℕ) (groups : List (List ℕ)) → length rows < 2 ^ 32 → groups ≡ map (λ cell. keys_with cell rows) others
     → All (λ (keys : List ℕ). length keys < 2 ^ 32) groups
-groups_few rows others groups few are =
+all_groups_below_2_32 rows others groups all_below_2_32 are =
     subst (All (λ (keys : List ℕ). length keys < 2 ^ 32)) (sym are)
     (λ k d low.
     let within : k < length others = omega (arith, low, length-map others (λ cell. keys_with cell rows)) in
     let value : ℕ = get_or others k 0 in
     subst (λ (keys : List ℕ). length keys < 2 ^ 32) (sym (get_or-map (λ cell. keys_with cell rows) others k 0 d within))
-    (omega (arith, length-keys_where (λ other. eqb other value) rows, count_by-le-length (λ other. eqb other value) (filter_values rows), length-map rows (λ (row : ℕ × ℕ). row.0), few)))
+    (omega (arith, length-keys_where (λ other. eqb other value) rows, count_by-le-length (λ other. eqb other value) (filter_values rows), length-map rows (λ (row : ℕ × ℕ). row.0), all_below_2_32)))

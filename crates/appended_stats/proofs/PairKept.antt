@@ -15,19 +15,19 @@ use Rattle.csv_tables.specs.Values.{Value}
 use Rattle.degree_sequences.specs.ByRank.{rank_sum}
 use Rattle.degree_sequences.specs.Degrees.{degree, different}
 use Rattle.degree_sequences.proofs.ByRank.{sum-rank_sum}
-use Rattle.level_bounds.proofs.Lists.{map_both}
+use Rattle.level_bounds.proofs.Lists.{map_of_map}
 use Rattle.schema_types.specs.declared.types.Kind.{Kind}
 use Rattle.schema_types.specs.declared.types.Table.{Table}
 use Rattle.stats_file.specs.declared.types.Datum.{Datum}
 use Rattle.stats_file.specs.declared.types.Datum.TheVariants as datum
 use Rattle.stats_file.specs.declared.types.PairStats.{PairStats}
-use Rattle.stats_file.specs.Rules.{Agree, AreFrequent, HaveSameFilterCounts, IsList, IsOfKind, IsPair, IsHistogram, IsHistogramOf}
+use Rattle.stats_file.specs.Rules.{PairsAgree, AreFrequent, HaveSameFilterCounts, IsList, IsOfKind, IsPair, IsHistogram, IsHistogramOf}
 use Rattle.stats_file_of_query.specs.Data.{value_of}
 use Rattle.stats_file_of_query.specs.Standing.{is_value, leaf_of_value}
 use Rattle.stats_file_of_query.proofs.Agreeing.{whole_same}
-use Rattle.stats_file_of_query.proofs.Lists.{where_listed, whole_listed}
+use Rattle.stats_file_of_query.proofs.Lists.{where_list_is_valid, whole_list_is_valid}
 use Rattle.appended_stats.specs.Grown.{grown_pair, is_frequent, list_for_any_of, list_with, lists_of_nodes, other_values, rank_sums, with_new_rows}
-use Rattle.appended_stats.proofs.NewLists.{added_listed, all_added_listed, any_listed, node_counts, nodes_listed, nodes_many, sum-list_for_any_of, sums_many, sums_of_sums}
+use Rattle.appended_stats.proofs.NewLists.{sum_is_valid, all_sums_are_valid, any_list_is_valid, node_counts, node_lists_are_valid, node_count, sum-list_for_any_of, sums_count, sums_of_sums}
 
 pub nodes_all : (kd : Kind) (n : ℕ) (cuts : List Datum) (nodes : List (List ℕ)) → 0 < n → IsHistogramOf kd n cuts nodes → length nodes ≡ 63
 nodes_all kd zero cuts nodes some is = absurd (omega (arith, some))
@@ -45,19 +45,19 @@ module _ (of_row : ℕ → Value) (k : ℕ) (rows : List (ℕ × ℕ)) where
   abbrev grown_one : Datum × List ℕ → Datum × List ℕ
   grown_one = with_new_rows of_row k rows
 
-  with_listed : (value : Datum) → IsList new (list_with of_row k rows value)
-  with_listed value = where_listed k new rows (omega arith) (λ n. is_value (of_row n) value)
+  value_list_is_valid : (value : Datum) → IsList new (list_with of_row k rows value)
+  value_list_is_valid value = where_list_is_valid k new rows (omega arith) (λ n. is_value (of_row n) value)
 
   frequent_kept : (kd : Kind) (n : ℕ) (frequent : List (Datum × List ℕ)) → AreFrequent kd n frequent → AreFrequent kd (n + new) (map grown_one frequent)
   frequent_kept kd n frequent are = record {
-    few = omega (arith, are.few, length-map frequent grown_one);
+    within_limit = omega (arith, are.within_limit, length-map frequent grown_one);
     differ = λ i j d before low.
         let within : j < length frequent = omega (arith, low, length-map frequent grown_one) in
         let at : (p : ℕ) → p < length frequent → (get_or (map grown_one frequent) p d).0 ≡ (get_or frequent p d).0 = λ p below. ap (λ (f : Datum × List ℕ). f.0) (get_or-map grown_one frequent p d d below) in
         λ same. are.differ i j d before within (sym (at i (omega (arith, before, within))) ∙ same ∙ at j within);
     values = All-map (λ (f : Datum × List ℕ). IsOfKind kd f.0) grown_one frequent are.values;
     lists = All-map (λ (f : Datum × List ℕ). IsList (n + new) f.1) grown_one frequent
-        (λ i d low. added_listed n new (get_or frequent i d).1 (list_with of_row k rows (get_or frequent i d).0) (are.lists i d low) (with_listed (get_or frequent i d).0));
+        (λ i d low. sum_is_valid n new (get_or frequent i d).1 (list_with of_row k rows (get_or frequent i d).0) (are.lists i d low) (value_list_is_valid (get_or frequent i d).0));
   }
 
   some_tree : (kd : Kind) (n : ℕ) (cuts : List Datum) (nodes : List (List ℕ)) (leaf : ℕ → ℕ) → IsHistogram kd n cuts nodes → IsHistogram kd (n + new) cuts (rank_sums nodes (lists_of_nodes leaf k rows))
@@ -65,10 +65,10 @@ module _ (of_row : ℕ → Value) (k : ℕ) (rows : List (ℕ × ℕ)) where
     leaves = is.leaves;
     values = is.values;
     order = is.order;
-    all = sums_many nodes (lists_of_nodes leaf k rows) is.all (nodes_many k rows leaf);
+    all = sums_count nodes (lists_of_nodes leaf k rows) is.all (node_count k rows leaf);
     lists = All-from_recursion (IsList (n + new)) (rank_sums nodes (lists_of_nodes leaf k rows))
-        (all_added_listed n new nodes (lists_of_nodes leaf k rows) (recursion_from_All (IsList n) nodes is.lists)
-        (recursion_from_All (IsList new) (lists_of_nodes leaf k rows) (nodes_listed k rows leaf)));
+        (all_sums_are_valid n new nodes (lists_of_nodes leaf k rows) (recursion_from_All (IsList n) nodes is.lists)
+        (recursion_from_All (IsList new) (lists_of_nodes leaf k rows) (node_lists_are_valid k rows leaf)));
   }
 
   tree_kept : (kd : Kind) (n : ℕ) (cuts : List Datum) (nodes : List (List ℕ)) (leaf : ℕ → ℕ) → 0 < n → IsHistogramOf kd n cuts nodes
@@ -84,10 +84,10 @@ module _ (of_row : ℕ → Value) (k : ℕ) (rows : List (ℕ × ℕ)) where
     filter = is.filter;
     filter_is = is.filter_is;
     joined = is.joined;
-    whole = added_listed n new pair.whole (whole k rows) is.whole (whole_listed k new rows (omega arith));
+    whole = sum_is_valid n new pair.whole (whole k rows) is.whole (whole_list_is_valid k new rows (omega arith));
     all_rows = omega (arith, sum-rank_sum pair.whole (whole k rows), is.all_rows, sum-whole k rows);
     frequent = frequent_kept is.filter.kind n pair.frequent is.frequent;
-    rest = added_listed n new pair.rest (list_for_any_of k rows (other_values of_row rows pair.frequent)) is.rest (any_listed k rows (other_values of_row rows pair.frequent));
+    rest = sum_is_valid n new pair.rest (list_for_any_of k rows (other_values of_row rows pair.frequent)) is.rest (any_list_is_valid k rows (other_values of_row rows pair.frequent));
     tree = tree_kept is.filter.kind n pair.cuts pair.nodes (λ m. leaf_of_value pair (of_row m)) some is.tree;
   }
 
@@ -129,22 +129,22 @@ module _ (of_row : ℕ → Value) (k : ℕ) (rows others : List (ℕ × ℕ)) (s
   totals_are : (pairs : List (ℕ × ℕ)) (frequent : List (Datum × List ℕ))
       → totals_of (map (with_new_rows of_row k pairs) frequent) ≡ map (λ (f : Datum × List ℕ). sum f.1 + count_of (filter_values pairs) f.0) frequent
   totals_are pairs frequent =
-      map_both (λ (f : Datum × List ℕ). sum f.1) (with_new_rows of_row k pairs) (λ (f : Datum × List ℕ). sum f.1 + count_of (filter_values pairs) f.0)
+      map_of_map (λ (f : Datum × List ℕ). sum f.1) (with_new_rows of_row k pairs) (λ (f : Datum × List ℕ). sum f.1 + count_of (filter_values pairs) f.0)
       (λ f. sum-rank_sum f.1 (list_with of_row k pairs f.0)
       ∙ ap (λ n. sum f.1 + n) (sum-compressed_degrees k (keys_where (λ n. is_value (of_row n) f.0) pairs) ∙ length-keys_where (λ n. is_value (of_row n) f.0) pairs)) frequent
 
   values_kept : (pairs : List (ℕ × ℕ)) (frequent : List (Datum × List ℕ)) → values_of (map (with_new_rows of_row k pairs) frequent) ≡ values_of frequent
-  values_kept pairs frequent = map_both (λ (f : Datum × List ℕ). f.0) (with_new_rows of_row k pairs) (λ (f : Datum × List ℕ). f.0) (λ f. refl) frequent
+  values_kept pairs frequent = map_of_map (λ (f : Datum × List ℕ). f.0) (with_new_rows of_row k pairs) (λ (f : Datum × List ℕ). f.0) (λ f. refl) frequent
 
   abbrev others_by : List Datum → List ℕ → List ℕ
   others_by values column = different (filter (λ n. not (list_any (is_value (of_row n)) values)) column)
 
   others_are : (pairs : List (ℕ × ℕ)) (frequent : List (Datum × List ℕ)) → other_values of_row pairs frequent ≡ others_by (values_of frequent) (filter_values pairs)
-  others_are pairs frequent = ap different (kept (filter_values pairs))
+  others_are pairs frequent = ap different (same_other_values (filter_values pairs))
     where
-      kept : (ns : List ℕ) → filter (λ n. not (is_frequent frequent (of_row n))) ns ≡ filter (λ n. not (list_any (is_value (of_row n)) (values_of frequent))) ns
-      kept [] = refl
-      kept (n ∷ ns) = rw (any_by_value (of_row n) frequent, kept ns) refl
+      same_other_values : (ns : List ℕ) → filter (λ n. not (is_frequent frequent (of_row n))) ns ≡ filter (λ n. not (list_any (is_value (of_row n)) (values_of frequent))) ns
+      same_other_values [] = refl
+      same_other_values (n ∷ ns) = rw (any_by_value (of_row n) frequent, same_other_values ns) refl
 
   rest_total : (pairs : List (ℕ × ℕ)) (pair : PairStats) → sum (grown_pair of_row k pairs pair).rest
       ≡ sum pair.rest + greatest (map (degree (filter_values pairs)) (others_by (values_of pair.frequent) (filter_values pairs)))

@@ -17,20 +17,20 @@ use Rattle.column_stats.specs.Pairs.{cells_of_column, kind_of_column}
 use Rattle.degree_sequences.specs.ByRank.{rank_sum}
 use Rattle.degree_sequences.specs.Compression.{compressed}
 use Rattle.degree_sequences.specs.Degrees.{degree_list}
-use Rattle.relabelling_laws.proofs.Rows.{columns_are}
+use Rattle.relabelling_laws.proofs.Rows.{zip_of_columns}
 use Rattle.sql_meaning.specs.Databases.{AreCells}
 use Rattle.stats_file.specs.declared.types.Datum.{Datum}
 use Rattle.stats_file.specs.declared.types.PairStats.{PairStats}
 use Rattle.stats_file.specs.Rules.{IsList}
 use Rattle.stats_file_of_query.specs.Standing.{leaf_of_value}
-use Rattle.stats_file_of_query.proofs.Made.{are_its, its_cells, its_height, its_kind}
+use Rattle.stats_file_of_query.proofs.Made.{are_its, its_cells, column_length, its_kind}
 use Rattle.stats_file_of_query.proofs.SameValues.{same_parts}
 use Rattle.appended_stats.specs.Cells.{grown_by_cells}
 use Rattle.appended_stats.specs.Conditions.{MayGrow}
 use Rattle.appended_stats.specs.Grown.{grown_pair, list_for_any_of, lists_of_nodes, other_values, rank_sums, with_new_rows}
-use Rattle.appended_stats.proofs.NewLists.{any_listed, nodes_listed, nodes_many}
+use Rattle.appended_stats.proofs.NewLists.{any_list_is_valid, node_lists_are_valid, node_count}
 
--- the code puts the rows' leaves beside their keys once, and then makes the list of a node without the rows' values
+-- the code pairs each row's leaf with its key once; each node's list is then made from these pairs alone
 by_leaf : (p : ℕ → Bool) (f : ℕ → ℕ) (column joined : List ℕ) → keys_where p (zip (map f column) joined) ≡ keys_where (λ v. p (f v)) (zip column joined)
 by_leaf p f [] joined = refl
 by_leaf p f (v ∷ column) [] = refl
@@ -68,19 +68,19 @@ module _ {texts : List (List ℕ)} {cells : Cells} {pair : PairStats} {kd : Kind
   all_cells = are_its texts cells is.are pair.filter is.may.filter kd values is.kind_is is.values_are
 
   height : length values ≡ cells.rows
-  height = its_height texts cells is.are pair.filter is.may.filter values is.values_are
+  height = column_length texts cells is.are pair.filter is.may.filter values is.values_are
 
-  pub as_high : length keys ≡ length values
-  as_high = its_height texts cells is.are pair.joined is.may.joined keys is.keys_are ∙ sym height
+  pub same_lengths : length keys ≡ length values
+  same_lengths = column_length texts cells is.are pair.joined is.may.joined keys is.keys_are ∙ sym height
 
-  pub few : length values < 2 ^ 32
-  few = omega (arith, height, is.may.rows)
+  pub fewer_than_2_32 : length values < 2 ^ 32
+  fewer_than_2_32 = omega (arith, height, is.may.rows)
 
-  pub few_keys : length keys < 2 ^ 32
-  few_keys = omega (arith, as_high, few)
+  pub fewer_keys_than_2_32 : length keys < 2 ^ 32
+  fewer_keys_than_2_32 = omega (arith, same_lengths, fewer_than_2_32)
 
-  rows_few : length (zip values keys) < 2 ^ 32
-  rows_few = omega (arith, length-zip values keys, as_high, few)
+  fewer_rows_than_2_32 : length (zip values keys) < 2 ^ 32
+  fewer_rows_than_2_32 = omega (arith, length-zip values keys, same_lengths, fewer_than_2_32)
 
   pub frequent_small : All (λ (found : Datum × List ℕ). sum found.1 < 2 ^ 64) pair.frequent
   frequent_small i d low = omega (arith, is.may.frequent i d low)
@@ -96,7 +96,7 @@ module _ {texts : List (List ℕ)} {cells : Cells} {pair : PairStats} {kd : Kind
     of_cell cell = value_of_cell texts kd cell
 
     pub rest_small : (others : List ℕ) (list : List ℕ) → list ≡ list_for_any_of k rows others → sum list < 2 ^ 64
-    rest_small others list made = omega (arith, ap sum made, (any_listed k rows others).within, rows_few)
+    rest_small others list made = omega (arith, ap sum made, (any_list_is_valid k rows others).within, fewer_rows_than_2_32)
 
     abbrev leaf : ℕ → ℕ
     leaf cell = leaf_of_value pair (value_of_cell texts kd cell)
@@ -104,22 +104,22 @@ module _ {texts : List (List ℕ)} {cells : Cells} {pair : PairStats} {kd : Kind
     nodes_are : (leaves : List ℕ) (lists : List (List ℕ)) → leaves ≡ map leaf values → lists ≡ lists_of_nodes (λ l. l) k (zip leaves keys) → lists ≡ lists_of_nodes leaf k rows
     nodes_are leaves lists of made = made ∙ ap (λ (s : List ℕ). lists_of_nodes (λ l. l) k (zip s keys)) of ∙ nodes_by_leaf k leaf values keys
 
-    pub leaves_high : (leaves : List ℕ) → leaves ≡ map leaf values → length keys ≡ length leaves
-    leaves_high leaves of = omega (arith, ap (λ (s : List ℕ). length s) of, length-map values leaf, as_high)
+    pub leaves_length : (leaves : List ℕ) → leaves ≡ map leaf values → length keys ≡ length leaves
+    leaves_length leaves of = omega (arith, ap (λ (s : List ℕ). length s) of, length-map values leaf, same_lengths)
 
-    pub leaves_few : (leaves : List ℕ) → leaves ≡ map leaf values → length leaves < 2 ^ 32
-    leaves_few leaves of = omega (arith, ap (λ (s : List ℕ). length s) of, length-map values leaf, few)
+    pub fewer_leaves_than_2_32 : (leaves : List ℕ) → leaves ≡ map leaf values → length leaves < 2 ^ 32
+    fewer_leaves_than_2_32 leaves of = omega (arith, ap (λ (s : List ℕ). length s) of, length-map values leaf, fewer_than_2_32)
 
     pub as_many : (leaves : List ℕ) (lists read own : List (List ℕ)) → leaves ≡ map leaf values → lists ≡ lists_of_nodes (λ l. l) k (zip leaves keys) → read ≡ lists → own ≡ pair.nodes
         → length read ≡ length own
     as_many leaves lists read own of made same also =
-        omega (arith, ap (λ (s : List (List ℕ)). length s) (same ∙ nodes_are leaves lists of made), nodes_many k rows leaf, is.may.nodes_many (omega arith), ap (λ (s : List (List ℕ)). length s) also)
+        omega (arith, ap (λ (s : List (List ℕ)). length s) (same ∙ nodes_are leaves lists of made), node_count k rows leaf, is.may.node_count (omega arith), ap (λ (s : List (List ℕ)). length s) also)
 
     pub nodes_small : (leaves : List ℕ) (lists read : List (List ℕ)) → leaves ≡ map leaf values → lists ≡ lists_of_nodes (λ l. l) k (zip leaves keys) → read ≡ lists
         → All (λ (list : List ℕ). sum list < 2 ^ 64) read
     nodes_small leaves lists read of made same =
         subst (All (λ (list : List ℕ). sum list < 2 ^ 64)) (sym (same ∙ nodes_are leaves lists of made))
-        (λ i d low. omega (arith, (nodes_listed k rows leaf i d low).within, rows_few))
+        (λ i d low. omega (arith, (node_lists_are_valid k rows leaf i d low).within, fewer_rows_than_2_32))
 
     pub pair_made : (all rest w o : List ℕ) (frequent : List (Datum × List ℕ)) (leaves : List ℕ) (lists read own nodes : List (List ℕ)) (often : List (Datum × List ℕ))
         → w ≡ compressed_degrees k keys → all ≡ rank_sum pair.whole w → often ≡ pair.frequent → o ≡ list_for_any_of k rows (other_values of_cell rows often) → rest ≡ rank_sum pair.rest o
@@ -127,7 +127,7 @@ module _ {texts : List (List ℕ)} {cells : Cells} {pair : PairStats} {kd : Kind
         → frequent ≡ map (with_new_rows of_cell k rows) pair.frequent
         → (let p : PairStats = record { filter = pair.filter; joined = pair.joined; whole = all; frequent = frequent; rest = rest; cuts = pair.cuts; nodes = nodes } in p) ≡ grown_by_cells texts cells k pair
     pair_made all rest w o frequent leaves lists read own nodes often w_is all_is often_is o_is rest_is leaves_are lists_are read_is own_is nodes_is frequent_is =
-        let second : keys ≡ joined_keys rows = sym (columns_are values keys (sym as_high)).1 in
+        let second : keys ≡ joined_keys rows = sym (zip_of_columns values keys (sym same_lengths)).1 in
         same_parts pair.filter pair.joined all (grown_pair of_cell k rows pair).whole rest (grown_pair of_cell k rows pair).rest frequent (grown_pair of_cell k rows pair).frequent pair.cuts pair.cuts
         nodes (grown_pair of_cell k rows pair).nodes
         (all_is ∙ ap (rank_sum pair.whole) (w_is ∙ ap (compressed_degrees k) second)) frequent_is

@@ -13,21 +13,21 @@ use Rattle.column_stats.specs.Nodes.{node_sizes}
 use Rattle.degree_sequences.specs.ByRank.{rank_sum}
 use Rattle.degree_sequences.specs.Compression.{compressed}
 use Rattle.degree_sequences.specs.Degrees.{degree, degree_list, different}
-use Rattle.degree_sequences.specs.RunningSums.{cut_at}
+use Rattle.degree_sequences.specs.RunningSums.{capped_at}
 use Rattle.degree_sequences.proofs.Counting.{All-filter}
 use Rattle.level_bounds.specs.Keys.{HaveDifferentCharacters}
 use Rattle.level_bounds.proofs.CellKeys.{equal_cells}
 use Rattle.relabelling_laws.specs.Relabelling.{IsOneToOne}
-use Rattle.relabelling_laws.proofs.Columns.{its_own, keeps}
+use Rattle.relabelling_laws.proofs.Columns.{column_contains_each, equality_is_kept}
 use Rattle.relabelling_laws.proofs.Mapped.{All-different, degree-mapped, different-mapped, filter-mapped, map-mapped}
-use Rattle.relabelling_laws.proofs.Rows.{columns_are, whole_is}
-use Rattle.relabelling_laws.proofs.RowsMapped.{All-zip, OfRow, degrees-mapped, zip-renamed}
+use Rattle.relabelling_laws.proofs.Rows.{zip_of_columns, whole_list_unchanged}
+use Rattle.relabelling_laws.proofs.RowsMapped.{All-zip, RowSatisfies, degrees-mapped, zip-relabelled}
 use Rattle.stats_file.specs.declared.types.Datum.{Datum}
 use Rattle.stats_file.specs.declared.types.PairStats.{PairStats}
 use Rattle.table_stats.specs.Columns.{as_first_rows, paired, value_of_row}
 use Rattle.table_stats.proofs.CellColumns.{cell_values, number_of, numbers_of_cells, one_to_one}
 use Rattle.table_stats.proofs.EqualValues.{equal_itself, is_equal}
-use Rattle.table_stats.proofs.FirstRows.{first_has, first_there}
+use Rattle.table_stats.proofs.FirstRows.{first_has, first_row_exists}
 use Rattle.stats_file_of_query.specs.Standing.{is_value, leaf_of_value}
 use Rattle.stats_file_of_query.proofs.SameValues.{same_parts}
 use Rattle.appended_stats.specs.Grown.{grown_pair, is_frequent, list_for_any_of, lists_of_nodes, lists_of_size, other_values, rank_sums, with_new_rows}
@@ -36,7 +36,7 @@ abbrev with_list : Datum × List ℕ → List ℕ → Datum × List ℕ
 with_list found s = (found.0, s)
 
 module _ (texts : List (List ℕ)) (differ : HaveDifferentCharacters texts) (kind other : Kind) (column joined : List ℕ)
-    (are_column : All (IsCell texts kind) column) (are_joined : All (IsCell texts other) joined) (high : length column ≡ length joined) (accuracy : ℕ) where
+    (are_column : All (IsCell texts kind) column) (are_joined : All (IsCell texts other) joined) (same_length : length column ≡ length joined) (accuracy : ℕ) where
   abbrev filters : List Value
   filters = cell_values texts differ kind column are_column
 
@@ -66,23 +66,23 @@ module _ (texts : List (List ℕ)) (differ : HaveDifferentCharacters texts) (kin
       ap (λ (s : List ℕ). zip s (as_first_rows keys)) (numbers_of_cells texts differ kind column are_column)
       ∙ ap (λ (s : List ℕ). zip (map row_of column) s) (numbers_of_cells texts differ other joined are_joined)
 
-  as_high : length (map row_of column) ≡ length (map key_of joined)
-  as_high = omega (arith, length-map column row_of, length-map joined key_of, high)
+  same_lengths : length (map row_of column) ≡ length (map key_of joined)
+  same_lengths = omega (arith, length-map column row_of, length-map joined key_of, same_length)
 
   first_of_rows : filter_values rows ≡ map row_of column
-  first_of_rows = (columns_are (map row_of column) (map key_of joined) as_high).0
+  first_of_rows = (zip_of_columns (map row_of column) (map key_of joined) same_lengths).0
 
   second_of_rows : joined_keys rows ≡ map key_of joined
-  second_of_rows = (columns_are (map row_of column) (map key_of joined) as_high).1
+  second_of_rows = (zip_of_columns (map row_of column) (map key_of joined) same_lengths).1
 
   first_of_cells : filter_values cells ≡ column
-  first_of_cells = (columns_are column joined high).0
+  first_of_cells = (zip_of_columns column joined same_length).0
 
   second_of_cells : joined_keys cells ≡ joined
-  second_of_cells = (columns_are column joined high).1
+  second_of_cells = (zip_of_columns column joined same_length).1
 
-  own : AllByRecursion (OfRow (Contains column) (Contains joined)) cells
-  own = All-zip (Contains column) (Contains joined) column joined (its_own column) (its_own joined)
+  own : AllByRecursion (RowSatisfies (Contains column) (Contains joined)) cells
+  own = All-zip (Contains column) (Contains joined) column joined (column_contains_each column) (column_contains_each joined)
 
   abbrev of_cell : ℕ → Value
   of_cell cell = value_of_cell texts kind cell
@@ -95,7 +95,7 @@ module _ (texts : List (List ℕ)) (differ : HaveDifferentCharacters texts) (kin
       let low : has.0 < length column = has.1 in
       let here : get_or filters has.0 (Int (pos 0)) ≡ of_cell cell = get_or-map of_cell column has.0 cell (Int (pos 0)) low ∙ ap of_cell has.2 in
       let below : row_of cell < length filters =
-      first_there filters (of_cell cell) has.0 (Int (pos 0)) (omega (arith, low, length-map column of_cell))
+      first_row_exists filters (of_cell cell) has.0 (Int (pos 0)) (omega (arith, low, length-map column of_cell))
       (ap (λ (v : Value). is_equal v (of_cell cell)) here ∙ equal_itself (of_cell cell)) in
       let within : row_of cell < length column = omega (arith, below, length-map column of_cell) in
       let first : ℕ = get_or column (row_of cell) 0 in
@@ -110,14 +110,14 @@ module _ (texts : List (List ℕ)) (differ : HaveDifferentCharacters texts) (kin
 
   passing_same : (p q : ℕ → Bool) → ((cell : ℕ) → Contains column cell → q (row_of cell) ≡ p cell) → degree_list (keys_where q rows) ≡ degree_list (keys_where p cells)
   passing_same p q alike =
-      ap (λ (s : List (ℕ × ℕ)). degree_list (keys_where q s)) (zip-renamed row_of key_of column joined)
-      ∙ degrees-mapped (Contains column) (Contains joined) row_of key_of (keeps key_of joined keys_apart) cells own p q alike
+      ap (λ (s : List (ℕ × ℕ)). degree_list (keys_where q s)) (zip-relabelled row_of key_of column joined)
+      ∙ degrees-mapped (Contains column) (Contains joined) row_of key_of (equality_is_kept key_of joined keys_apart) cells own p q alike
 
   where_same : (test : Value → Bool) → list_where accuracy (λ n. test (of_row n)) rows ≡ list_where accuracy (λ cell. test (of_cell cell)) cells
   where_same test = ap (compressed accuracy) (passing_same (λ cell. test (of_cell cell)) (λ n. test (of_row n)) (λ cell has. ap test (same_value cell has)))
 
   whole_same : whole accuracy rows ≡ whole accuracy cells
-  whole_same = ap (compressed_degrees accuracy) second_of_rows ∙ whole_is accuracy key_of joined keys_apart ∙ ap (compressed_degrees accuracy) (sym second_of_cells)
+  whole_same = ap (compressed_degrees accuracy) second_of_rows ∙ whole_list_unchanged accuracy key_of joined keys_apart ∙ ap (compressed_degrees accuracy) (sym second_of_cells)
 
   frequent_same : (frequent : List (Datum × List ℕ)) → map (with_new_rows of_row accuracy rows) frequent ≡ map (with_new_rows of_cell accuracy cells) frequent
   frequent_same frequent =
@@ -140,22 +140,22 @@ module _ (texts : List (List ℕ)) (differ : HaveDifferentCharacters texts) (kin
     cells_of_others = filter (λ cell. is_other (of_cell cell)) column
 
     inside : AllByRecursion (Contains column) cells_of_others
-    inside = All-filter (Contains column) (λ cell. is_other (of_cell cell)) column (its_own column)
+    inside = All-filter (Contains column) (λ cell. is_other (of_cell cell)) column (column_contains_each column)
 
     others_same : other_values of_row rows frequent ≡ map row_of (different cells_of_others)
     others_same =
         ap (λ (s : List ℕ). different (filter (λ n. is_other (of_row n)) s)) first_of_rows
-        ∙ ap different (filter-mapped (Contains column) row_of (λ cell. is_other (of_cell cell)) (λ n. is_other (of_row n)) (λ cell has. ap is_other (same_value cell has)) column (its_own column))
-        ∙ different-mapped (Contains column) row_of (keeps row_of column apart) cells_of_others inside
+        ∙ ap different (filter-mapped (Contains column) row_of (λ cell. is_other (of_cell cell)) (λ n. is_other (of_row n)) (λ cell has. ap is_other (same_value cell has)) column (column_contains_each column))
+        ∙ different-mapped (Contains column) row_of (equality_is_kept row_of column apart) cells_of_others inside
 
     list_same : (values : List ℕ) → AllByRecursion (Contains column) values → list_for_any_of accuracy rows (map row_of values) ≡ list_for_any_of accuracy cells values
     list_same values all =
-        ap (λ (s : List (List ℕ)). compressed accuracy (cut_at (maxima s) (greatest (map (degree (filter_values rows)) (map row_of values)))))
+        ap (λ (s : List (List ℕ)). compressed accuracy (capped_at (maxima s) (greatest (map (degree (filter_values rows)) (map row_of values)))))
         (map-mapped (Contains column) row_of (λ v. degree_list (keys_with v cells)) (λ v. degree_list (keys_with v rows))
-        (λ v has. passing_same (λ cell. eqb cell v) (λ n. eqb n (row_of v)) (λ cell there. keeps row_of column apart cell v there has)) values all)
-        ∙ ap (λ (s : List ℕ). compressed accuracy (cut_at (maxima (map (λ v. degree_list (keys_with v cells)) values)) (greatest s)))
+        (λ v has. passing_same (λ cell. eqb cell v) (λ n. eqb n (row_of v)) (λ cell there. equality_is_kept row_of column apart cell v there has)) values all)
+        ∙ ap (λ (s : List ℕ). compressed accuracy (capped_at (maxima (map (λ v. degree_list (keys_with v cells)) values)) (greatest s)))
         (ap (λ (c : List ℕ). map (degree c) (map row_of values)) first_of_rows
-        ∙ map-mapped (Contains column) row_of (degree column) (degree (map row_of column)) (degree-mapped (Contains column) row_of (keeps row_of column apart) column (its_own column)) values all
+        ∙ map-mapped (Contains column) row_of (degree column) (degree (map row_of column)) (degree-mapped (Contains column) row_of (equality_is_kept row_of column apart) column (column_contains_each column)) values all
         ∙ ap (λ (c : List ℕ). map (degree c) values) (sym first_of_cells))
 
     rest_same : list_for_any_of accuracy rows (other_values of_row rows frequent) ≡ list_for_any_of accuracy cells (other_values of_cell cells frequent)

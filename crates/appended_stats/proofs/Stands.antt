@@ -15,12 +15,12 @@ use Rattle.cond_stats.specs.Leaves.{IsNodeSize, in_node}
 use Rattle.cond_stats.specs.Lists.{list_where, whole}
 use Rattle.cond_stats.proofs.Sums.{sum-whole}
 use Rattle.column_stats.specs.Nodes.{node_place, node_sizes}
-use Rattle.column_stats.proofs.NodeLists.{each_size, piece_at}
+use Rattle.column_stats.proofs.NodeLists.{each_size, node_list_at}
 use Rattle.degree_sequences.specs.ByRank.{rank_sum}
 use Rattle.degree_sequences.specs.Domination.{DominatesKeys}
 use Rattle.degree_sequences.proofs.ByRank.{sum-rank_sum}
 use Rattle.filtered_lists.specs.Standing.{has_value, rows_where, value_in_row}
-use Rattle.level_bounds.proofs.Lists.{map_alike, map_both, range_within}
+use Rattle.level_bounds.proofs.Lists.{map_same_on_members, map_of_map, range_within}
 use Rattle.query_types.specs.declared.types.Query.{Query}
 use Rattle.schema_types.specs.declared.types.Schema.{Schema}
 use Rattle.schema_types.specs.declared.types.Kind.{Kind}
@@ -33,8 +33,8 @@ use Rattle.stats_file.specs.declared.types.TableStats.{TableStats}
 use Rattle.stats_file.specs.Rules.{IsPair, IsSection, IsHistogram, IsHistogramOf, KeepsRules}
 use Rattle.table_stats.specs.Columns.{first_row, as_first_rows, paired, value_of_row}
 use Rattle.table_stats.specs.Keys.{SeparatesValues}
-use Rattle.table_stats.proofs.ColumnRows.{height}
-use Rattle.table_stats.proofs.EqualValues.{equal_back, equal_chain, is_equal}
+use Rattle.table_stats.proofs.ColumnRows.{values_length}
+use Rattle.table_stats.proofs.EqualValues.{equal_symmetric, equal_transitive, is_equal}
 use Rattle.table_stats.proofs.FewerRows.{PassesBoth, all_in_range, fewer_dominated}
 use Rattle.stats_file_of_query.specs.Needs.{table_of}
 use Rattle.stats_file_of_query.specs.Data.{value_of}
@@ -44,7 +44,7 @@ use Rattle.stats_file_of_query.proofs.Stands.{pair_stands, seconds}
 use Rattle.appended_stats.specs.Appended.{tables_of_rows, file_after, pair_after, section_after, values_in}
 use Rattle.appended_stats.specs.Conditions.{HasNewRows}
 use Rattle.appended_stats.specs.Grown.{grown_pair, is_frequent, list_for_any_of, list_with, lists_of_nodes, lists_of_size, other_values, rank_sums, with_new_rows}
-use Rattle.appended_stats.proofs.NewLists.{nodes_many}
+use Rattle.appended_stats.proofs.NewLists.{node_count}
 use Rattle.appended_stats.proofs.NewRows.{leaf_alike, rank_sum_dominates, rest_dominates, value_alike, where_dominates, whole_dominates}
 
 -- ---- the numbers of the old rows, followed by those of the new rows
@@ -96,12 +96,12 @@ module _ (n m : ℕ) where
       ∙ ap (λ (s : List ℕ). map key (filter before old_rows) ++ map key s)
       (filter_moved test (λ i. n + i) new_rows
       ∙ ap (map (λ i. n + i)) (filter_alike (λ row. test (n + row)) later new_rows (all_in_range (λ row. test (n + row) ≡ later row) 0 m (λ row low. after row (omega (arith, low))))))
-      ∙ ap (λ (s : List ℕ). map key (filter before old_rows) ++ s) (map_both key (λ i. n + i) (λ row. key (n + row)) (λ row. refl) (filter later new_rows))
+      ∙ ap (λ (s : List ℕ). map key (filter before old_rows) ++ s) (map_of_map key (λ i. n + i) (λ row. key (n + row)) (λ row. refl) (filter later new_rows))
 
   pub keys_of_all : (key : ℕ → ℕ) → map key (range_with_len 0 (n + m)) ≡ map key old_rows ++ map (λ row. key (n + row)) new_rows
   keys_of_all key =
       ap (map key) all_rows ∙ map-append key old_rows (map (λ i. n + i) new_rows)
-      ∙ ap (λ (s : List ℕ). map key old_rows ++ s) (map_both key (λ i. n + i) (λ row. key (n + row)) (λ row. refl) new_rows)
+      ∙ ap (λ (s : List ℕ). map key old_rows ++ s) (map_of_map key (λ i. n + i) (λ row. key (n + row)) (λ row. refl) new_rows)
 
 -- ---- the list of a value in a grown pair
 
@@ -144,7 +144,7 @@ node_at : (leaf_of : ℕ → ℕ) (k : ℕ) (rows : List (ℕ × ℕ)) (size lea
 node_at leaf_of k rows size leaf is low =
     let some : 0 < size = each_size (λ s. 0 < s) (omega arith) (omega arith) (omega arith) (omega arith) (omega arith) (omega arith) size is in
     let within : leaf / size < 32 / size = each_size (λ s. leaf / s < 32 / s) (omega arith) (omega arith) (omega arith) (omega arith) (omega arith) (omega arith) size is in
-    piece_at (lists_of_size leaf_of k rows) (λ s. length-map-range_with_len (λ i. list_where k (λ n. in_node s (s * i) (leaf_of n)) rows) 0 (32 / s)) leaf low size is
+    node_list_at (lists_of_size leaf_of k rows) (λ s. length-map-range_with_len (λ i. list_where k (λ n. in_node s (s * i) (leaf_of n)) rows) 0 (32 / s)) leaf low size is
     ∙ get_or-map-range_with_len (λ i. list_where k (λ n. in_node size (size * i) (leaf_of n)) rows) 0 (32 / size) (leaf / size) (leaf / size) [] within (omega arith)
     ∙ ap (λ m. list_where k (λ n. eqb (leaf_of n / size) m) rows) (mul-div_cancel_left (leaf / size) some)
 
@@ -222,15 +222,15 @@ module _ (tables after : Tables) (entry : ℕ) (new : List Row) (are : after ent
       abbrev grown : PairStats
       grown = grown_pair of_row k pairs pair
 
-      pairs_many : length pairs ≡ m
-      pairs_many =
+      pairs_count : length pairs ≡ m
+      pairs_count =
           omega (
             arith,
             length-zip (as_first_rows filters) (as_first_rows (values_in new joined)),
             length-map filters (first_row filters),
             length-map (values_in new joined) (first_row (values_in new joined)),
-            height (tables_of_rows new) 0 pair.filter,
-            height (tables_of_rows new) 0 joined,
+            values_length (tables_of_rows new) 0 pair.filter,
+            values_length (tables_of_rows new) 0 joined,
           )
 
       value_stands : (value : Value) → DominatesKeys (list_of_value grown value) (map key (rows_where after entry (has_value after entry pair.filter value)))
@@ -246,7 +246,7 @@ module _ (tables after : Tables) (entry : ℕ) (new : List Row) (are : after ent
           (λ one passes. fewer_dominated new_key (λ row. is_equal (value_in_row (tables_of_rows new) 0 pair.filter row) value) (λ row. is_value (value_in_row (tables_of_rows new) 0 pair.filter row) one)
           (grow one) (range_with_len 0 m)
           (all_in_range (PassesBoth new_key (λ row. is_equal (value_in_row (tables_of_rows new) 0 pair.filter row) value) (λ row. is_value (value_in_row (tables_of_rows new) 0 pair.filter row) one)) 0 m
-          (λ row low has. equal_chain (value_of one) value (value_in_row (tables_of_rows new) 0 pair.filter row) passes (equal_back (value_in_row (tables_of_rows new) 0 pair.filter row) value has)))
+          (λ row low has. equal_transitive (value_of one) value (value_in_row (tables_of_rows new) 0 pair.filter row) passes (equal_symmetric (value_in_row (tables_of_rows new) 0 pair.filter row) value has)))
           (where_dominates new k pair.filter joined new_key tells_new (λ v. is_value v one) (value_alike one)))
           (λ rare. rest_dominates new k pair.filter joined new_key tells_new pair.frequent value rare)))
 
@@ -255,7 +255,7 @@ module _ (tables after : Tables) (entry : ℕ) (new : List Row) (are : after ent
           let test : Value → Bool = λ v. in_node size leaf (leaf_of_value pair v) in
           let leaf_of : ℕ → ℕ = λ i. leaf_of_value pair (of_row i) in
           let made : list_of_node grown size leaf ≡ rank_sum (list_of_node pair size leaf) (list_where k (λ i. test (of_row i)) pairs) =
-          get_or-sums pair.nodes (lists_of_nodes leaf_of k pairs) (node_place size leaf) (nodes_are ∙ sym (nodes_many k pairs leaf_of))
+          get_or-sums pair.nodes (lists_of_nodes leaf_of k pairs) (node_place size leaf) (nodes_are ∙ sym (node_count k pairs leaf_of))
           ∙ ap (rank_sum (list_of_node pair size leaf)) (node_at leaf_of k pairs size leaf is low) in
           subst (λ (s : List ℕ). DominatesKeys s (map key (rows_where after entry (is_in_node grown after entry size leaf)))) (sym made)
           (both_dominated pair.filter test (list_of_node pair size leaf) (list_where k (λ i. test (of_row i)) pairs) (stood.node size leaf is low)
@@ -269,7 +269,7 @@ module _ (tables after : Tables) (entry : ℕ) (new : List Row) (are : after ent
 
       pub grown_stands : PairStandsFor grown after entry key
       grown_stands = record {
-        rows = sum-rank_sum pair.whole (whole k pairs) ∙ both_counts stood.rows (sum-whole k pairs ∙ pairs_many) ∙ sym count_is;
+        rows = sum-rank_sum pair.whole (whole k pairs) ∙ both_counts stood.rows (sum-whole k pairs ∙ pairs_count) ∙ sym count_is;
         whole = whole_stands;
         value = value_stands;
         node = node_stands;

@@ -46,21 +46,21 @@ section_back section tables entry stands = record {
   pairs = λ i d low key tells. pair_back (get_or section.pairs i d) tables entry key (stands.pairs i d low key tells);
 }
 
-none_there : {X : Type 0} (xs : List X) → length xs ≡ 0 → xs ≡ []
-none_there [] none = refl
-none_there (x ∷ xs) none = absurd (omega (arith, none))
+empty_if_length_0 : {X : Type 0} (xs : List X) → length xs ≡ 0 → xs ≡ []
+empty_if_length_0 [] none = refl
+empty_if_length_0 (x ∷ xs) none = absurd (omega (arith, none))
 
 -- ---- a section after the append
 
 module _ (tables after : Tables) (entry : ℕ) (new : List Row) (are : after entry ≡ tables entry ++ new) (k : ℕ) (table : Table) where
-  pair_still : (before : ℕ) (pair : PairStats) → before ≡ row_counts tables entry → IsPair table before pair
+  pair_still_stands : (before : ℕ) (pair : PairStats) → before ≡ row_counts tables entry → IsPair table before pair
       → ((key : ℕ → ℕ) → SeparatesValues tables entry pair.joined key → PairStandsFor pair tables entry key)
       → (key : ℕ → ℕ) → SeparatesValues after entry (pair_after k before new pair).joined key → PairStandsFor (pair_after k before new pair) after entry key
-  pair_still zero pair none is stood key tells =
-      let alone_now : after entry ≡ new = are ∙ ap (λ (s : List Row). s ++ new) (none_there (tables entry) (sym none)) in
+  pair_still_stands zero pair none is stood key tells =
+      let alone_now : after entry ≡ new = are ∙ ap (λ (s : List Row). s ++ new) (empty_if_length_0 (tables entry) (sym none)) in
       subst (λ (rows : List Row). PairStandsFor (pair_in_table (tables_of_rows rows) k 0 pair.filter pair.joined) after entry key) alone_now
       (pair_moved (pair_in_table (tables_of_rows (after entry)) k 0 pair.filter pair.joined) after entry key (pair_stands (tables_of_rows (after entry)) k 0 pair.filter pair.joined key tells))
-  pair_still (suc n) pair some is stood key tells =
+  pair_still_stands (suc n) pair some is stood key tells =
       let e : eqb (suc n) 0 ≡ false = ne_eqb (suc n) 0 (λ same. omega (arith, same)) in
       let grown : PairStats = grown_pair (value_of_row (values_in new pair.filter)) k (paired (values_in new pair.filter) (values_in new pair.joined)) pair in
       let its : pair_after k (suc n) new pair ≡ grown = rw e refl in
@@ -69,12 +69,12 @@ module _ (tables after : Tables) (entry : ℕ) (new : List Row) (are : after ent
       (grown_stands tables after entry new are key pair.joined told k pair (nodes_all is.filter.kind (suc n) pair.cuts pair.nodes (omega arith) is.tree) refl
       (stood key (tells_before tables after entry new are key pair.joined told)))
 
-  pub section_still : (schema : Schema) (section : TableStats) (is : IsSection schema section) → is.table ≡ table → SectionStandsFor section tables entry
+  pub section_still_stands : (schema : Schema) (section : TableStats) (is : IsSection schema section) → is.table ≡ table → SectionStandsFor section tables entry
       → SectionStandsFor (section_after k new section) after entry
-  section_still schema section is same stands = record {
+  section_still_stands schema section is same stands = record {
     rows = ap (λ r. r + length new) stands.rows ∙ sym (count_is tables after entry new are);
     pairs = All-map (λ (pair : PairStats). (key : ℕ → ℕ) → SeparatesValues after entry pair.joined key → PairStandsFor pair after entry key) (pair_after k section.rows new) section.pairs
-        (λ i d low. pair_still section.rows (get_or section.pairs i d) stands.rows
+        (λ i d low. pair_still_stands section.rows (get_or section.pairs i d) stands.rows
         (subst (λ t. IsPair t section.rows (get_or section.pairs i d)) same (is.pairs i d low)) (stands.pairs i d low));
   }
 
@@ -104,9 +104,9 @@ module _ (file : StatsFile) (table : ℕ) (new : List Row) where
       some_same : (a b : TableStats) → Some a ≡ Some b → a ≡ b
       some_same a b same = cc same
 
-  pub file_still : (schema : Schema) (query : Query) (tables after : Tables) → KeepsRules schema file → StandsFor query file tables → HasNewRows query table new tables after
+  pub file_still_stands : (schema : Schema) (query : Query) (tables after : Tables) → KeepsRules schema file → StandsFor query file tables → HasNewRows query table new tables after
       → StandsFor query (file_after file table new) after
-  file_still schema query tables after keeps stands has entry section low found =
+  file_still_stands schema query tables after keeps stands has entry section low found =
       let old = found_before file.tables (table_of query entry) section found in
       let before : SectionStandsFor old.0 tables entry = stands entry old.0 low old.1 in
       let in_file = found_in (λ (s : TableStats). s.table == table_of query entry) file.tables old.0 old.1 in
@@ -116,7 +116,7 @@ module _ (file : StatsFile) (table : ℕ) (new : List Row) where
       (elim (cases_Bool (old.0.table == table)) [
         | inl e ↦ (let same : (table_of query entry == table) ≡ true = ap (λ t. t == table) (sym its) ∙ e in
             let more : after entry ≡ tables entry ++ new = has entry low ∙ ap (λ (b : Bool). cond b (tables entry ++ new) (tables entry)) same in
-            let still = section_still tables after entry new more file.accuracy kept.table schema old.0 kept refl before in
+            let still = section_still_stands tables after entry new more file.accuracy kept.table schema old.0 kept refl before in
             rw e still)
         | inr e ↦ (let same : (table_of query entry == table) ≡ false = ap (λ t. t == table) (sym its) ∙ e in
             let as_before : after entry ≡ tables entry = has entry low ∙ ap (λ (b : Bool). cond b (tables entry ++ new) (tables entry)) same in

@@ -60,8 +60,8 @@ all_keys p column joined keys i past same are =
     are ∙ ap (λ (s : List ℕ). keys_where p (zip s (take i joined))) (take_all i column past)
     ∙ ap (λ (s : List ℕ). keys_where p (zip column s)) (take_all i joined (omega (arith, past, same)))
 
-pub keys_few : (p : ℕ → Bool) (column joined keys : List ℕ) (n : ℕ) → length column < n → keys ≡ keys_where p (zip column joined) → length keys < n
-keys_few p column joined keys n few are =
+pub fewer_keys_than : (p : ℕ → Bool) (column joined keys : List ℕ) (n : ℕ) → length column < n → keys ≡ keys_where p (zip column joined) → length keys < n
+fewer_keys_than p column joined keys n within_limit are =
     omega (
       arith,
       ap (λ (s : List ℕ). length s) are,
@@ -69,7 +69,7 @@ keys_few p column joined keys n few are =
       count_by-le-length p (filter_values (zip column joined)),
       length-map (zip column joined) (λ (row : ℕ × ℕ). row.0),
       length-zip column joined,
-      few,
+      within_limit,
     )
 
 -- ---- two lists of lists, whose items are added index by index

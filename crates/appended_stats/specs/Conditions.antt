@@ -17,7 +17,7 @@ use Rattle.stats_file.specs.Rules.{KeepsRules}
 use Rattle.stats_file_of_query.specs.Needs.{table_of}
 use Rattle.stats_file_of_query.specs.Files.{table_at}
 
--- if the section is this table's section, its rows and the `more` new rows don't exceed the rows that a table may have
+-- if the section is this table's section, it has at most `most_rows` rows together with `more` new rows
 abbrev pub FitsRowLimit : ℕ → ℕ → TableStats → Type 0
 FitsRowLimit table more section = section.table ≡ table → section.rows + more ≤ most_rows
 
@@ -41,7 +41,7 @@ pub record MayGrow (cells : Cells) (before : ℕ) (pair : PairStats) : Type 0 wh
   pub rest : sum pair.rest < 2 ^ 32
   pub frequent : All (λ (found : Datum × List ℕ). sum found.1 < 2 ^ 32) pair.frequent
   pub nodes : All (λ (list : List ℕ). sum list < 2 ^ 32) pair.nodes
-  pub nodes_many : 0 < before → length pair.nodes ≡ 63
+  pub node_count : 0 < before → length pair.nodes ≡ 63
 
 -- a section may grow: with the new rows it has fewer than 2^32 rows, and each of its pairs may grow
 pub record SectionMayGrow (cells : Cells) (section : TableStats) : Type 0 where

@@ -11,16 +11,16 @@ abbrev pub new_rows : List ℕ → List Row
 new_rows column = rows_of column 0
 
 -- the pair that has this column as its filter column and as its joined column
-abbrev pub of_itself : List ℕ → PairStats
-of_itself column = pair_in_table (rows_of column) 1 0 0 0
+abbrev pub stats_of_column_with_itself : List ℕ → PairStats
+stats_of_column_with_itself column = pair_in_table (rows_of column) 1 0 0 0
 
 abbrev pub pair_of_six_rows : PairStats
-pair_of_six_rows = of_itself (1 ∷ 1 ∷ 1 ∷ 2 ∷ 2 ∷ 3 ∷ [])
+pair_of_six_rows = stats_of_column_with_itself (1 ∷ 1 ∷ 1 ∷ 2 ∷ 2 ∷ 3 ∷ [])
 
--- the pair of the column 1, 1, 1, 2, 2, 3 after 1 and 4 were appended
+-- the pair of the column [1, 1, 1, 2, 2, 3], after 1 and 4 were appended to the column
 abbrev pub pair_of_eight_rows : PairStats
 pair_of_eight_rows = pair_after 1 6 (new_rows (1 ∷ 4 ∷ [])) pair_of_six_rows
 
--- the pair of the column 1, 2, 3 after 99 was appended
+-- the pair of the column [1, 2, 3], after 99 was appended to the column
 abbrev pub pair_of_four_rows : PairStats
-pair_of_four_rows = pair_after 1 3 (new_rows (99 ∷ [])) (of_itself (1 ∷ 2 ∷ 3 ∷ []))
+pair_of_four_rows = pair_after 1 3 (new_rows (99 ∷ [])) (stats_of_column_with_itself (1 ∷ 2 ∷ 3 ∷ []))

@@ -10,7 +10,7 @@ use Rattle.column_stats.specs.Nodes.{node_sizes}
 use Rattle.degree_sequences.specs.ByRank.{rank_sum}
 use Rattle.degree_sequences.specs.Compression.{compressed}
 use Rattle.degree_sequences.specs.Degrees.{degree, degree_list, different}
-use Rattle.degree_sequences.specs.RunningSums.{cut_at}
+use Rattle.degree_sequences.specs.RunningSums.{capped_at}
 use Rattle.stats_file.specs.declared.types.Datum.{Datum}
 use Rattle.stats_file.specs.declared.types.PairStats.{PairStats}
 use Rattle.stats_file_of_query.specs.Standing.{is_value, leaf_of_value}
@@ -29,13 +29,15 @@ is_frequent frequent value = list_any (λ (found : Datum × List ℕ). is_value 
 abbrev pub other_values : (ℕ → Value) → List (ℕ × ℕ) → List (Datum × List ℕ) → List ℕ
 other_values value_of rows frequent = different (filter (λ n. not (is_frequent frequent (value_of n))) (filter_values rows))
 
--- one list for any of these values: the rank-wise maximum of their degree lists, cut at the number of rows of the most frequent value, and
--- compressed. If `values` are all values of a column that aren't frequent, this list is the rest list of cond_stats
+-- one list for any of these values: the rank-wise maximum of their degree lists, compressed. Before compression, the maximum's running sums are
+-- capped at the number of rows of the most frequent of these values. If `values` are all values of a column that aren't frequent, this list is the
+-- rest list of cond_stats
 abbrev pub list_for_any_of : ℕ → List (ℕ × ℕ) → List ℕ → List ℕ
 list_for_any_of accuracy rows values =
-    compressed accuracy (cut_at (maxima (map (λ value. degree_list (keys_with value rows)) values)) (greatest (map (degree (filter_values rows)) values)))
+    compressed accuracy (capped_at (maxima (map (λ value. degree_list (keys_with value rows)) values)) (greatest (map (degree (filter_values rows)) values)))
 
--- for each node with `size` leaves, the list of the new rows whose leaf lies in it. Then these lists for all sizes, in the order of a pair's nodes
+-- `lists_of_size`: for each node with `size` leaves, the list of the new rows whose leaf lies in the node. `lists_of_nodes`: these lists for all
+-- sizes, in the order of a pair's nodes
 abbrev pub lists_of_size : (ℕ → ℕ) → ℕ → List (ℕ × ℕ) → ℕ → List (List ℕ)
 lists_of_size leaf_of accuracy rows size =
     map (λ i. list_where accuracy (λ n. in_node size (size * i) (leaf_of n)) rows) (range_with_len 0 (32 / size))
@@ -51,8 +53,8 @@ with_new_rows value_of accuracy rows found = (found.0, rank_sum found.1 (list_wi
 abbrev pub rank_sums : List (List ℕ) → List (List ℕ) → List (List ℕ)
 rank_sums lists others = map (λ (both : List ℕ × List ℕ). rank_sum both.0 both.1) (zip lists others)
 
--- a pair after new rows. The cuts and the frequent values stay. New values that aren't frequent count in the rest list, and the old cuts say in which
--- leaf a value lies
+-- a pair after new rows. The cuts and the frequent values stay. A new row whose value isn't frequent counts in the rest list, and the old cuts say in
+-- which leaf a value lies
 abbrev pub grown_pair : (ℕ → Value) → ℕ → List (ℕ × ℕ) → PairStats → PairStats
 grown_pair value_of accuracy rows pair = record {
   filter = pair.filter;

@@ -102,7 +102,7 @@ fn sections_after(
 }
 
 /// The statistics file after rows were appended to a table of its schema. In that table's section the number of rows grows. To each list of the
-/// section the compressed list of the new rows that belong to it is added, rank by rank. Cuts and frequent values stay. A table that had no rows gets
+/// section, the compressed list of those new rows that it counts is added rank by rank. Cuts and frequent values stay. A table that had no rows gets
 /// the statistics of the new rows. All other sections stay. If memory runs out, the old file is lost too.
 pub fn append_rows(
     alloc: Global,

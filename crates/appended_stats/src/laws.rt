@@ -1,5 +1,5 @@
-//! After an append, the new statistics file stands for the old rows followed by the new rows. These functions compute nothing: the contract of each
-//! one is a law.
+//! After an append, the new statistics file stands for the old rows followed by the new rows. These functions compute nothing: each contract is a
+//! law.
 ghost use Rattle.std.specs.Prelude.{◌≡◌, ◌≢◌, ◌++◌, ◌<◌, ◌≤◌, ℕ, List, [], Some};
 ghost use Rattle.csv_tables.specs.Rows.{Row};
 ghost use Rattle.query_types.specs.declared.types.Query.{Query};
@@ -23,8 +23,8 @@ pub fn sections_still_stand()
         → SectionStandsFor (section_after accuracy rows section) after entry }
 {}
 
-/// If a file stands for a query's tables before the append, the new file stands for them after it. One of the tables then has the new rows after its
-/// old rows.
+/// If the old file stands for a query's tables before the append, the new file stands for the tables after it. In the tables after the append, one
+/// table has the new rows after its old rows.
 pub fn files_still_stand()
     ensures { (schema : Schema) (query : Query) (file : StatsFile) (tables after : Tables) (table : ℕ) (rows : List Row)
         → KeepsRules schema file → StandsFor query file tables → HasNewRows query table rows tables after

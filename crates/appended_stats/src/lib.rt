@@ -1,9 +1,9 @@
 //! Updates a statistics file after rows were appended to a table. The new file is made from the old file and the new rows, without reading the old
 //! rows.
 //!
-//! In: a `StatsFile`, and the cells of the new rows of one of its tables. Out: the file after the append. To each list of that table a list of new
-//! rows is added, rank by rank: the compressed list of the new rows that belong to this list. Cuts and frequent values stay as they are. The time
-//! depends on the number of new rows and on the length of the file, but not on the number of old rows.
+//! In: a `StatsFile`, and the cells of the new rows of one of its tables. Out: the file after the append. To each list of that table, the compressed
+//! list of those new rows that it counts is added rank by rank. Cuts and frequent values stay as they are. The time depends on the number of new rows
+//! and on the length of the file, but not on the number of old rows.
 //!
 //! In contracts `file_after` (in `specs/Appended.antt`) is the new file, and `MayAppend` (in `specs/Conditions.antt`) is required to make it. The
 //! module `laws` says which rows the new file stands for.

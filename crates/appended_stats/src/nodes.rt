@@ -1,4 +1,4 @@
-//! Makes the lists of the nodes for the new rows, with the old cuts. Then adds them to the old lists.
+//! Makes the nodes' lists for the new rows, with the old cuts. Then adds these lists to the old lists.
 ghost use Rattle.std.specs.Prelude.{◌≡◌, ◌++◌, ◌<◌, ◌≤◌, ◌^◌, All, IfOk, OnOk, ℕ, length, map};
 ghost use Rattle.std.specs.List.{sum, zip};
 ghost use Rattle.csv_tables.specs.Cells.{IsCell, value_of_cell};
@@ -106,7 +106,7 @@ pub(crate) fn sums_by_rank(
     lists: &[Pieces],
     others: &[Pieces],
 ) -> Result<Seq<Pieces>, NoMemory>
-    requires many { length others.now ≡ length lists.now }
+    requires same_count { length others.now ≡ length lists.now }
     requires lists { All (λ list. sum list < 2 ^ 64) lists.now }
     requires others { All (λ list. sum list < 2 ^ 64) others.now }
     ensures { IfOk result (λ sums. sums ≡ rank_sums lists.now others.now) }

@@ -1,11 +1,11 @@
-//! Makes the list of the new rows whose values aren't frequent. It is added to the rest list.
+//! Makes the list of the new rows whose values aren't frequent. This list is then added to the rest list.
 ghost use Rattle.std.specs.Prelude.{◌≡◌, ◌++◌, ◌∷◌, [], ◌<◌, ◌^◌, All, IfOk, OnOk, not, length, map, nat_eq, slice_index_or, slice_set};
 ghost use Rattle.std.specs.List.{IsDistinct, filter, sum, zip};
 ghost use Rattle.csv_tables.specs.Cells.{IsCell, value_of_cell};
 ghost use Rattle.cond_stats.specs.Lists.{greatest, keys_with, maxima};
 ghost use Rattle.degree_sequences.specs.Compression.{compressed};
 ghost use Rattle.degree_sequences.specs.Degrees.{degree_list, different};
-ghost use Rattle.degree_sequences.specs.RunningSums.{cut_at};
+ghost use Rattle.degree_sequences.specs.RunningSums.{capped_at};
 ghost use Rattle.appended_stats.specs.Grown.{is_frequent, list_for_any_of, other_values};
 
 use crate::compare::is_frequent;
@@ -43,8 +43,8 @@ fn other_cells(
 
 // `count` groups without keys.
 fn empty_groups(alloc: Global, count: usize) -> Result<Seq<Seq<u64>>, NoMemory>
-    ensures many { IfOk result (λ groups. length groups ≡ count) }
-    ensures empty { IfOk result (λ groups. All (λ keys. keys ≡ []) groups) }
+    ensures same_count { IfOk result (λ groups. length groups ≡ count) }
+    ensures all_empty { IfOk result (λ groups. All (λ keys. keys ≡ []) groups) }
 {
     let mut groups = Seq::new(alloc);
     for i in 0..count {
@@ -70,8 +70,8 @@ fn add_key(
     Ok(())
 }
 
-// For each cell of `others`, the joined keys of the rows that have it.
-fn grouped(
+// For each cell of `others`, the joined keys of the rows that have this cell.
+fn keys_by_cell(
     alloc: Global,
     cells: &[u64],
     joined: &[u64],
@@ -90,7 +90,7 @@ fn grouped(
     Ok(groups)
 }
 
-// The rank-wise maximum of the degree lists of the groups, cut at the number of keys in the largest group, and compressed.
+// The rank-wise maximum of the degree lists of the groups, compressed. Its running sums are first capped at the number of keys in the largest group.
 fn list_of_groups(
     alloc: Global,
     groups: &[Seq<u64>],
@@ -98,7 +98,7 @@ fn list_of_groups(
 ) -> Result<Pieces, NoMemory>
     requires groups { All (λ keys. length keys < 2 ^ 32) groups.now }
     ensures { IfOk result (λ list. list ≡
-        compressed accuracy (cut_at (maxima (map degree_list groups.now)) (greatest (map (λ keys. length keys) groups.now)))) }
+        compressed accuracy (capped_at (maxima (map degree_list groups.now)) (greatest (map (λ keys. length keys) groups.now)))) }
 {
     let mut maxima = Pieces::empty(alloc);
     let mut most: u64 = 0;
@@ -128,6 +128,6 @@ pub(crate) fn list_of_others(
         (other_values (value_of_cell pool.now kind) (zip cells.now joined.now) frequent.now)) }
 {
     let others = other_cells(alloc, pool, kind, cells, frequent)?;
-    let groups = grouped(alloc, cells, joined, &others)?;
+    let groups = keys_by_cell(alloc, cells, joined, &others)?;
     list_of_groups(alloc, groups.as_slice(), accuracy)
 }

@@ -1,4 +1,4 @@
--- If a count of faults or misses rose in one of several calls, it rose over all of them.
+-- If a count rose in one of several calls in a row, it rose over all these calls together.
 use Rattle.std.proofs.Common.{ℕ, ◌≤◌, arith}
 use Rattle.base_io.specs.Causes.{Rose}
 

@@ -15,13 +15,13 @@ appended-nil None = refl
 appended-nil (Some before) = ap Some (append-nil before)
 
 -- the left side is how `&bytes[a..]` is defined
-to_the_end : (a : ℕ) (bytes : List ℕ) → take (length bytes - a) (drop a bytes) ≡ drop a bytes
-to_the_end a bytes = grind (arith, common_steps)
+slice_to_end : (a : ℕ) (bytes : List ℕ) → take (length bytes - a) (drop a bytes) ≡ drop a bytes
+slice_to_end a bytes = grind (arith, common_steps)
 
 pub took_more : (t0 t1 t2 : Option (List ℕ)) (bytes : List ℕ) (a n : ℕ)
     → t1 ≡ appended t0 (take a bytes) → t2 ≡ appended t1 (take n (take (length bytes - a) (drop a bytes))) → t2 ≡ appended t0 (take (a + n) bytes)
 took_more t0 t1 t2 bytes a n first next =
-    next ∙ ap (λ rest. appended t1 (take n rest)) (to_the_end a bytes) ∙ ap (λ t. appended t (take n (drop a bytes))) first
+    next ∙ ap (λ rest. appended t1 (take n rest)) (slice_to_end a bytes) ∙ ap (λ t. appended t (take n (drop a bytes))) first
     ∙ appended-appended t0 (take a bytes) (take n (drop a bytes)) ∙ ap (appended t0) (sym (take-add a n bytes))
 
 pub grew_by_take : (old new : Option (List ℕ)) (bytes : List ℕ) (a : ℕ) → new ≡ appended old (take a bytes) → GrewByPrefix old new bytes
@@ -43,14 +43,14 @@ prefix_after_first old mid new a b first h = record {
   grew = h.grew ∙ ap (λ t. appended t h.front) first ∙ appended-appended old a h.front;
 }
 
-pub whole_after_first : (old mid new : Option (List ℕ)) (a b : List ℕ) → mid ≡ appended old a → new ≡ appended mid b → new ≡ appended old (a ++ b)
-whole_after_first old mid new a b first second = second ∙ ap (λ t. appended t b) first ∙ appended-appended old a b
+pub both_texts_appended : (old mid new : Option (List ℕ)) (a b : List ℕ) → mid ≡ appended old a → new ≡ appended mid b → new ≡ appended old (a ++ b)
+both_texts_appended old mid new a b first second = second ∙ ap (λ t. appended t b) first ∙ appended-appended old a b
 
-pub prefix_of_all : (old new : Option (List ℕ)) (a : List ℕ) → new ≡ appended old a → GrewByPrefix old new a
-prefix_of_all old new a grew = record { front = a; rest = []; whole = append-nil a; grew = grew }
+pub whole_is_prefix : (old new : Option (List ℕ)) (a : List ℕ) → new ≡ appended old a → GrewByPrefix old new a
+whole_is_prefix old new a grew = record { front = a; rest = []; whole = append-nil a; grew = grew }
 
-pub prefix_of_none : (old : Option (List ℕ)) (a : List ℕ) → GrewByPrefix old old a
-prefix_of_none old a = record { front = []; rest = a; whole = refl; grew = sym (appended-nil old) }
+pub nothing_is_prefix : (old : Option (List ℕ)) (a : List ℕ) → GrewByPrefix old old a
+nothing_is_prefix old a = record { front = []; rest = a; whole = refl; grew = sym (appended-nil old) }
 
 pub parts_split : {X : Type 0} (f : X → List ℕ) (parts : List X) (i : ℕ) (d : X) → i < length parts
     → (flat_map f (take i parts) ++ f (get_or parts i d)) ++ flat_map f (drop (i + 1) parts) ≡ flat_map f parts

@@ -1,7 +1,7 @@
 -- Counts of faults: when a count has risen, and how a counter adds 1.
 use Rattle.std.specs.Prelude.{ℕ, ◌+◌, ◌-◌, ◌^◌, ◌<◌, ◌≡◌, ◌⊎◌, min, max}
 
--- the count is greater than before, or it is 2^64 - 1, where a counter stays
+-- the count is greater than before, or it is 2^64 - 1. A counter that has reached 2^64 - 1 keeps this value
 abbrev pub Rose : ℕ → ℕ → Type 0
 Rose before now = (before < now) ⊎ (now ≡ 2 ^ 64 - 1)
 

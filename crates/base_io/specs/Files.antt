@@ -29,17 +29,17 @@ abbrev pub answer_about : Option Files → List ℕ → FileAnswer
 answer_about None name = Unknown
 answer_about (Some files) name = answer_of_contents (file_of files name)
 
--- the buffer `into` begins with `count` bytes of a file, from the offset `place` on. `count` is 0 exactly if `place` is the file's end or past it
-pub record Fills (bytes : List ℕ) (place count : ℕ) (into : List ℕ) : Type 0 where
-  pub same : take count into ≡ take count (drop place bytes)
-  pub within : 0 < count → place + count ≤ length bytes
-  pub end : count ≡ 0 → length bytes ≤ place
+-- the buffer `into` begins with `count` bytes of a file, from `offset` on. `count` is 0 exactly if `offset` is the file's end or past it
+pub record Fills (bytes : List ℕ) (offset count : ℕ) (into : List ℕ) : Type 0 where
+  pub same : take count into ≡ take count (drop offset bytes)
+  pub within : 0 < count → offset + count ≤ length bytes
+  pub end : count ≡ 0 → length bytes ≤ offset
 
 -- whether a read may return Ok with `count` bytes in the buffer `into`. A read of an absent file never returns Ok
 abbrev pub MayHaveRead : FileAnswer → ℕ → ℕ → List ℕ → Type 0
-MayHaveRead Unknown place count into = ⊤
-MayHaveRead Absent place count into = ⊥
-MayHaveRead (Present bytes) place count into = Fills bytes place count into
+MayHaveRead Unknown offset count into = ⊤
+MayHaveRead Absent offset count into = ⊥
+MayHaveRead (Present bytes) offset count into = Fills bytes offset count into
 
 -- the store tells its files, and the name is not among them
 abbrev pub IsAbsent : FileAnswer → Type 0
@@ -49,32 +49,32 @@ IsAbsent (Present bytes) = ⊥
 
 -- what a read at an offset returns, and what it leaves in the buffer
 abbrev pub ReadsAt : FileAnswer → ℕ → Result ℕ StoreError → List ℕ → Type 0
-ReadsAt file place (Ok count) into = (count ≤ length into) × MayHaveRead file place count into
-ReadsAt file place (Err store.Missing) into = IsAbsent file
-ReadsAt file place (Err store.Failed) into = ⊤
+ReadsAt file offset (Ok count) into = (count ≤ length into) × MayHaveRead file offset count into
+ReadsAt file offset (Err store.Missing) into = IsAbsent file
+ReadsAt file offset (Err store.Failed) into = ⊤
 
 -- as far as the store tells, these are all bytes of the file
-abbrev pub IsWhole : FileAnswer → List ℕ → Type 0
-IsWhole Unknown bytes = ⊤
-IsWhole Absent bytes = ⊥
-IsWhole (Present all) bytes = bytes ≡ all
+abbrev pub AreAllBytes : FileAnswer → List ℕ → Type 0
+AreAllBytes Unknown bytes = ⊤
+AreAllBytes Absent bytes = ⊥
+AreAllBytes (Present all) bytes = bytes ≡ all
 
 -- as far as the store tells, the file has more than `limit` bytes
-abbrev pub IsLonger : FileAnswer → ℕ → Type 0
-IsLonger Unknown limit = ⊤
-IsLonger Absent limit = ⊥
-IsLonger (Present all) limit = limit < length all
+abbrev pub ExceedsLimit : FileAnswer → ℕ → Type 0
+ExceedsLimit Unknown limit = ⊤
+ExceedsLimit Absent limit = ⊥
+ExceedsLimit (Present all) limit = limit < length all
 
 -- what reading a file to its end returns. Any read may end with a fault, or because there is too little memory
 abbrev pub ReadsFile : FileAnswer → ℕ → Result (List ℕ) ReadError → Type 0
-ReadsFile file limit (Ok bytes) = (length bytes ≤ limit) × IsWhole file bytes
+ReadsFile file limit (Ok bytes) = (length bytes ≤ limit) × AreAllBytes file bytes
 ReadsFile file limit (Err read.Missing) = IsAbsent file
 ReadsFile file limit (Err read.Fault) = ⊤
-ReadsFile file limit (Err (read.TooLong most)) = (most ≡ limit) × IsLonger file limit
+ReadsFile file limit (Err (read.TooLong most)) = (most ≡ limit) × ExceedsLimit file limit
 ReadsFile file limit (Err read.NoMemory) = ⊤
 
 -- as far as the store tells, these are the first bytes of the file. An absent file has no bytes
-abbrev pub IsFront : FileAnswer → List ℕ → Type 0
-IsFront Unknown bytes = ⊤
-IsFront Absent bytes = bytes ≡ []
-IsFront (Present all) bytes = bytes ≡ take (length bytes) all
+abbrev pub AreFirstBytes : FileAnswer → List ℕ → Type 0
+AreFirstBytes Unknown bytes = ⊤
+AreFirstBytes Absent bytes = bytes ≡ []
+AreFirstBytes (Present all) bytes = bytes ≡ take (length bytes) all

@@ -13,7 +13,8 @@ pub record Wrote (sink : Growth) (text : List ℕ) (result : Result (Unit {0}) F
   pub later : sink.faults_before ≤ sink.faults_after
   pub failed : OnErr result (Rose sink.faults_before sink.faults_after)
 
--- the same guarantee for a step that writes through a buffer. `waiting` are the bytes in the buffer before the step, `left` those after it
+-- the same guarantee for a step that writes through a buffer. `waiting` are the bytes in the buffer before the step, and `left` are its
+-- bytes after the step
 pub record WroteBuffered (sink : Growth) (waiting left text : List ℕ) (result : Result (Unit {0}) Failed) : Type 0 where
   pub ok : OnOk result (TookBut sink.taken_before sink.taken_after left (waiting ++ text))
   pub prefix : GrewByPrefix sink.taken_before sink.taken_after (waiting ++ text)

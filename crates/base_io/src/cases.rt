@@ -15,5 +15,5 @@ pub fn examples()
     ensures last { one_more (2 ^ 64 - 1) ≡ 2 ^ 64 - 1 }
     ensures rose { Rose 4 5 }
     ensures counts_as_risen { Rose (2 ^ 64 - 1) (2 ^ 64 - 1) }
-    ensures level { Rose 4 4 → ⊥ }
+    ensures equal_not_risen { Rose 4 4 → ⊥ }
 {}

@@ -1,4 +1,4 @@
-//! Stores that give files by name, sinks that take bytes, lists, boxes, names, and the error for too little memory.
+//! Stores (which give files by name) and sinks (which take bytes), lists, boxes and names, and the error for too little memory.
 //!
 //! The first stage of a query reads each file to its end, with `read_file`. The last stage writes its texts with `write_all`.
 //!

@@ -63,7 +63,7 @@ impl Sink for MemSink {
 
     ghost faults = { λ s. s.faults };
 
-    /// Takes as many of the bytes as there is room for.
+    /// Takes bytes from the front until no room is left.
     fn write(&mut self, bytes: &[u8]) -> Result<usize, Failed>
         ensures bound { IfOk result (λ n. n ≤ length bytes.now) }
         ensures progress { 0 < length bytes.now → IfOk result (λ n. 0 < n) }
@@ -72,8 +72,7 @@ impl Sink for MemSink {
         ensures later { self.old.faults ≤ self.new.faults }
         ensures failed { OnErr result (Rose self.old.faults self.new.faults) }
 
-        // Two kinds of calls fail, and no others: those whose numbers are in `fail_at`, and those that bring bytes when no room is left. Each failure
-        // is counted.
+        // A call fails exactly if its number is in `fail_at`, or if it brings bytes and no room is left. Each failure is counted.
         ensures calls { self.new.calls ≡ one_more self.old.calls }
         ensures fail_at { self.new.fail_at ≡ self.old.fail_at }
         ensures fails { is_err result ≡ (is_failing_call self.new.calls self.old.fail_at

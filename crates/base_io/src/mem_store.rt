@@ -50,16 +50,16 @@ fn find_file<'a>(files: &'a [(Name, Seq<u8>)], name: &str) -> Option<&'a [u8]>
     None
 }
 
-// Copies bytes, from the offset `place` on, into the front of a buffer, until the bytes end or the buffer is full.
-fn copy_front(bytes: &[u8], place: u64, into: &mut [u8]) -> usize
+// Copies bytes, from `offset` on, into the front of a buffer, until the bytes end or the buffer is full. Returns how many it copied.
+fn copy_front(bytes: &[u8], offset: u64, into: &mut [u8]) -> usize
     requires { 0 < length into.old }
-    ensures count { result ≡ min (length bytes.now - place) (length into.new) }
-    ensures fills { Fills bytes.now place result into.new }
+    ensures count { result ≡ min (length bytes.now - offset) (length into.new) }
+    ensures fills { Fills bytes.now offset result into.new }
 {
-    if place >= bytes.len() as u64 {
+    if offset >= bytes.len() as u64 {
         return 0;
     }
-    let rest = &bytes[place as usize..];
+    let rest = &bytes[offset as usize..];
     let count = rest.len().min(into.len());
     into[..count].copy_from_slice(&rest[..count]);
     count

@@ -9,11 +9,11 @@ use crate::{ReadError, Seq, Store, StoreError};
 // A block is large enough that reading a table takes few calls, and small beside the file itself.
 const BLOCK: usize = 65_536;
 
-/// Reads a whole file of at most `limit` bytes, into the memory of a list that is no longer needed.
+/// Reads a whole file of at most `limit` bytes. The list `memory` is reused for them.
 ///
 /// The list's old bytes are dropped, and each block is read straight into its memory, without a buffer between. The memory grows by doubling. So
-/// files that are read one after another into the same memory need only the memory of the longest. The result is `Fault` only if the store's count of
-/// faults rose.
+/// files that are read one after another into the same memory need only the memory of the longest file. The result is `Fault` only if the store's
+/// count of faults rose.
 pub fn read_file<S: Store>(
     memory: Seq<u8>,
     store: &mut S,
@@ -35,7 +35,7 @@ pub fn read_file<S: Store>(
     let mut items = memory.into_vec();
     items.clear();
     // Each round but the last reads at least one byte, so `limit` + 1 rounds are enough.
-    'turns: for _turn in 0..=limit {
+    'rounds: for _round in 0..=limit {
         let at = items.len();
         items.resize(at + BLOCK, 0)?;
         match store.read_at(name, at as u64, &mut items[at..]) {

@@ -1,4 +1,4 @@
-//! Tests of stores and sinks in memory, and of slow ones, which move few bytes in each call.
+//! Tests of stores and sinks in memory, and of slow stores and sinks, which transfer only a few bytes in each call.
 use base_io::{
     Failed, MemSink, MemStore, Name, NullSink, ReadError, Seq, Sink, Store, StoreError, read_file,
     write_all,
@@ -50,8 +50,13 @@ fn files_are_read_byte_by_byte(rt: HostRuntime) -> Result<(), Fail> {
 }
 
 // Writes ten bytes to a sink with this room, at most `most` bytes in each call. Call number `failing` fails. Returns whether all bytes were written,
-// and how many the sink took.
-fn taken(alloc: Global, room: u64, failing: u64, most: u32) -> Result<(bool, usize), Fail> {
+// and how many bytes the sink took.
+fn write_ten_bytes(
+    alloc: Global,
+    room: u64,
+    failing: u64,
+    most: u32,
+) -> Result<(bool, usize), Fail> {
     let inner = MemSink::new(alloc, room, Seq::one(alloc, failing)?)?;
     let mut sink = SlowSink { inner, most };
     let all = write_all(&mut sink, b"X\r\n1\r\n1\r\n2").is_ok();
@@ -65,7 +70,7 @@ fn a_sink_takes_what_fits(rt: HostRuntime) -> Result<(), Fail> {
         (100, 2, 3, (false, 3)),
         (100, 0, 1, (true, 10)),
     ] {
-        assert_eq!(rt; taken(rt.alloc(), room, failing, most)?, answer);
+        assert_eq!(rt; write_ten_bytes(rt.alloc(), room, failing, most)?, answer);
     }
     Ok(())
 }

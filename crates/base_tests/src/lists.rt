@@ -51,7 +51,7 @@ fn pieces_at_most(first: u64, accuracy: Accuracy) -> u32
 }
 
 #[test]
-fn counts_fall(rt: HostRuntime) -> Result<(), Fail> {
+fn degrees_and_their_compression(rt: HostRuntime) -> Result<(), Fail> {
     assert_eq!(rt; degrees(rt.alloc())?.as_slice(), [5, 3, 1].as_slice());
     let pieces = compressed(rt.alloc())?;
     assert_eq!(rt; (pieces.total(), pieces.pieces().len()), (9, 2));
@@ -59,8 +59,8 @@ fn counts_fall(rt: HostRuntime) -> Result<(), Fail> {
     Ok(())
 }
 
-// The list with these runs, each a degree and its number of keys. No degree is above the degree before it, and no degree and no number is 0. The
-// numbers sum to less than 2^64. Otherwise the result is `NoMemory`, which fails the test.
+// The list with these runs, each a degree and its number of keys. The result is `NoMemory`, which fails the test, in these cases: a degree is above
+// the degree before it, a degree or a number of keys is 0, or the numbers of keys sum to 2^64 or more.
 fn of_runs(alloc: Global, runs: &[(u64, u64)]) -> Result<Pieces, NoMemory> {
     let mut list = Pieces::empty(alloc);
     let mut last = u64::MAX;
@@ -79,9 +79,9 @@ fn of_runs(alloc: Global, runs: &[(u64, u64)]) -> Result<Pieces, NoMemory> {
 // Ten billion rows: 6,000 keys have 1,000,000 rows each, 5,000 keys have 600,001 each, and 999,995 keys have 1,000 each.
 const MANY_ROWS: [(u64, u64); 3] = [(1_000_000, 6_000), (600_001, 5_000), (1_000, 999_995)];
 
-// `MANY_ROWS` compressed at accuracy 1. The second degree is more than half of the first. So the 3,000,005,000 rows of the second degree are counted
-// at the first degree. With 995,000 rows of the third degree they make 3,001 more keys of 1,000,000 rows. 999,000,000 rows of the third degree are
-// left, which are 999,000 keys of 1,000 rows.
+// `MANY_ROWS` compressed at accuracy 1. The second degree is more than half of the first, so its 3,000,005,000 rows are counted at the first degree.
+// 995,000 rows of the third degree fill them up to 3,001,000,000 rows: 3,001 more keys of 1,000,000 rows. 999,000,000 rows of the third degree are
+// left: 999,000 keys of 1,000 rows.
 fn many_compressed(alloc: Global) -> Result<Pieces, NoMemory> {
     let list = of_runs(alloc, &MANY_ROWS)?;
     if list.total() != 10_000_000_000 {
@@ -105,7 +105,7 @@ fn ten_billion_rows_are_compressed_by_their_runs(rt: HostRuntime) -> Result<(), 
     Ok(())
 }
 
-// The lists 3, 1 and 2, 2, 1 are combined rank by rank. These are the totals of the greater elements, of the sums and of the products.
+// Combines the lists [3, 1] and [2, 2, 1] rank by rank. Returns the total of the greater elements, the total of the sums, and that of the products.
 fn totals(alloc: Global) -> Result<[u128; 3], NoMemory> {
     let short = Pieces::from_list(alloc, &[3, 1])?;
     let long = Pieces::from_list(alloc, &[2, 2, 1])?;
@@ -122,7 +122,7 @@ fn lists_are_combined_by_rank(rt: HostRuntime) -> Result<(), Fail> {
 
 // Item 1 needs slot 2, which no item gives, so item 1 is dropped. Then item 0 is dropped, since it needs slot 1 of item 1. Item 2 gives the slot
 // that it needs, and item 3 needs no slot, so these two stay.
-fn marks(alloc: Global) -> Result<RowBuf<bool>, NoMemory> {
+fn kept_items(alloc: Global) -> Result<RowBuf<bool>, NoMemory> {
     let uses = [
         Use {
             item: 0,
@@ -144,8 +144,8 @@ fn marks(alloc: Global) -> Result<RowBuf<bool>, NoMemory> {
 }
 
 #[test]
-fn items_go_one_after_another(rt: HostRuntime) -> Result<(), Fail> {
-    let marks = marks(rt.alloc())?;
+fn items_are_dropped_one_after_another(rt: HostRuntime) -> Result<(), Fail> {
+    let marks = kept_items(rt.alloc())?;
     assert!(rt; marks.as_slice() == [false, false, true, true].as_slice());
     Ok(())
 }

@@ -23,8 +23,8 @@ fn reserved_rows_are_pushed(rt: HostRuntime) -> Result<(), Fail> {
     Ok(())
 }
 
-// The places of 7 among the keys 7, 9, 7, 7: the first place and the next one. Then the keys 8, 7 replace these keys, and the same two places are
-// looked up again.
+// Looks 7 up in chains of the keys [7, 9, 7, 7]: its first place, and its next place. Then the same in the chains after they are loaded with the
+// keys [8, 7].
 fn places_of_seven(alloc: Global) -> Result<[Option<u32>; 4], NoMemory> {
     let mut chains = Chains::with_room(alloc, 4, 3)?;
     chains.load(&[7, 9, 7, 7]);
@@ -42,7 +42,7 @@ fn chains_ascend(rt: HostRuntime) -> Result<(), Fail> {
     Ok(())
 }
 
-// The number of row lists with room for 6 and for 0 rows, and whether each of them takes a row.
+// Reserves two row lists, with room for 6 rows and for 0 rows. Returns how many lists there are, and whether each has room for a row.
 fn reserved(alloc: Global) -> Result<(usize, bool, bool), NoMemory> {
     let lists = row_buffers(alloc, &[6, 0])?;
     Ok((lists.len(), lists[0].has_spare(), lists[1].has_spare()))

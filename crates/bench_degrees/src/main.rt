@@ -18,7 +18,7 @@ const KEYS: u32 = 4_000_000;
 
 const ROUNDS: u32 = 3;
 
-// The length of what a call gave, and the time of the fastest call.
+// The length of the list that a call returned, and the time of the fastest call.
 #[derive(Clone, Copy)]
 struct Measure {
     len: usize,
@@ -29,7 +29,7 @@ fn out_of_memory(_: NoMemory) -> io::Error {
     io::Error::from(io::ErrorKind::OutOfMemory)
 }
 
-fn measured(rt: &impl Clock, alloc: Global, keys: &[u64], rounds: u32) -> io::Result<Measure> {
+fn fastest_call(rt: &impl Clock, alloc: Global, keys: &[u64], rounds: u32) -> io::Result<Measure> {
     let mut measure = Measure {
         len: 0,
         nanos: u128::MAX,
@@ -48,7 +48,7 @@ fn measured(rt: &impl Clock, alloc: Global, keys: &[u64], rounds: u32) -> io::Re
 
 fn measure_kind(rt: &HostRuntime, kind: Kind, count: u32, rounds: u32) -> io::Result<Measure> {
     let keys = keys_of(rt.alloc(), kind, count)?;
-    measured(rt, rt.alloc(), keys.as_slice(), rounds)
+    fastest_call(rt, rt.alloc(), keys.as_slice(), rounds)
 }
 
 fn write_time(rt: &HostRuntime, kind: Kind) -> io::Result<()> {

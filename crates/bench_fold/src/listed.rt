@@ -87,7 +87,7 @@ fn all_have_lists(lists: &EntryLists, subset: EntrySet, edges: &[Edge]) -> bool
 
 /// Whether each entry of a set has its row bound, and each column that an equality of the set names has its list. If so, `set_bound` may be called.
 /// The test takes no memory.
-pub fn is_listed(parts: &Parts, subset: EntrySet, lists: &EntryLists) -> bool
+pub fn has_all_bounds(parts: &Parts, subset: EntrySet, lists: &EntryLists) -> bool
     ensures { IsTrue result ↔ SetHasBounds lists.now parts.now.equalities subset }
 {
     if !all_have_rows(lists, subset) {

@@ -1,9 +1,9 @@
 //! Measures the proved code of bound_fold and set_bounds; bench/fold.rs measures plain Rust for the same work.
 //!
 //! Without an argument the program writes the bounds of two small queries. With one argument, say `time`, it writes a line for each measure. The line
-//! has the shape and the number of entries, the number of pieces of each list, and the number of trees that are folded. Then it has the bound, and
-//! the least nanoseconds of one bound. With two arguments, say `time sets`, the program measures the bounds of all sets of twelve entries. It writes
-//! a line for each shape: the shape, the sum of the bounds, and the nanoseconds.
+//! has the query's shape, the number of entries, the number of pieces of each list, the number of trees that are folded, the bound, and the
+//! nanoseconds of the fastest computation. With two arguments, say `time sets`, the program measures the bounds of all sets of twelve entries. It
+//! writes a line for each shape: the shape, the sum of the bounds, and the nanoseconds.
 #![tactic(auto)]
 
 mod listed;
@@ -12,15 +12,15 @@ mod timing;
 
 use base_io::NoMemory;
 use entry_sets::EntrySet;
-use join_graph::turns;
+use join_graph::count_turns;
 use queries::{Query, Shape, add_list, edge, list_of_numbers, query_of, query_of_shape};
 use std::alloc::Global;
 use std::{env, io};
-use timing::{Timing, out_of_memory, timed, timed_sets};
+use timing::{Timing, fastest_bound, fastest_bounds_of_sets, out_of_memory};
 
 const ROUNDS: u32 = 20;
 
-const PLANS: u32 = 3;
+const ROUNDS_OF_SETS: u32 = 3;
 
 // Adds the list of an entry's column, which has these numbers.
 fn add_numbers(
@@ -57,7 +57,7 @@ fn triangle(alloc: Global) -> Result<Query, NoMemory> {
 }
 
 fn show(rt: &HostRuntime, name: &str, query: &Query) -> io::Result<()> {
-    let Timing { bound, .. } = timed(rt, rt.alloc(), query, first(3), 1)?;
+    let Timing { bound, .. } = fastest_bound(rt, rt.alloc(), query, set_of_first_entries(3), 1)?;
     println!(rt; "{name} {bound}")
 }
 
@@ -69,7 +69,7 @@ fn show_small(rt: &HostRuntime) -> io::Result<()> {
 }
 
 // The set of the first `entries` entries.
-fn first(entries: u8) -> EntrySet {
+fn set_of_first_entries(entries: u8) -> EntrySet {
     let bits = u16::MAX
         .checked_shr(16 - u32::from(entries.min(16)))
         .unwrap_or(0);
@@ -91,9 +91,9 @@ fn write_timing(
 
 fn time(rt: &HostRuntime, shape: Shape, entries: u8, pieces: u32) -> io::Result<()> {
     let query = query_of_shape(rt.alloc(), shape, entries, pieces).map_err(out_of_memory)?;
-    let subset = first(entries);
-    let timing = timed(rt, rt.alloc(), &query, subset, ROUNDS)?;
-    let trees = turns(&query.parts, subset);
+    let subset = set_of_first_entries(entries);
+    let timing = fastest_bound(rt, rt.alloc(), &query, subset, ROUNDS)?;
+    let trees = count_turns(&query.parts, subset);
     write_timing(rt, shape, entries, pieces, trees, timing)
 }
 
@@ -113,7 +113,7 @@ fn time_shapes(rt: &HostRuntime) -> io::Result<()> {
 
 fn time_sets_of(rt: &HostRuntime, shape: Shape) -> io::Result<()> {
     let query = query_of_shape(rt.alloc(), shape, 12, 23).map_err(out_of_memory)?;
-    let Timing { bound, nanos } = timed_sets(rt, rt.alloc(), &query, PLANS)?;
+    let Timing { bound, nanos } = fastest_bounds_of_sets(rt, rt.alloc(), &query, ROUNDS_OF_SETS)?;
     let name = shape.name();
     println!(rt; "{name} {bound} {nanos}")
 }

@@ -1,4 +1,4 @@
-//! The queries that are measured: equalities of columns in several shapes, and for each entry a row bound and lists.
+//! The queries that are measured: equalities of columns in seven shapes, and for each entry a row bound and lists.
 ghost use Rattle.std.specs.Prelude.{◌≡◌, ℕ, None, IfOk};
 ghost use Rattle.bound_fold.specs.Lists.{list_of};
 
@@ -9,7 +9,7 @@ use join_graph::Parts;
 use piece_math::{Piece, Pieces};
 use std::alloc::Global;
 
-/// Equalities of columns, and what is known of the entries.
+/// The equalities of a query, and the row bounds and lists of its entries.
 #[derive(Drop)]
 pub struct Query {
     pub parts: Parts,
@@ -23,7 +23,7 @@ pub enum Shape {
     Chain,
     /// Entry 1 is joined with each other entry, by a different column of entry 1 for each of them. In the join tree entry 1 is below entry 0.
     Star,
-    /// A star in which the one column of entry 0 is also joined with each entry from 3 on.
+    /// A star in which the only joined column of entry 0 is also joined with each entry from 3 on.
     JoinedStar,
     /// The first columns of all entries are equal.
     OneClass,
@@ -128,8 +128,8 @@ pub fn list_of_numbers(alloc: Global, numbers: &[u128]) -> Result<Pieces, NoMemo
     list_of_runs(alloc, runs.as_slice())
 }
 
-// A list of at most `pieces` pieces, each for about the same number of rows. The last value is 1, and the others are the multiples of
-// `column` + 1. So they descend in wider steps if the column's number is larger.
+// A list of at most `pieces` pieces, each for about the same number of rows. The last value is 1, and the other values are multiples of
+// `column` + 1. So the values descend in wider steps if the column's number is larger.
 fn list_of_column(alloc: Global, rows: u64, pieces: u32, column: u32) -> Result<Pieces, NoMemory> {
     let mut runs = Vec::new(alloc);
     let mut left = rows;

@@ -1,8 +1,8 @@
-//! Measures how long the bounds of a query take. Each call computes them several times and keeps the least time.
+//! Measures how long the bounds of a query take. Each call computes the bounds a number of times and keeps the least time.
 ghost use Rattle.bound_fold.specs.Sets.{SetHasBounds};
 ghost use Rattle.set_bounds.specs.AllSets.{first_entries};
 
-use crate::listed::is_listed;
+use crate::listed::has_all_bounds;
 use crate::queries::Query;
 use base_io::NoMemory;
 use bound_fold::set_bound;
@@ -28,8 +28,8 @@ impl Timing {
         }
     }
 
-    // The bound of the later timing, with the lesser of both times.
-    fn and(self, later: Timing) -> Timing {
+    // The bound of the later timing, with the lesser of the two times.
+    fn with_least_time(self, later: Timing) -> Timing {
         Timing {
             bound: later.bound,
             nanos: self.nanos.min(later.nanos),
@@ -41,7 +41,7 @@ pub fn out_of_memory(_: NoMemory) -> io::Error {
     io::Error::from(io::ErrorKind::OutOfMemory)
 }
 
-fn not_listed() -> io::Error {
+fn missing_bound_error() -> io::Error {
     io::Error::from(io::ErrorKind::InvalidInput)
 }
 
@@ -56,19 +56,19 @@ fn bound_once(rt: &impl Clock, alloc: Global, query: &Query, subset: EntrySet) -
 
 /// The bound of a set of entries, with the least time of `rounds` rounds. The error is `InvalidInput` if an entry has no row bound or a joined column
 /// has no list, and `OutOfMemory` if memory runs out.
-pub fn timed(
+pub fn fastest_bound(
     rt: &impl Clock,
     alloc: Global,
     query: &Query,
     subset: EntrySet,
     rounds: u32,
 ) -> io::Result<Timing> {
-    if !is_listed(&query.parts, subset, &query.lists) {
-        return Err(not_listed());
+    if !has_all_bounds(&query.parts, subset, &query.lists) {
+        return Err(missing_bound_error());
     }
     let mut least = Timing::none();
     for _ in 0..rounds {
-        least = least.and(bound_once(rt, alloc, query, subset)?);
+        least = least.with_least_time(bound_once(rt, alloc, query, subset)?);
     }
     Ok(least)
 }
@@ -92,20 +92,20 @@ fn sets_once(rt: &impl Clock, alloc: Global, query: &Query) -> io::Result<Timing
 }
 
 /// Bounds all sets of a query's first twelve entries. The result is the sum of these bounds, modulo 2^128, and the least time of `rounds` rounds. The
-/// summing isn't timed. The errors are the same as in `timed`.
-pub fn timed_sets(
+/// summing isn't timed. The errors are the same as in `fastest_bound`.
+pub fn fastest_bounds_of_sets(
     rt: &impl Clock,
     alloc: Global,
     query: &Query,
     rounds: u32,
 ) -> io::Result<Timing> {
     let all = EntrySet::from_bits(0xfff);
-    if !is_listed(&query.parts, all, &query.lists) {
-        return Err(not_listed());
+    if !has_all_bounds(&query.parts, all, &query.lists) {
+        return Err(missing_bound_error());
     }
     let mut least = Timing::none();
     for _ in 0..rounds {
-        least = least.and(sets_once(rt, alloc, query)?);
+        least = least.with_least_time(sets_once(rt, alloc, query)?);
     }
     Ok(least)
 }

@@ -22,30 +22,30 @@ use Rattle.sql_meaning.specs.Databases.{AreCells, IsWellTyped, IsColumnOf, IsCol
 use Rattle.sql_meaning.specs.Levels.{completed_hold, passes_own, row_in, Conjunct}
 use Rattle.sql_meaning.specs.Tables.{row_counts, tables_of}
 use Rattle.sql_meaning.proofs.AskFacts.{depend_on_named}
-use Rattle.sql_meaning.proofs.LevelFacts.{level_over_more}
+use Rattle.sql_meaning.proofs.LevelFacts.{next_level_over}
 use Rattle.sql_meaning.proofs.LoopFacts.{rows_are}
-use Rattle.sql_meaning.proofs.NamedFacts.{can_ask}
+use Rattle.sql_meaning.proofs.NamedFacts.{same_kinds_are_well_typed}
 use Rattle.join_steps.specs.declared.join_keys.JoinKey.{JoinKey}
 use Rattle.join_steps.specs.Lists.{list_at, scan_of, scans_of, IsOfScan}
 use Rattle.join_steps.specs.Sides.{spans_both_sides}
 use Rattle.join_steps.proofs.KeyFacts.{key_holds, sides_between, IsKeyOf}
-use Rattle.join_steps.proofs.ListedRows.{below, of_scan, own_kept, scan_below}
-use Rattle.join_steps.proofs.WholeScans.{weaker, whole_of_scans}
-use Rattle.tree_plans.specs.declared.bushy.BushyPlan.{BushyPlan}
-use Rattle.tree_plans.specs.TreePlans.{IsTreePlan}
+use Rattle.join_steps.proofs.ListedRows.{range_is_below, of_scan, list_passes_own, listed_rows_exist}
+use Rattle.join_steps.proofs.WholeScans.{weaken_each, scans_are_of_scans}
+use Rattle.plans.specs.declared.bushy.BushyPlan.{BushyPlan}
+use Rattle.plans.specs.TreePlans.{IsTreePlan}
 use Rattle.tree_rows.specs.Rooms.{bound_at, BoundsFitBuffers}
 use Rattle.bushy_join.specs.Trees.{chosen_rows, node_rows, IsTreePlanOf}
-use Rattle.bushy_join.proofs.LeafRows.{few_chosen, leaf_fits}
+use Rattle.bushy_join.proofs.LeafRows.{at_most_listed_rows, leaf_fits}
 use Rattle.bushy_join.proofs.Running.{are_choices}
 use Rattle.bench_joins.specs.Tables.{compared, join_of, each_repeated, plan_of, table_of, tables_of_two, AreNumbers}
 
 -- ---- how many rows have a key
 
 -- suppose that only numbers from a to below a + m pass a test. Then at most a + m - s of the numbers from s on pass it
-in_key_range : (p : ℕ → Bool) (a m : ℕ) → ((x : ℕ) → p x ≡ true → (a ≤ x) × (x < a + m)) → (n s : ℕ) → a ≤ s → length (filter p (range_with_len s n)) ≤ a + m - s
-in_key_range p a m near zero s low = omega arith
-in_key_range p a m near (suc n) s low =
-    let rest : length (filter p (range_with_len (s + 1) n)) ≤ a + m - (s + 1) = in_key_range p a m near n (s + 1) (omega arith) in
+numbers_that_pass_in_range : (p : ℕ → Bool) (a m : ℕ) → ((x : ℕ) → p x ≡ true → (a ≤ x) × (x < a + m)) → (n s : ℕ) → a ≤ s → length (filter p (range_with_len s n)) ≤ a + m - s
+numbers_that_pass_in_range p a m near zero s low = omega arith
+numbers_that_pass_in_range p a m near (suc n) s low =
+    let rest : length (filter p (range_with_len (s + 1) n)) ≤ a + m - (s + 1) = numbers_that_pass_in_range p a m near n (s + 1) (omega arith) in
     elim (cases_Bool (p s)) [
       | inl hit ↦ (let there = near s hit in
           let is : length (filter p (range_with_len s (suc n))) ≡ suc (length (filter p (range_with_len (s + 1) n))) = rw hit refl in
@@ -53,20 +53,20 @@ in_key_range p a m near (suc n) s low =
       | inr miss ↦ (let is : length (filter p (range_with_len s (suc n))) ≡ length (filter p (range_with_len (s + 1) n)) = rw miss refl in omega (arith, is, rest))
     ]
 
-before_stretch : (p : ℕ → Bool) (a m : ℕ) → ((x : ℕ) → p x ≡ true → (a ≤ x) × (x < a + m)) → (n s : ℕ) → length (filter p (range_with_len s n)) ≤ m
-before_stretch p a m near zero s = omega arith
-before_stretch p a m near (suc n) s = elim (cases_lt s a) [
+numbers_that_pass_are_at_most : (p : ℕ → Bool) (a m : ℕ) → ((x : ℕ) → p x ≡ true → (a ≤ x) × (x < a + m)) → (n s : ℕ) → length (filter p (range_with_len s n)) ≤ m
+numbers_that_pass_are_at_most p a m near zero s = omega arith
+numbers_that_pass_are_at_most p a m near (suc n) s = elim (cases_lt s a) [
   | inl low ↦ elim (cases_Bool (p s)) [
     | inl hit ↦ (let there = near s hit in absurd (omega (arith, there.0)))
     | inr miss ↦ (let is : length (filter p (range_with_len s (suc n))) ≡ length (filter p (range_with_len (s + 1) n)) = rw miss refl in
-        let rest : length (filter p (range_with_len (s + 1) n)) ≤ m = before_stretch p a m near n (s + 1) in omega (arith, is, rest))
+        let rest : length (filter p (range_with_len (s + 1) n)) ≤ m = numbers_that_pass_are_at_most p a m near n (s + 1) in omega (arith, is, rest))
   ]
-  | inr high ↦ (let rest : length (filter p (range_with_len s (suc n))) ≤ a + m - s = in_key_range p a m near (suc n) s high in omega (arith, rest))
+  | inr high ↦ (let rest : length (filter p (range_with_len s (suc n))) ≤ a + m - s = numbers_that_pass_in_range p a m near (suc n) s high in omega (arith, rest))
 ]
 
 -- if a row of `each_repeated` has a key, its row number is from key * times to below key * times + times
-in_key : (key times row : ℕ) → 0 < times → eqb (row / times) key ≡ true → (key * times ≤ row) × (row < key * times + times)
-in_key key times row some hit =
+rows_with_key_are_in_range : (key times row : ℕ) → 0 < times → eqb (row / times) key ≡ true → (key * times ≤ row) × (row < key * times + times)
+rows_with_key_are_in_range key times row some hit =
     let same : row / times ≡ key = eqb-true (row / times) key hit in
     let whole : row / times * times + row % times ≡ row = div-add-mod' row times in
     let at : key * times + row % times ≡ row = ap (λ (q : ℕ). q * times + row % times) (sym same) ∙ whole in
@@ -97,25 +97,25 @@ filtered_twice p q (x ∷ xs) =
       ]
     ]
 
--- of any part of the rows, at most `times` rows have the key
-few_keys : (rows times key : ℕ) (own : ℕ → Bool) → 0 < times → length (filter (λ row. eqb (get_or (each_repeated rows times) row 0) key) (filter own (range_with_len 0 rows))) ≤ times
-few_keys rows times key own some =
+-- of the rows that pass a test `own`, at most `times` rows have the key
+at_most_times_rows_have_key : (rows times key : ℕ) (own : ℕ → Bool) → 0 < times → length (filter (λ row. eqb (get_or (each_repeated rows times) row 0) key) (filter own (range_with_len 0 rows))) ≤ times
+at_most_times_rows_have_key rows times key own some =
     let p : ℕ → Bool = λ row. eqb (get_or (each_repeated rows times) row 0) key in
     let q : ℕ → Bool = λ row. eqb (row / times) key in
     let same : filter p (range_with_len 0 rows) ≡ filter q (range_with_len 0 rows) =
-    filter_agree_on p q (range_with_len 0 rows) (weaker (λ x. x < rows) (λ x. p x ≡ q x) (λ x low. ap (λ (n : ℕ). eqb n key) (repeated_at rows times x low)) (range_with_len 0 rows) (below 0 rows rows (omega arith))) in
-    let few : length (filter q (range_with_len 0 rows)) ≤ times = before_stretch q (key * times) times (λ x hit. in_key key times x some hit) rows 0 in
+    filter_agree_on p q (range_with_len 0 rows) (weaken_each (λ x. x < rows) (λ x. p x ≡ q x) (λ x low. ap (λ (n : ℕ). eqb n key) (repeated_at rows times x low)) (range_with_len 0 rows) (range_is_below 0 rows rows (omega arith))) in
+    let few : length (filter q (range_with_len 0 rows)) ≤ times = numbers_that_pass_are_at_most q (key * times) times (λ x hit. rows_with_key_are_in_range key times x some hit) rows 0 in
     omega (arith, filtered_twice p own (range_with_len 0 rows), ap (λ (s : List ℕ). length s) same, few)
 
--- ---- how many rows follow each choice of the level before
+-- ---- how many rows continue each choice of the level before
 
--- Suppose that a row passes `q` whenever the choice with this row at its end passes `p`. Then at most as many of these longer choices pass `p` as
--- rows of the list pass `q`
-few_below : (p : List ℕ → Bool) (q : ℕ → Bool) (Q : ℕ → Type 0) (choice : List ℕ) → ((row : ℕ) → Q row → p (choice ++ row ∷ []) ≡ true → q row ≡ true) → (list : List ℕ) → AllByRecursion Q list
+-- Suppose that a row passes `q` whenever the choice with this row at its end passes `p`. Then the longer choices that pass `p` are at most as many as
+-- the rows of the list that pass `q`
+continuations_are_at_most_rows : (p : List ℕ → Bool) (q : ℕ → Bool) (Q : ℕ → Type 0) (choice : List ℕ) → ((row : ℕ) → Q row → p (choice ++ row ∷ []) ≡ true → q row ≡ true) → (list : List ℕ) → AllByRecursion Q list
     → length (filter p (map (λ row. choice ++ row ∷ []) list)) ≤ length (filter q list)
-few_below p q Q choice only [] all = omega arith
-few_below p q Q choice only (row ∷ list) all =
-    let rest : length (filter p (map (λ row. choice ++ row ∷ []) list)) ≤ length (filter q list) = few_below p q Q choice only list all.1 in
+continuations_are_at_most_rows p q Q choice only [] all = omega arith
+continuations_are_at_most_rows p q Q choice only (row ∷ list) all =
+    let rest : length (filter p (map (λ row. choice ++ row ∷ []) list)) ≤ length (filter q list) = continuations_are_at_most_rows p q Q choice only list all.1 in
     elim (cases_Bool (p (choice ++ row ∷ []))) [
       | inl hit ↦ rw (hit, only row all.0 hit) (omega (arith, rest))
       | inr miss ↦ elim (cases_Bool (q row)) [
@@ -124,11 +124,11 @@ few_below p q Q choice only (row ∷ list) all =
       ]
     ]
 
-few_each : (p : List ℕ → Bool) (list : List ℕ) (times : ℕ) (P : List ℕ → Type 0) → ((choice : List ℕ) → P choice → length (filter p (map (λ row. choice ++ row ∷ []) list)) ≤ times) → (above : List (List ℕ)) → AllByRecursion P above
+continuations_of_all_are_at_most : (p : List ℕ → Bool) (list : List ℕ) (times : ℕ) (P : List ℕ → Type 0) → ((choice : List ℕ) → P choice → length (filter p (map (λ row. choice ++ row ∷ []) list)) ≤ times) → (above : List (List ℕ)) → AllByRecursion P above
     → length (filter p (extended above list)) ≤ times * length above
-few_each p list times P each [] all = omega arith
-few_each p list times P each (choice ∷ above) all =
-    let rest : length (filter p (extended above list)) ≤ times * length above = few_each p list times P each above all.1 in
+continuations_of_all_are_at_most p list times P each [] all = omega arith
+continuations_of_all_are_at_most p list times P each (choice ∷ above) all =
+    let rest : length (filter p (extended above list)) ≤ times * length above = continuations_of_all_are_at_most p list times P each above all.1 in
     let splits : length (filter p (extended (choice ∷ above) list)) ≡ length (filter p (map (λ row. choice ++ row ∷ []) list)) + length (filter p (extended above list)) =
     ap (λ (s : List (List ℕ)). length s) (filter-append p (map (λ row. choice ++ row ∷ []) list) (extended above list)) ∙ length-append (filter p (map (λ row. choice ++ row ∷ []) list)) (filter p (extended above list)) in
     let product : times * suc (length above) ≡ times * length above + times = mul-suc times (length above) in
@@ -138,22 +138,22 @@ le_product : (a n : ℕ) → 0 < n → a ≤ a * n
 le_product a zero some = absurd (omega arith)
 le_product a (suc n) some = let is : a * suc n ≡ a * n + a = mul-suc a n in omega (arith, is)
 
-more_times : (n a b : ℕ) → a ≤ b → n * a ≤ n * b
-more_times zero a b low = omega arith
-more_times (suc n) a b low =
-    let rest : n * a ≤ n * b = more_times n a b low in
+product_keeps_order : (n a b : ℕ) → a ≤ b → n * a ≤ n * b
+product_keeps_order zero a b low = omega arith
+product_keeps_order (suc n) a b low =
+    let rest : n * a ≤ n * b = product_keeps_order n a b low in
     let one : suc n * a ≡ n * a + a = suc-mul n a in
     let other : suc n * b ≡ n * b + b = suc-mul n b in
     omega (arith, rest, one, other, low)
 
-few_enough : (a b c : ℕ) → a ≤ b → b ≤ c → a ≤ c
-few_enough a b c low lower = omega (arith, low, lower)
+at_most_transitive : (a b c : ℕ) → a ≤ b → b ≤ c → a ≤ c
+at_most_transitive a b c low lower = omega (arith, low, lower)
 
 -- ---- the two tables
 
-module _ (left right times : ℕ) (values : Option Op) (lk lv rv : List ℕ) (are_lk : AreNumbers left lk) (are_lv : AreNumbers left lv) (are_rv : AreNumbers right rv) (some : 0 < times) (few_right : right ≤ 4000000) (few_left : left ≤ 4000000) where
+module _ (left right times : ℕ) (values : Option Op) (left_keys left_values right_values : List ℕ) (are_left_keys : AreNumbers left left_keys) (are_left_values : AreNumbers left left_values) (are_right_values : AreNumbers right right_values) (some : 0 < times) (few_right : right ≤ 4000000) (few_left : left ≤ 4000000) where
   abbrev db : Database
-  db = tables_of_two (table_of left lk lv) (table_of right (each_repeated right times) rv)
+  db = tables_of_two (table_of left left_keys left_values) (table_of right (each_repeated right times) right_values)
 
   abbrev q : Query
   q = join_of values
@@ -169,83 +169,83 @@ module _ (left right times : ℕ) (values : Option Op) (lk lv rv : List ℕ) (ar
   is_column (suc zero) column low within = record { entry = omega arith; exists = within }
   is_column (suc (suc from)) column low within = absurd (omega arith)
 
-  is_number : (from column : ℕ) → from < 2 → column < 2 → IsColumnOfKind db (col from column) false
-  is_number zero zero low within = record { exists = is_column 0 0 low within; kind = refl }
-  is_number zero (suc zero) low within = record { exists = is_column 0 1 low within; kind = refl }
-  is_number (suc zero) zero low within = record { exists = is_column 1 0 low within; kind = refl }
-  is_number (suc zero) (suc zero) low within = record { exists = is_column 1 1 low within; kind = refl }
-  is_number from (suc (suc column)) low within = absurd (omega arith)
-  is_number (suc (suc from)) column low within = absurd (omega arith)
+  column_is_of_numbers : (from column : ℕ) → from < 2 → column < 2 → IsColumnOfKind db (col from column) false
+  column_is_of_numbers zero zero low within = record { exists = is_column 0 0 low within; kind = refl }
+  column_is_of_numbers zero (suc zero) low within = record { exists = is_column 0 1 low within; kind = refl }
+  column_is_of_numbers (suc zero) zero low within = record { exists = is_column 1 0 low within; kind = refl }
+  column_is_of_numbers (suc zero) (suc zero) low within = record { exists = is_column 1 1 low within; kind = refl }
+  column_is_of_numbers from (suc (suc column)) low within = absurd (omega arith)
+  column_is_of_numbers (suc (suc from)) column low within = absurd (omega arith)
 
-  askable : (o : Op) (column : ℕ) → column < 2 → IsWellTyped db (compared o column)
-  askable o column within = can_ask db o (operand.Column (col 0 column)) (operand.Column (col 1 column)) (record { text = false; left_kind = is_number 0 column (omega arith) within; right_kind = is_number 1 column (omega arith) within })
+  comparison_is_well_typed : (o : Op) (column : ℕ) → column < 2 → IsWellTyped db (compared o column)
+  comparison_is_well_typed o column within = same_kinds_are_well_typed db o (operand.Column (col 0 column)) (operand.Column (col 1 column)) (record { text = false; left_kind = column_is_of_numbers 0 column (omega arith) within; right_kind = column_is_of_numbers 1 column (omega arith) within })
 
-  all_askable : (values : Option Op) → AllByRecursion (IsWellTyped db) (join_of values).conjuncts
-  all_askable (Some o) = (askable op.Eq 0 (omega arith), (askable o 1 (omega arith), tt))
-  all_askable None = (askable op.Eq 0 (omega arith), tt)
+  conjuncts_are_well_typed : (values : Option Op) → AllByRecursion (IsWellTyped db) (join_of values).conjuncts
+  conjuncts_are_well_typed (Some o) = (comparison_is_well_typed op.Eq 0 (omega arith), (comparison_is_well_typed o 1 (omega arith), tt))
+  conjuncts_are_well_typed None = (comparison_is_well_typed op.Eq 0 (omega arith), tt)
 
-  few_conjuncts : (values : Option Op) → length (join_of values).conjuncts ≤ 2
-  few_conjuncts (Some o) = omega arith
-  few_conjuncts None = omega arith
+  conjuncts_within_limit : (values : Option Op) → length (join_of values).conjuncts ≤ 2
+  conjuncts_within_limit (Some o) = omega arith
+  conjuncts_within_limit None = omega arith
 
-  quotient_low : (x : ℕ) → x < right → x / times < 2 ^ 64
-  quotient_low x low = let whole : x / times * times + x % times ≡ x = div-add-mod' x times in let at_least : x / times ≤ x / times * times = le_product (x / times) times some in omega (arith, whole, at_least)
+  quotient_is_below_2_64 : (x : ℕ) → x < right → x / times < 2 ^ 64
+  quotient_is_below_2_64 x low = let whole : x / times * times + x % times ≡ x = div-add-mod' x times in let at_least : x / times ≤ x / times * times = le_product (x / times) times some in omega (arith, whole, at_least)
 
-  are_rk : AreNumbers right (each_repeated right times)
-  are_rk = record {
+  are_right_keys : AreNumbers right (each_repeated right times)
+  are_right_keys = record {
     long = length-map (range_with_len 0 right) (λ row. row / times) ∙ length-range_with_len 0 right;
-    small = All-map (λ cell. cell < 2 ^ 64) (λ row. row / times) (range_with_len 0 right) (All-from_recursion (λ row. row / times < 2 ^ 64) (range_with_len 0 right) (weaker (λ x. x < right) (λ x. x / times < 2 ^ 64) quotient_low (range_with_len 0 right) (below 0 right right (omega arith))));
+    small = All-map (λ cell. cell < 2 ^ 64) (λ row. row / times) (range_with_len 0 right) (All-from_recursion (λ row. row / times < 2 ^ 64) (range_with_len 0 right) (weaken_each (λ x. x < right) (λ x. x / times < 2 ^ 64) quotient_is_below_2_64 (range_with_len 0 right) (range_is_below 0 right right (omega arith))));
   }
 
-  few_at : (entry : ℕ) → entry < 2 → row_counts (tables_of db) entry ≤ 4000000
-  few_at zero low = let is : row_counts (tables_of db) 0 ≡ left = rows_are db 0 in omega (arith, is, few_left)
-  few_at (suc zero) low = let is : row_counts (tables_of db) 1 ≡ right = rows_are db 1 in omega (arith, is, few_right)
-  few_at (suc (suc entry)) low = absurd (omega arith)
+  tables_are_within_limit : (entry : ℕ) → entry < 2 → row_counts (tables_of db) entry ≤ 4000000
+  tables_are_within_limit zero low = let is : row_counts (tables_of db) 0 ≡ left = rows_are db 0 in omega (arith, is, few_left)
+  tables_are_within_limit (suc zero) low = let is : row_counts (tables_of db) 1 ≡ right = rows_are db 1 in omega (arith, is, few_right)
+  tables_are_within_limit (suc (suc entry)) low = absurd (omega arith)
 
   pub fits : IsDatabaseOf q db
   fits = record {
     some = omega arith;
     few = omega arith;
-    few_conjuncts = omega (arith, few_conjuncts values);
+    conjuncts_within_limit = omega (arith, conjuncts_within_limit values);
     entries = refl;
     tables = record {
       cells = All-from_recursion (AreCells []) db.cells (
-        (record { height = are_lk.long; cells = are_lk.small }, (record { height = are_lv.long; cells = are_lv.small }, tt)),
-        ((record { height = are_rk.long; cells = are_rk.small }, (record { height = are_rv.long; cells = are_rv.small }, tt)), tt),
+        (record { height = are_left_keys.long; cells = are_left_keys.small }, (record { height = are_left_values.long; cells = are_left_values.small }, tt)),
+        ((record { height = are_right_keys.long; cells = are_right_keys.small }, (record { height = are_right_values.long; cells = are_right_values.small }, tt)), tt),
       );
       slots = All-from_recursion (λ slot. slot < 2) (0 ∷ 1 ∷ []) (omega arith, (omega arith, tt));
     };
-    few_rows = few_at;
+    rows_within_limit = tables_are_within_limit;
     same_slot = λ i j low high same. same;
-    conjuncts = All-from_recursion (IsWellTyped db) q.conjuncts (all_askable values);
+    conjuncts = All-from_recursion (IsWellTyped db) q.conjuncts (conjuncts_are_well_typed values);
     outputs = All-from_recursion (λ out. IsColumnOf db out.column) q.select tt;
   }
 
   -- ---- how many rows there are
 
-  scan_few : (entry : ℕ) → length (scan_of q db entry) ≤ row_counts (tables_of db) entry
-  scan_few entry =
+  scan_is_at_most_table : (entry : ℕ) → length (scan_of q db entry) ≤ row_counts (tables_of db) entry
+  scan_is_at_most_table entry =
       let own : ℕ → Bool = passes_own conjuncts entry in
       let rows : List ℕ = range_with_len 0 (row_counts (tables_of db) entry) in
       omega (arith, length-filter own rows, count_by-le-length own rows, length-range_with_len 0 (row_counts (tables_of db) entry))
 
   first_scan : length (scan_of q db 0) ≤ left
-  first_scan = omega (arith, scan_few 0, rows_are db 0)
+  first_scan = omega (arith, scan_is_at_most_table 0, rows_are db 0)
 
   second_scan : length (scan_of q db 1) ≤ right
-  second_scan = omega (arith, scan_few 1, rows_are db 1)
+  second_scan = omega (arith, scan_is_at_most_table 1, rows_are db 1)
 
   abbrev scans : List (List ℕ)
   scans = scans_of q (tables_of db)
 
   scanned : (entry : ℕ) → entry < 2 → IsOfScan conjuncts (row_counts (tables_of db)) (list_at scans) entry
-  scanned entry low = of_scan q (tables_of db) scans (whole_of_scans q (tables_of db)) entry low
+  scanned entry low = of_scan q (tables_of db) scans (scans_are_of_scans q (tables_of db)) entry low
 
   first_level : length (chosen_rows q (tables_of db) scans (0 ∷ [])) ≤ left
-  first_level = omega (arith, few_chosen q (tables_of db) scans 0, first_scan)
+  first_level = omega (arith, at_most_listed_rows q (tables_of db) scans 0, first_scan)
 
   -- a right row that is joined with a left row has the left row's key
-  has_key : (x row : ℕ) → x < row_counts (tables_of db) 0 → row < row_counts (tables_of db) 1 → completed_hold conjuncts (0 ∷ []) 1 (x ∷ row ∷ []) ≡ true → eqb (get_or (each_repeated right times) row 0) (get_or lk x 0) ≡ true
+  has_key : (x row : ℕ) → x < row_counts (tables_of db) 0 → row < row_counts (tables_of db) 1 → completed_hold conjuncts (0 ∷ []) 1 (x ∷ row ∷ []) ≡ true → eqb (get_or (each_repeated right times) row 0) (get_or left_keys x 0) ≡ true
   has_key x row low_x low_row hit =
       let row_of : ℕ → ℕ = row_in (0 ∷ 1 ∷ []) (x ∷ row ∷ []) in
       let a : ColumnRef = col 0 0 in
@@ -256,30 +256,30 @@ module _ (left right times : ℕ) (values : Option Op) (lk lv rv : List ℕ) (ar
       let first : (not (spans_both_sides (0 ∷ []) (1 ∷ []) (compared op.Eq 0)) || cond_holds (tables_of db) row_of (compared op.Eq 0)) ≡ true = (and_parts _ _ hit).0 in
       let holds : cond_holds (tables_of db) row_of (compared op.Eq 0) ≡ true = ap (λ b. not b || cond_holds (tables_of db) row_of (compared op.Eq 0)) (sym between) ∙ first in
       let none : All IsUtf8 [] = All-from_recursion IsUtf8 [] tt in
-      sym (key_holds db row_of (0 ∷ []) (1 ∷ []) 0 (compared op.Eq 0) key is_key fits.tables (λ i j d low high same. absurd (omega arith)) none (askable op.Eq 0 (omega arith)) (omega (arith, low_x, rows_are db 0)) (omega (arith, low_row, rows_are db 1))) ∙ holds
+      sym (key_holds db row_of (0 ∷ []) (1 ∷ []) 0 (compared op.Eq 0) key is_key fits.tables (λ i j d low high same. absurd (omega arith)) none (comparison_is_well_typed op.Eq 0 (omega arith)) (omega (arith, low_x, rows_are db 0)) (omega (arith, low_row, rows_are db 1))) ∙ holds
 
-  -- after one choice of a left row, at most `times` right rows are joined
-  below_choice : (choice : List ℕ) → IsChoiceOf (row_counts (tables_of db)) (0 ∷ []) choice → length (filter (completed_hold conjuncts (0 ∷ []) 1) (map (λ row. choice ++ row ∷ []) (scan_of q db 1))) ≤ times
-  below_choice [] p = absurd p
-  below_choice (x ∷ y ∷ choice) p = absurd p.1
-  below_choice (x ∷ []) p =
-      few_enough (length (filter (completed_hold conjuncts (0 ∷ []) 1) (map (λ row. (x ∷ []) ++ row ∷ []) (scan_of q db 1))))
-      (length (filter (λ row. eqb (get_or (each_repeated right times) row 0) (get_or lk x 0)) (scan_of q db 1))) times
-      (few_below (completed_hold conjuncts (0 ∷ []) 1) (λ row. eqb (get_or (each_repeated right times) row 0) (get_or lk x 0)) (λ row. row < row_counts (tables_of db) 1) (x ∷ []) (λ row low hit. has_key x row p.0 low hit)
-      (scan_of q db 1) (recursion_from_All (λ row. row < row_counts (tables_of db) 1) (scan_of q db 1) (scan_below conjuncts (row_counts (tables_of db)) 1 (scan_of q db 1) (scanned 1 (omega arith)))))
-      (subst (λ (n : ℕ). length (filter (λ row. eqb (get_or (each_repeated right times) row 0) (get_or lk x 0)) (filter (passes_own conjuncts 1) (range_with_len 0 n))) ≤ times) (sym (rows_are db 1))
-      (few_keys right times (get_or lk x 0) (passes_own conjuncts 1) some))
+  -- each left row is joined with at most `times` right rows
+  matches_of_choice_are_at_most_times : (choice : List ℕ) → IsChoiceOf (row_counts (tables_of db)) (0 ∷ []) choice → length (filter (completed_hold conjuncts (0 ∷ []) 1) (map (λ row. choice ++ row ∷ []) (scan_of q db 1))) ≤ times
+  matches_of_choice_are_at_most_times [] p = absurd p
+  matches_of_choice_are_at_most_times (x ∷ y ∷ choice) p = absurd p.1
+  matches_of_choice_are_at_most_times (x ∷ []) p =
+      at_most_transitive (length (filter (completed_hold conjuncts (0 ∷ []) 1) (map (λ row. (x ∷ []) ++ row ∷ []) (scan_of q db 1))))
+      (length (filter (λ row. eqb (get_or (each_repeated right times) row 0) (get_or left_keys x 0)) (scan_of q db 1))) times
+      (continuations_are_at_most_rows (completed_hold conjuncts (0 ∷ []) 1) (λ row. eqb (get_or (each_repeated right times) row 0) (get_or left_keys x 0)) (λ row. row < row_counts (tables_of db) 1) (x ∷ []) (λ row low hit. has_key x row p.0 low hit)
+      (scan_of q db 1) (recursion_from_All (λ row. row < row_counts (tables_of db) 1) (scan_of q db 1) (listed_rows_exist conjuncts (row_counts (tables_of db)) 1 (scan_of q db 1) (scanned 1 (omega arith)))))
+      (subst (λ (n : ℕ). length (filter (λ row. eqb (get_or (each_repeated right times) row 0) (get_or left_keys x 0)) (filter (passes_own conjuncts 1) (range_with_len 0 n))) ≤ times) (sym (rows_are db 1))
+      (at_most_times_rows_have_key right times (get_or left_keys x 0) (passes_own conjuncts 1) some))
 
   second_level : length (chosen_rows q (tables_of db) (scans_of q (tables_of db)) (0 ∷ 1 ∷ [])) ≤ times * left
   second_level =
       let above : List (List ℕ) = chosen_rows q (tables_of db) scans (0 ∷ []) in
       let next : chosen_rows q (tables_of db) scans (0 ∷ 1 ∷ []) ≡ filter (completed_hold conjuncts (0 ∷ []) 1) (extended above (scan_of q db 1)) =
-      level_over_more conjuncts (list_at scans) (0 ∷ []) 1 (depend_on_named (tables_of db) q.conjuncts) refl
-      ∙ ap (λ (s : List ℕ). filter (completed_hold conjuncts (0 ∷ []) 1) (extended above s)) (own_kept conjuncts (row_counts (tables_of db)) 1 (scan_of q db 1) (scanned 1 (omega arith))) in
-      let few_all = few_each (completed_hold conjuncts (0 ∷ []) 1) (scan_of q db 1) times (IsChoiceOf (row_counts (tables_of db)) (0 ∷ [])) below_choice above
-      (are_choices q db scans (whole_of_scans q (tables_of db)) (0 ∷ []) (omega arith, tt)) in
+      next_level_over conjuncts (list_at scans) (0 ∷ []) 1 (depend_on_named (tables_of db) q.conjuncts) refl
+      ∙ ap (λ (s : List ℕ). filter (completed_hold conjuncts (0 ∷ []) 1) (extended above s)) (list_passes_own conjuncts (row_counts (tables_of db)) 1 (scan_of q db 1) (scanned 1 (omega arith))) in
+      let few_all = continuations_of_all_are_at_most (completed_hold conjuncts (0 ∷ []) 1) (scan_of q db 1) times (IsChoiceOf (row_counts (tables_of db)) (0 ∷ [])) matches_of_choice_are_at_most_times above
+      (are_choices q db scans (scans_are_of_scans q (tables_of db)) (0 ∷ []) (omega arith, tt)) in
       let few_above : length above ≤ left = first_level in
-      omega (arith, ap (λ (s : List (List ℕ)). length s) next, few_all, more_times times (length above) left few_above)
+      omega (arith, ap (λ (s : List (List ℕ)). length s) next, few_all, product_keeps_order times (length above) left few_above)
 
   -- ---- the plan
 
@@ -311,6 +311,6 @@ module _ (left right times : ℕ) (values : Option Op) (lk lv rv : List ℕ) (ar
   node_fits (suc (suc zero)) low = second_level
   node_fits (suc (suc (suc node))) low = absurd (omega arith)
 
-  pub planned : times * left ≤ 20000000 → IsTreePlanOf (join_of values) (tables_of (tables_of_two (table_of left lk lv) (table_of right (each_repeated right times) rv)))
-      (scans_of (join_of values) (tables_of (tables_of_two (table_of left lk lv) (table_of right (each_repeated right times) rv)))) (plan_of left right times)
+  pub planned : times * left ≤ 20000000 → IsTreePlanOf (join_of values) (tables_of (tables_of_two (table_of left left_keys left_values) (table_of right (each_repeated right times) right_values)))
+      (scans_of (join_of values) (tables_of (tables_of_two (table_of left left_keys left_values) (table_of right (each_repeated right times) right_values)))) (plan_of left right times)
   planned few_joined = record { for_each_entry = is_tree; small = fits_buffers few_joined; scans = scan_fits; nodes = node_fits }

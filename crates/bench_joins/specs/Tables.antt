@@ -9,7 +9,7 @@ use Rattle.query_grammar.specs.declared.tree.Op.TheVariants as op
 use Rattle.query_types.specs.declared.types.Operand.TheVariants as operand
 use Rattle.query_types.specs.declared.types.Cond.{Cond, Compare}
 use Rattle.query_types.specs.declared.types.Query.{Query}
-use Rattle.tree_plans.specs.declared.bushy.BushyPlan.{BushyPlan}
+use Rattle.plans.specs.declared.bushy.BushyPlan.{BushyPlan}
 
 abbrev pub compared : Op → ℕ → Cond
 compared op number = Compare op (operand.Column (record { from = 0; column = number }))
@@ -45,7 +45,7 @@ pub record AreNumbers (rows : ℕ) (cells : List ℕ) : Type 0 where
   pub small : All (λ cell. cell < 2 ^ 64) cells
 
 -- two columns of numbers
-pub record IsTable (rows : ℕ) (cells : Cells) : Type 0 where
+pub record IsTableOfNumbers (rows : ℕ) (cells : Cells) : Type 0 where
   pub keys : List ℕ
   pub values : List ℕ
   pub is : cells ≡ table_of rows keys values
@@ -53,18 +53,18 @@ pub record IsTable (rows : ℕ) (cells : Cells) : Type 0 where
   pub are_values : AreNumbers rows values
 
 -- a table whose keys are `each_repeated rows times`
-pub record HasRepeated (rows times : ℕ) (cells : Cells) : Type 0 where
+pub record HasRepeatedKeys (rows times : ℕ) (cells : Cells) : Type 0 where
   pub values : List ℕ
   pub is : cells ≡ table_of rows (each_repeated rows times) values
   pub are_values : AreNumbers rows values
 
 -- two tables of these sizes; the right table has each key at most `times` times
-pub record AreTwo (left right times : ℕ) (db : Database) : Type 0 where
+pub record AreTwoTables (left right times : ℕ) (db : Database) : Type 0 where
   pub first : Cells
   pub second : Cells
   pub is : db ≡ tables_of_two first second
-  pub is_first : IsTable left first
-  pub is_second : HasRepeated right times second
+  pub is_first : IsTableOfNumbers left first
+  pub is_second : HasRepeatedKeys right times second
 
 -- the plan of the query. The join has at most `times` rows for each row of the left table
 abbrev pub plan_of : ℕ → ℕ → ℕ → BushyPlan
@@ -74,7 +74,7 @@ plan_of left right times = record {
   cost = times * left;
 }
 
--- two tables, the query that joins them, and its plan. Their sizes are within the limits of tables and plans
+-- two tables, the query that joins them, and its plan. The sizes of the tables and of the join are within the limits of tables and plans
 pub record IsJoinOfTwo (plan : BushyPlan) (query : Query) (db : Database) : Type 0 where
   pub left : ℕ
   pub right : ℕ
@@ -82,7 +82,7 @@ pub record IsJoinOfTwo (plan : BushyPlan) (query : Query) (db : Database) : Type
   pub values : Option Op
   pub is_plan : plan ≡ plan_of left right times
   pub is_query : query ≡ join_of values
-  pub are_two : AreTwo left right times db
+  pub are_two : AreTwoTables left right times db
   pub some : 0 < times
   pub few_left : left ≤ 4000000
   pub few_right : right ≤ 4000000

@@ -18,6 +18,7 @@ use base_io::NoMemory;
 use bushy_join::execute_bushy;
 use csv_tables::Database;
 use join_steps::scan_all;
+use plans::BushyPlan;
 use query_types::{Op, Query};
 use reserve_plan::row_buffers;
 use row_buf::RowBuf;
@@ -26,7 +27,6 @@ use std::rt::Clock;
 use std::time::Instant;
 use std::{env, io};
 use tables::{Sizes, database, plan, query};
-use tree_plans::BushyPlan;
 use tree_rows::{BushyReserved, BushyResult, reserve_bushy};
 
 // The node that joins the tables. The tables themselves are nodes 0 and 1.
@@ -46,7 +46,7 @@ struct Joined {
     sum: u64,
 }
 
-fn summed(done: &BushyResult) -> Joined
+fn counted_and_summed(done: &BushyResult) -> Joined
     requires nodes { length done.now.nodes ≡ 3 }
     requires entries { (node_at done.now.nodes ROOT).entries ≡ 0 ∷ 1 ∷ [] }
 {
@@ -81,11 +81,11 @@ fn execution(
     scan_all(query, db, lists.as_mut_slice());
     let done = execute_bushy(reserved, lists, plan, query, db);
     let nanos = start.elapsed(rt)?.as_nanos();
-    let Joined { rows, sum, .. } = summed(&done);
+    let Joined { rows, sum, .. } = counted_and_summed(&done);
     Ok(Joined { nanos, rows, sum })
 }
 
-fn timed(
+fn timed_execution(
     rt: &impl Clock,
     alloc: Global,
     plan: &BushyPlan,
@@ -99,8 +99,8 @@ fn timed(
     execution(rt, lists, reserved, plan, query, db)
 }
 
-// The fastest of several executions.
-fn least_of(
+// The fastest of `rounds` executions.
+fn fastest_of(
     rt: &impl Clock,
     alloc: Global,
     sizes: Sizes,
@@ -115,9 +115,9 @@ fn least_of(
     let db = database(alloc, sizes).map_err(out_of_memory)?;
     let query = query(alloc, values).map_err(out_of_memory)?;
     let plan = plan(alloc, sizes).map_err(out_of_memory)?;
-    let mut least = timed(rt, alloc, &plan, &query, &db)?;
+    let mut least = timed_execution(rt, alloc, &plan, &query, &db)?;
     for _ in 1..rounds {
-        let next = timed(rt, alloc, &plan, &query, &db)?;
+        let next = timed_execution(rt, alloc, &plan, &query, &db)?;
         if next.nanos < least.nanos {
             least = next;
         }
@@ -125,7 +125,7 @@ fn least_of(
     Ok(least)
 }
 
-// A name, the row counts of the left and the right table, and how often the right table has each key. Then the operator that compares values, if any.
+// A name, the numbers of rows of the left and the right table, how often the right table has each key, and the operator that compares values, if any.
 #[derive(Clone, Copy)]
 struct Case<'a>(&'a str, u32, u32, u32, Option<Op>);
 
@@ -147,18 +147,23 @@ const LARGE: [Case<'static>; 8] = [
 ];
 
 // Measures a case. If the tables or the join have more rows than a plan may have, the case is refused.
-fn measured(rt: &impl Clock, alloc: Global, case: Case<'_>, rounds: u32) -> io::Result<Joined> {
+fn fastest_of_case(
+    rt: &impl Clock,
+    alloc: Global,
+    case: Case<'_>,
+    rounds: u32,
+) -> io::Result<Joined> {
     let Case(_, left, right, times, values) = case;
     let most = u64::from(times) * u64::from(left);
     if times == 0 || left > 4_000_000 || right > 4_000_000 || most > 20_000_000 {
         return Err(io::Error::from(io::ErrorKind::InvalidInput));
     }
-    least_of(rt, alloc, Sizes { left, right, times }, values, rounds)
+    fastest_of(rt, alloc, Sizes { left, right, times }, values, rounds)
 }
 
 fn show(rt: &HostRuntime, case: Case<'_>, rounds: u32) -> io::Result<()> {
     let name = case.0;
-    let Joined { nanos, rows, sum } = measured(rt, rt.alloc(), case, rounds)?;
+    let Joined { nanos, rows, sum } = fastest_of_case(rt, rt.alloc(), case, rounds)?;
     println!(rt; "{name} {rows} {sum}")?;
     if rounds > 1 {
         eprintln!(rt; "{nanos}")?;

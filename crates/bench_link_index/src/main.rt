@@ -1,8 +1,8 @@
 //! Measures the proved code of link_index; bench/link_index.rs measures plain Rust for the same work.
 //!
 //! Without an argument the program makes the calls over 1,000 keys, and writes a checksum of their results. With an argument it makes them over
-//! 4,000,000 keys. Then it also writes to standard error the nanoseconds that `load`, `first` and `after` took for all keys. Each is the least of
-//! five rounds.
+//! 4,000,000 keys. Then it also writes to standard error the nanoseconds that `load`, `first` and `after` took for all keys. Each number is the least
+//! of five rounds.
 #![tactic(auto)]
 
 ghost use Rattle.std.specs.Prelude.{◌≡◌, ◌<◌, ◌≤◌, length, vec_len, IfOk};
@@ -16,24 +16,24 @@ use std::{env, io};
 
 const ROUNDS: u32 = 5;
 
-// The least time of each kind of call, in nanoseconds, and sums of what the calls gave.
+// The least time of each kind of call, in nanoseconds, and sums of what the calls returned.
 #[derive(Clone, Copy)]
 struct Round {
     load: u128,
     first: u128,
     after: u128,
-    firsts: u64,
-    afters: u64,
+    first_sum: u64,
+    after_sum: u64,
 }
 
 impl Round {
-    fn least(self, other: Round) -> Round {
+    fn with_least_times(self, other: Round) -> Round {
         Round {
             load: self.load.min(other.load),
             first: self.first.min(other.first),
             after: self.after.min(other.after),
-            firsts: other.firsts,
-            afters: other.afters,
+            first_sum: other.first_sum,
+            after_sum: other.after_sum,
         }
     }
 }
@@ -86,17 +86,17 @@ fn timed_round(rt: &impl Clock, chains: &mut Chains, keys: &[u64]) -> io::Result
     chains.load(keys);
     let load = start.elapsed(rt)?.as_nanos();
     let start = Instant::now(rt)?;
-    let firsts = find_each(chains, keys);
+    let first_sum = find_each(chains, keys);
     let first = start.elapsed(rt)?.as_nanos();
     let start = Instant::now(rt)?;
-    let afters = follow_each(chains, keys);
+    let after_sum = follow_each(chains, keys);
     let after = start.elapsed(rt)?.as_nanos();
     Ok(Round {
         load,
         first,
         after,
-        firsts,
-        afters,
+        first_sum,
+        after_sum,
     })
 }
 
@@ -109,13 +109,13 @@ fn measure(rt: &impl Clock, alloc: Global, count: u64, step: u64) -> io::Result<
     let mut chains = Chains::with_room(alloc, count, count).map_err(out_of_memory)?;
     let mut least = timed_round(rt, &mut chains, keys)?;
     for _ in 1..ROUNDS {
-        least = least.least(timed_round(rt, &mut chains, keys)?);
+        least = least.with_least_times(timed_round(rt, &mut chains, keys)?);
     }
     Ok(least)
 }
 
 fn write_round(rt: &HostRuntime, name: &str, round: Round, is_timed: bool) -> io::Result<()> {
-    println!(rt; "{name} {} {}", round.firsts, round.afters)?;
+    println!(rt; "{name} {} {}", round.first_sum, round.after_sum)?;
     if is_timed {
         eprintln!(rt;
             "load {} first {} after {}",

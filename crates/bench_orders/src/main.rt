@@ -1,7 +1,7 @@
 //! Measures the proved code of order_search and bushy_plan; bench/orders.rs and bench/bushy.rs measure plain Rust for the same work.
 //!
-//! The program chooses orders of twelve entries for several kinds of bounds, then join trees for these bounds, and writes what it chose. With an
-//! argument it also writes to standard error the nanoseconds of each choice. They are the least of 50 for an order, and of 10 for a tree.
+//! The program chooses orders of twelve entries for three kinds of bounds, then join trees for these bounds, and writes what it chose. With an
+//! argument it also writes to standard error the nanoseconds of each choice: the least of 50 choices of an order, and of 10 choices of a tree.
 #![tactic(auto)]
 
 ghost use Rattle.std.specs.Prelude.{◌≡◌, ◌<◌, length, replicate, vec_len, IfOk};

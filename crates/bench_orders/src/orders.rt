@@ -7,7 +7,7 @@ use plans::Plan;
 use std::alloc::Global;
 use std::io;
 
-fn no_order(error: PlanError) -> io::Error {
+fn order_error(error: PlanError) -> io::Error {
     match error {
         PlanError::NoMemory => io::Error::from(io::ErrorKind::OutOfMemory),
         _ => io::Error::from(io::ErrorKind::InvalidInput),
@@ -19,7 +19,7 @@ pub fn chosen(alloc: Global, bounds: &Seq<u128>, scans: &Seq<u64>) -> io::Result
     requires scans { scans.now ≡ replicate 12 1000 }
     requires bounds { length bounds.now ≡ 4096 }
 {
-    choose(alloc, bounds, scans, 20_000_000).map_err(no_order)
+    choose(alloc, bounds, scans, 20_000_000).map_err(order_error)
 }
 
 /// Writes a name, the best order and the bounds of its levels.

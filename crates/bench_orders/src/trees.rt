@@ -4,11 +4,11 @@ ghost use Rattle.std.specs.Prelude.{◌≡◌, length, replicate};
 use base_io::Seq;
 use bushy_plan::choose_bushy;
 use order_search::PlanError;
+use plans::BushyPlan;
 use std::alloc::Global;
 use std::io;
-use tree_plans::BushyPlan;
 
-fn no_tree(error: PlanError) -> io::Error {
+fn tree_error(error: PlanError) -> io::Error {
     match error {
         PlanError::NoMemory => io::Error::from(io::ErrorKind::OutOfMemory),
         _ => io::Error::from(io::ErrorKind::InvalidInput),
@@ -20,7 +20,7 @@ pub fn chosen(alloc: Global, bounds: &Seq<u128>, scans: &Seq<u64>) -> io::Result
     requires scans { scans.now ≡ replicate 12 1000 }
     requires bounds { length bounds.now ≡ 4096 }
 {
-    choose_bushy(alloc, bounds, scans, 4_000_000).map_err(no_tree)
+    choose_bushy(alloc, bounds, scans, 4_000_000).map_err(tree_error)
 }
 
 /// Writes a name, the cost of the best join tree and its joins.

@@ -3,8 +3,8 @@
 //! The program reduces the scans of two queries. The first is a chain of three tables, in which one row in a hundred stays. The second is a cycle of
 //! two tables, in which one row after another is dropped. For each query the program writes how many rows stay and the sum of their row numbers.
 //! Without an argument the tables are small. With an argument, say `time`, the chain has three tables of 1,000,000 rows. The cycle has 250,000
-//! rows in all, then 500,000, then 1,000,000. The program then also writes to standard error the nanoseconds of scans and reduction together, the
-//! least of three.
+//! rows in all, then 500,000, then 1,000,000. The program then also writes to standard error the nanoseconds of scans and reduction together: the
+//! least of three rounds.
 #![tactic(auto)]
 
 ghost use Rattle.std.specs.Prelude.{◌≤◌};
@@ -16,7 +16,7 @@ mod tables;
 use base_io::MemStore;
 use failed::Failed;
 use limits::{MOST_CONJUNCTS, MOST_TEXT};
-use reducing::{Reduced, timed};
+use reducing::{Reduced, timed_reduction};
 use schema_types::read_schema;
 use sql_parse::read_query;
 use std::alloc::Global;
@@ -27,8 +27,8 @@ use tables::{CHAIN, CYCLE, SCHEMA, chain, cycle};
 
 const ROUNDS: u32 = 3;
 
-// The fastest of several reductions of a query's scans.
-fn least_of(
+// The fastest of `rounds` reductions of a query's scans.
+fn fastest_of(
     rt: &impl Clock,
     alloc: Global,
     text: &str,
@@ -44,9 +44,9 @@ fn least_of(
     if query.conjuncts.len() > MOST_CONJUNCTS {
         return Err(Failed);
     }
-    let mut least = timed(rt, alloc, &query, &db)?;
+    let mut least = timed_reduction(rt, alloc, &query, &db)?;
     for _ in 1..rounds {
-        let next = timed(rt, alloc, &query, &db)?;
+        let next = timed_reduction(rt, alloc, &query, &db)?;
         if next.nanos < least.nanos {
             least = next;
         }
@@ -67,7 +67,7 @@ fn show_chain(rt: &HostRuntime, name: &str, rows: u32, rounds: u32) -> io::Resul
 {
     let alloc = rt.alloc();
     let mut store = chain(alloc, rows)?;
-    let least = least_of(rt, alloc, CHAIN, &mut store, rounds)?;
+    let least = fastest_of(rt, alloc, CHAIN, &mut store, rounds)?;
     show(rt, name, least, rounds)
 }
 
@@ -76,7 +76,7 @@ fn show_cycle(rt: &HostRuntime, name: &str, rows: u32, rounds: u32) -> io::Resul
 {
     let alloc = rt.alloc();
     let mut store = cycle(alloc, rows)?;
-    let least = least_of(rt, alloc, CYCLE, &mut store, rounds)?;
+    let least = fastest_of(rt, alloc, CYCLE, &mut store, rounds)?;
     show(rt, name, least, rounds)
 }
 

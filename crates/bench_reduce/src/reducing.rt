@@ -44,7 +44,7 @@ fn summed(nanos: u128, lists: &[RowBuf<u32>]) -> Reduced {
 }
 
 /// Scans the tables of a query and reduces the scans once, and takes the time of both.
-pub(crate) fn timed(
+pub(crate) fn timed_reduction(
     rt: &impl Clock,
     alloc: Global,
     query: &Query,

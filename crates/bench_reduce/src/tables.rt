@@ -54,7 +54,7 @@ fn add(
 }
 
 /// The tables of the chain: A, B and D, each of `rows` rows. A and B have every number below `rows`, D the multiples of 100 from 0 on. In each table
-/// the rows that have a multiple of 100 below `rows` stay.
+/// the rows stay that have a multiple of 100, if this is below `rows`.
 pub(crate) fn chain(alloc: Global, rows: u32) -> Result<MemStore, Failed>
     requires { rows ≤ 1000000 }
 {
@@ -70,8 +70,8 @@ pub(crate) fn chain(alloc: Global, rows: u32) -> Result<MemStore, Failed>
     Ok(MemStore::new(files, Seq::new(alloc)))
 }
 
-/// The tables of the cycle: P and Q, each of `rows` rows. Row 0 of P has no match and is removed. This removes the match of row 0 of Q, and so
-/// on with row 1 of P. Rows are removed one after another, and only the last row of each table stays.
+/// The tables of the cycle: P and Q, each of `rows` rows. Row 0 of P has no match and is removed. Then row 0 of Q has no match and is
+/// removed, then row 1 of P, and so on. Only the last row of each table stays.
 pub(crate) fn cycle(alloc: Global, rows: u32) -> Result<MemStore, Failed>
     requires { rows ≤ 1000000 }
 {

@@ -1,8 +1,8 @@
 //! Measures the proved code of column_stats and cond_stats; bench/stats.rs measures plain Rust for the same work.
 //!
-//! The program makes all lists of a pair of columns at once, and then the lists of one value and of one range on demand. Each time it writes how many
-//! runs these lists have. Without an argument the columns have 100 rows. With an argument, say `time`, they have 1,000,000 rows. The program then
-//! also writes to standard error the nanoseconds of each of the two parts, the least of three.
+//! The program makes all lists of a pair of columns at once, and then the lists of one value and of one range on demand. After each of the two parts
+//! it writes how many runs the lists have. Without an argument the columns have 100 rows. With an argument, say `time`, they have 1,000,000 rows. The
+//! program then also writes to standard error the nanoseconds of each part: the least of three rounds.
 #![tactic(auto)]
 
 ghost use Rattle.std.specs.Prelude.{◌≡◌, ◌<◌, ◌^◌, length, IfOk};
@@ -30,24 +30,24 @@ fn out_of_memory(_: NoMemory) -> io::Error {
 }
 
 // How many runs a list has.
-fn runs(list: &Pieces) -> u64 {
+fn run_count_of_list(list: &Pieces) -> u64 {
     list.pieces().len() as u64
 }
 
 // How many runs all lists have.
-fn runs_of(stats: &ColumnStats) -> u64 {
-    let mut all = runs(&stats.whole).wrapping_add(runs(&stats.rest));
+fn run_count_of_all_lists(stats: &ColumnStats) -> u64 {
+    let mut all = run_count_of_list(&stats.whole).wrapping_add(run_count_of_list(&stats.rest));
     for frequent in stats.frequent.as_slice() {
-        all = all.wrapping_add(runs(&frequent.list));
+        all = all.wrapping_add(run_count_of_list(&frequent.list));
     }
     for node in stats.nodes.as_slice() {
-        all = all.wrapping_add(runs(node));
+        all = all.wrapping_add(run_count_of_list(node));
     }
     all
 }
 
-// A column of a kind, sorted. Invalid cells give the error `NoMemory` too: a cell that isn't of this kind, or more than 4,000,000 cells.
-fn sorted<'a>(
+// A column of a kind, sorted. The error is `NoMemory` also for a cell that isn't of this kind, and for more than 4,000,000 cells.
+fn sorted_column<'a>(
     alloc: Global,
     pool: &'a Pool,
     kind: Kind,
@@ -68,15 +68,15 @@ fn on_demand(alloc: Global, pool: &Pool, kind: Kind, pair: &Pair) -> Result<u64,
     if cells.len() != joined.len() {
         return Err(NoMemory);
     }
-    let column = sorted(alloc, pool, kind, cells)?;
+    let column = sorted_column(alloc, pool, kind, cells)?;
     let value = column.list_of_value(joined, cells.get(cells.len() / 2).copied(), Accuracy::of(1))?;
     let range = column.list_of_range(joined, Some(8), Some(15), Accuracy::of(1))?;
-    Ok(runs(&value).wrapping_add(runs(&range)))
+    Ok(run_count_of_list(&value).wrapping_add(run_count_of_list(&range)))
 }
 
 // How many rows the columns have, how often each part is measured, and whether times are written.
 #[derive(Clone, Copy)]
-struct Plan {
+struct Settings {
     is_timed: bool,
     rounds: u32,
     rows: u32,
@@ -84,14 +84,14 @@ struct Plan {
 
 fn report(
     rt: &HostRuntime,
-    plan: Plan,
+    settings: Settings,
     name: &str,
     part: &str,
     runs: u64,
     nanos: u128,
 ) -> io::Result<()> {
     println!(rt; "{name}{part} {runs}")?;
-    if plan.is_timed {
+    if settings.is_timed {
         eprintln!(rt; "{nanos}")?;
     }
     Ok(())
@@ -99,7 +99,7 @@ fn report(
 
 fn measure_gather(
     rt: &HostRuntime,
-    plan: Plan,
+    settings: Settings,
     name: &str,
     pool: &Pool,
     cells: &Cells,
@@ -109,18 +109,18 @@ fn measure_gather(
 {
     let mut least = u128::MAX;
     let mut runs = 0;
-    for _ in 0..plan.rounds {
+    for _ in 0..settings.rounds {
         let start = Instant::now(rt)?;
         let stats = gather(rt.alloc(), cells, pool, 0, 1, Accuracy::of(1)).map_err(out_of_memory)?;
         least = least.min(start.elapsed(rt)?.as_nanos());
-        runs = runs_of(&stats);
+        runs = run_count_of_all_lists(&stats);
     }
-    report(rt, plan, name, "-gather", runs, least)
+    report(rt, settings, name, "-gather", runs, least)
 }
 
 fn measure_demand(
     rt: &HostRuntime,
-    plan: Plan,
+    settings: Settings,
     name: &str,
     pool: &Pool,
     kind: Kind,
@@ -128,20 +128,25 @@ fn measure_demand(
 ) -> io::Result<()> {
     let mut least = u128::MAX;
     let mut runs = 0;
-    for _ in 0..plan.rounds {
+    for _ in 0..settings.rounds {
         let start = Instant::now(rt)?;
         runs = on_demand(rt.alloc(), pool, kind, pair).map_err(out_of_memory)?;
         least = least.min(start.elapsed(rt)?.as_nanos());
     }
-    report(rt, plan, name, "-demand", runs, least)
+    report(rt, settings, name, "-demand", runs, least)
 }
 
-fn measure_pair(rt: &HostRuntime, plan: Plan, pool: &Pool, filter: FilterKind) -> io::Result<()> {
+fn measure_pair(
+    rt: &HostRuntime,
+    settings: Settings,
+    pool: &Pool,
+    filter: FilterKind,
+) -> io::Result<()> {
     let kind = match filter {
         FilterKind::Ten | FilterKind::Different => Kind::Int,
         FilterKind::Texts => Kind::Text(8),
     };
-    let pair = pair_of(rt.alloc(), filter, plan.rows).map_err(out_of_memory)?;
+    let pair = pair_of(rt.alloc(), filter, settings.rows).map_err(out_of_memory)?;
     let cells = table_of_pair(
         rt.alloc(),
         pool,
@@ -150,19 +155,19 @@ fn measure_pair(rt: &HostRuntime, plan: Plan, pool: &Pool, filter: FilterKind) -
         pair.joined.as_slice(),
     )
     .map_err(out_of_memory)?;
-    measure_gather(rt, plan, filter.name(), pool, &cells)?;
-    measure_demand(rt, plan, filter.name(), pool, kind, &pair)
+    measure_gather(rt, settings, filter.name(), pool, &cells)?;
+    measure_demand(rt, settings, filter.name(), pool, kind, &pair)
 }
 
 fn main(rt: HostRuntime) -> io::Result<()> {
-    let plan = if env::args(&rt)?.count() > 1 {
-        Plan {
+    let settings = if env::args(&rt)?.count() > 1 {
+        Settings {
             is_timed: true,
             rounds: ROUNDS,
             rows: 1_000_000,
         }
     } else {
-        Plan {
+        Settings {
             is_timed: false,
             rounds: 1,
             rows: 100,
@@ -170,7 +175,7 @@ fn main(rt: HostRuntime) -> io::Result<()> {
     };
     let pool = texts(rt.alloc()).map_err(out_of_memory)?;
     for filter in [FilterKind::Ten, FilterKind::Different, FilterKind::Texts] {
-        measure_pair(&rt, plan, &pool, filter)?;
+        measure_pair(&rt, settings, &pool, filter)?;
     }
     Ok(())
 }

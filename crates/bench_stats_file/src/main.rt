@@ -34,11 +34,11 @@ fn invalid_data() -> io::Error {
     io::Error::from(io::ErrorKind::InvalidData)
 }
 
-fn refused(_: StatsError) -> io::Error {
+fn stats_error(_: StatsError) -> io::Error {
     invalid_data()
 }
 
-fn no_schema(_: SchemaError) -> io::Error {
+fn schema_error(_: SchemaError) -> io::Error {
     invalid_data()
 }
 
@@ -55,7 +55,7 @@ fn read_once(rt: &impl Clock, alloc: Global, schema: &Schema, bytes: &[u8]) -> i
     requires few { length bytes.now ≤ most_file }
 {
     let start = Instant::now(rt)?;
-    let file = read_stats(alloc, schema, bytes).map_err(refused)?;
+    let file = read_stats(alloc, schema, bytes).map_err(stats_error)?;
     let nanos = start.elapsed(rt)?.as_nanos();
     Ok(Measure {
         bytes: bytes.len(),
@@ -92,7 +92,7 @@ fn schema_of(alloc: Global) -> io::Result<Schema>
     if text.len() > MOST_TEXT as usize {
         return Err(invalid_data());
     }
-    let schema = read_schema(alloc, text.as_bytes()).map_err(no_schema)?;
+    let schema = read_schema(alloc, text.as_bytes()).map_err(schema_error)?;
     Ok(schema)
 }
 

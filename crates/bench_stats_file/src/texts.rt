@@ -4,10 +4,10 @@ use std::alloc::{AllocError, Global};
 const DIGITS: [&str; 10] = ["0", "1", "2", "3", "4", "5", "6", "7", "8", "9"];
 
 // How many tables the schema has, and how many columns each table has.
-const TABLES: usize = 64;
+const TABLES_AND_COLUMNS: usize = 64;
 
 // The lines of a pair have fewer bytes than this.
-const MOST_PAIR: usize = 4096;
+const MOST_PAIR_BYTES: usize = 4096;
 
 fn push_number(text: &mut String, number: usize) -> Result<(), AllocError> {
     text.push_str(DIGITS[number / 10 % 10])?;
@@ -15,7 +15,7 @@ fn push_number(text: &mut String, number: usize) -> Result<(), AllocError> {
 }
 
 fn push_columns(text: &mut String) -> Result<(), AllocError> {
-    for i in 0..TABLES {
+    for i in 0..TABLES_AND_COLUMNS {
         text.push_str(if i > 0 { ", C" } else { "C" })?;
         push_number(text, i)?;
         text.push_str(" INT NOT NULL")?;
@@ -34,13 +34,13 @@ fn push_declaration(text: &mut String, table: usize) -> Result<(), AllocError> {
 /// Tables T00 and so on, each with the columns C00 and so on.
 pub fn schema_text(alloc: Global) -> Result<String, AllocError> {
     let mut text = String::new(alloc);
-    for table in 0..TABLES {
+    for table in 0..TABLES_AND_COLUMNS {
         push_declaration(&mut text, table)?;
     }
     Ok(text)
 }
 
-// A name in hexadecimal, as the file has it: a letter, given by its code of two digits, and then two decimal digits.
+// Adds a name as the file has it: `x`, then the hexadecimal codes of a letter and of a number's two digits. `letter` is the letter's code.
 fn push_name(text: &mut String, letter: &str, number: usize) -> Result<(), AllocError> {
     text.push_str("x")?;
     text.push_str(letter)?;
@@ -50,7 +50,7 @@ fn push_name(text: &mut String, letter: &str, number: usize) -> Result<(), Alloc
     text.push_str(DIGITS[number % 10])
 }
 
-// `count` lines. Between `front` and `behind` each has a number of two digits, from 00 on.
+// `count` lines. Each line is `front`, then its number in two digits (counted from 00), then `behind`.
 fn push_lines(
     text: &mut String,
     count: usize,
@@ -88,10 +88,10 @@ fn push_pair(text: &mut String, filter: usize, joined: usize) -> Result<(), Allo
     push_lists(text)
 }
 
-// The pairs of a filter column with each column, as long as the text stays below `bytes` bytes.
+// The pair of a filter column with each column, until the text could exceed `bytes` bytes.
 fn push_pairs(text: &mut String, filter: usize, bytes: usize) -> Result<(), AllocError> {
-    for joined in 0..TABLES {
-        if bytes.saturating_sub(text.len()) > MOST_PAIR {
+    for joined in 0..TABLES_AND_COLUMNS {
+        if bytes.saturating_sub(text.len()) > MOST_PAIR_BYTES {
             push_pair(text, filter, joined)?;
         }
     }
@@ -102,7 +102,7 @@ fn push_table(text: &mut String, table: usize, bytes: usize) -> Result<(), Alloc
     text.push_str("table ")?;
     push_name(text, "54", table)?;
     text.push_str(" 362\n")?;
-    for filter in 0..TABLES {
+    for filter in 0..TABLES_AND_COLUMNS {
         push_pairs(text, filter, bytes)?;
     }
     Ok(())
@@ -111,8 +111,8 @@ fn push_table(text: &mut String, table: usize, bytes: usize) -> Result<(), Alloc
 /// A file of at most `bytes` bytes, if these are enough for one pair.
 pub fn file_text(alloc: Global, bytes: usize) -> Result<String, AllocError> {
     let mut text = String::from_str(alloc, "safebound-stats 1 1\n")?;
-    for table in 0..TABLES {
-        if bytes.saturating_sub(text.len()) > MOST_PAIR {
+    for table in 0..TABLES_AND_COLUMNS {
+        if bytes.saturating_sub(text.len()) > MOST_PAIR_BYTES {
             push_table(&mut text, table, bytes)?;
         }
     }

@@ -2,25 +2,25 @@
 use limits::MOST_ROWS;
 use std::alloc::{AllocError, Global};
 
-/// What a file has: eight columns of numbers, or four columns of texts. Every second text is one that the file had before.
+/// What a file has: eight columns of numbers, or four columns of texts. Every second text stands earlier in the file too.
 #[derive(Clone, Copy)]
-pub enum Source {
+pub enum FileKind {
     Numbers,
     Texts,
 }
 
-impl Source {
+impl FileKind {
     pub fn name(self) -> &'static str {
         match self {
-            Source::Numbers => "numbers",
-            Source::Texts => "texts",
+            FileKind::Numbers => "numbers",
+            FileKind::Texts => "texts",
         }
     }
 
     fn header(self) -> &'static str {
         match self {
-            Source::Numbers => "A,B,C,D,E,F,G,H\r\n",
-            Source::Texts => "A,B,C,D\r\n",
+            FileKind::Numbers => "A,B,C,D,E,F,G,H\r\n",
+            FileKind::Texts => "A,B,C,D\r\n",
         }
     }
 }
@@ -33,16 +33,16 @@ struct State {
 }
 
 impl State {
-    fn turn(&mut self) {
+    fn advance(&mut self) {
         self.bits ^= self.bits << 13u32;
         self.bits ^= self.bits >> 7u32;
         self.bits ^= self.bits << 17u32;
     }
 }
 
-// A number of at most 44 bits, and sometimes a minus sign before it.
+// A number of at most 44 bits. About one number in four has a minus sign.
 fn push_number(file: &mut String, state: &mut State) -> Result<(), AllocError> {
-    state.turn();
+    state.advance();
     if state.bits % 4 == 0 {
         file.push('-')?;
     }
@@ -54,7 +54,7 @@ fn push_number(file: &mut String, state: &mut State) -> Result<(), AllocError> {
 fn push_texts(file: &mut String, state: &mut State) -> Result<(), AllocError> {
     let new = state.texts;
     state.texts = new.wrapping_add(1);
-    state.turn();
+    state.advance();
     let old = state.bits % state.texts.max(1);
     write!(file, "text {new},text {old}")
 }
@@ -68,10 +68,10 @@ fn push_numbers(file: &mut String, state: &mut State) -> Result<(), AllocError> 
     Ok(())
 }
 
-fn push_record(file: &mut String, source: Source, state: &mut State) -> Result<(), AllocError> {
-    match source {
-        Source::Numbers => push_numbers(file, state)?,
-        Source::Texts => {
+fn push_record(file: &mut String, kind: FileKind, state: &mut State) -> Result<(), AllocError> {
+    match kind {
+        FileKind::Numbers => push_numbers(file, state)?,
+        FileKind::Texts => {
             push_texts(file, state)?;
             file.push(',')?;
             push_texts(file, state)?;
@@ -81,8 +81,8 @@ fn push_record(file: &mut String, source: Source, state: &mut State) -> Result<(
 }
 
 /// A header and then records, until the file has at least `bytes` bytes or as many records as a table may have rows.
-pub fn file_of(alloc: Global, source: Source, bytes: usize) -> Result<String, AllocError> {
-    let mut file = String::from_str(alloc, source.header())?;
+pub fn file_of(alloc: Global, kind: FileKind, bytes: usize) -> Result<String, AllocError> {
+    let mut file = String::from_str(alloc, kind.header())?;
     let mut state = State {
         bits: 88172645463325252,
         texts: 0,
@@ -91,7 +91,7 @@ pub fn file_of(alloc: Global, source: Source, bytes: usize) -> Result<String, Al
         if file.len() >= bytes {
             break;
         }
-        push_record(&mut file, source, &mut state)?;
+        push_record(&mut file, kind, &mut state)?;
     }
     Ok(file)
 }

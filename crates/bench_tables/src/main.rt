@@ -1,7 +1,7 @@
 //! Measures the proved code of csv_tables; bench/tables.rs measures plain Rust for the same work.
 //!
-//! Without an argument the program reads small files and writes nothing. With an argument, say `time`, it writes a line for each file. A line says
-//! whether the file has numbers or texts, how many rows and how many different texts. A checksum of the cells follows, and the milliseconds of the
+//! Without an argument the program reads small files and writes nothing. With an argument, say `time`, it writes a line for each file. A line has the
+//! kind of the file (numbers or texts), its number of rows, its number of different texts, a checksum of its cells, and the milliseconds of the
 //! fastest `read_table`.
 #![tactic(auto)]
 
@@ -13,7 +13,7 @@ mod files;
 
 use base_io::Seq;
 use csv_tables::{Pool, TableError, read_table};
-use files::{Source, file_of};
+use files::{FileKind, file_of};
 use limits::MOST_FILE;
 use schema_types::{SchemaError, Table, read_schema};
 use std::alloc::Global;
@@ -21,7 +21,7 @@ use std::rt::Clock;
 use std::time::Instant;
 use std::{env, io};
 
-// What was read of a file, and the least time of a reading so far.
+// What was read of a file, and the time of the fastest reading so far.
 #[derive(Clone, Copy)]
 struct Measure {
     rows: u32,
@@ -34,11 +34,11 @@ fn invalid_data() -> io::Error {
     io::Error::from(io::ErrorKind::InvalidData)
 }
 
-fn refused(_: TableError) -> io::Error {
+fn table_error(_: TableError) -> io::Error {
     invalid_data()
 }
 
-fn no_schema(_: SchemaError) -> io::Error {
+fn schema_error(_: SchemaError) -> io::Error {
     invalid_data()
 }
 
@@ -66,7 +66,7 @@ fn read_once(rt: &impl Clock, alloc: Global, table: &Table, bytes: &[u8]) -> io:
 {
     let mut pool = Pool::new(alloc);
     let start = Instant::now(rt)?;
-    let cells = read_table(alloc, table, bytes, &mut pool).map_err(refused)?;
+    let cells = read_table(alloc, table, bytes, &mut pool).map_err(table_error)?;
     let nanos = start.elapsed(rt)?.as_nanos();
     Ok(Measure {
         rows: cells.rows,
@@ -99,20 +99,20 @@ fn read_often(
 
 // How long the files are, how often each is read, and whether times are written.
 #[derive(Clone, Copy)]
-struct Plan {
+struct Settings {
     is_timed: bool,
     bytes: usize,
     rounds: u32,
 }
 
-const UNTIMED: Plan = Plan {
+const UNTIMED: Settings = Settings {
     is_timed: false,
     bytes: 500,
     rounds: 1,
 };
 
 // A file ends with the first record that reaches `bytes`. A record has fewer than 256 bytes, so the file has at most `MOST_FILE` bytes.
-const TIMED: Plan = Plan {
+const TIMED: Settings = Settings {
     is_timed: true,
     bytes: MOST_FILE as usize - 256,
     rounds: 5,
@@ -126,38 +126,43 @@ fn write_measure(rt: &HostRuntime, name: &str, measure: Measure) -> io::Result<(
     )
 }
 
-fn measure_file(rt: &HostRuntime, plan: Plan, source: Source, schema: &[u8]) -> io::Result<()>
+fn measure_file(
+    rt: &HostRuntime,
+    settings: Settings,
+    kind: FileKind,
+    schema: &[u8],
+) -> io::Result<()>
     requires { length schema.now ≤ most_text }
 {
     let alloc = rt.alloc();
-    let schema = read_schema(alloc, schema).map_err(no_schema)?;
+    let schema = read_schema(alloc, schema).map_err(schema_error)?;
     let [table] = schema.tables.as_slice() else {
         return Err(invalid_data());
     };
-    let file = file_of(alloc, source, plan.bytes)?;
-    let found = read_often(rt, alloc, table, file.as_bytes(), plan.rounds)?;
-    if plan.is_timed {
-        write_measure(rt, source.name(), found)?;
+    let file = file_of(alloc, kind, settings.bytes)?;
+    let found = read_often(rt, alloc, table, file.as_bytes(), settings.rounds)?;
+    if settings.is_timed {
+        write_measure(rt, kind.name(), found)?;
     }
     Ok(())
 }
 
 fn main(rt: HostRuntime) -> io::Result<()> {
-    let plan = if env::args(&rt)?.count() > 1 {
+    let settings = if env::args(&rt)?.count() > 1 {
         TIMED
     } else {
         UNTIMED
     };
     measure_file(
         &rt,
-        plan,
-        Source::Numbers,
+        settings,
+        FileKind::Numbers,
         b"CREATE TABLE R (A INT NOT NULL, B INT NOT NULL, C INT NOT NULL, D INT NOT NULL, E INT NOT NULL, F INT NOT NULL, G INT NOT NULL, H INT NOT NULL);",
     )?;
     measure_file(
         &rt,
-        plan,
-        Source::Texts,
+        settings,
+        FileKind::Texts,
         b"CREATE TABLE R (A VARCHAR(40) NOT NULL, B VARCHAR(40) NOT NULL, C VARCHAR(40) NOT NULL, D VARCHAR(40) NOT NULL);",
     )
 }

@@ -3,7 +3,7 @@ use Rattle.std.proofs.Common.{◌≡◌, ◌≢◌, ℕ, List, [], ◌∷◌, �
 use Rattle.std.specs.List.{Contains}
 use Rattle.std.proofs.lemmas.Bool.{cases_Bool}
 use Rattle.std.proofs.lemmas.List.Elements.{Contains-append_left, Contains-append_right, Contains-append_cases}
-use Rattle.entry_sets.proofs.Listing.{in_rest, in_front, in_none, one_in}
+use Rattle.entry_sets.proofs.Listing.{in_rest, in_front, not_in_empty, in_front_or_rest}
 use Rattle.berge_tree.specs.Trees.{Classes, no_class, and_class, Members, one_member, and_member, BergeTree}
 use Rattle.berge_tree.specs.Trees.{entries_below, entries_within, entries}
 use Rattle.berge_tree.specs.declared.edges.Place.{Place}
@@ -47,8 +47,8 @@ named_or_alone (e ∷ es) h u alone = elim (are_same u e.left) [
   ]
 ]
 
-pub named : (es : List Edge) (u v : Place) → class_of es u ≡ class_of es v → u ≢ v → Contains (places_of es) u
-named es u v e ne = elim (named_or_alone es (λ p. p) u (refl, λ p d. d)) [
+pub named_if_not_alone : (es : List Edge) (u v : Place) → class_of es u ≡ class_of es v → u ≢ v → Contains (places_of es) u
+named_if_not_alone es u v e ne = elim (named_or_alone es (λ p. p) u (refl, λ p d. d)) [
   | inl k ↦ k
   | inr a ↦ absurd (a.1 v (λ is. ne (sym is)) (sym e ∙ a.0))
 ]
@@ -56,11 +56,11 @@ named es u v e ne = elim (named_or_alone es (λ p. p) u (refl, λ p d. d)) [
 -- ---- if the tree has an entry of a class, it has all entries of the class
 
 member_in : (ms : Members) (q : Place) → Contains (member_places ms) q → Contains (entries_within ms) q.entry
-member_in (one_member entry column below) q k = elim (one_in (place entry column) [] q k) [
-  | inl old ↦ absurd (in_none q old)
+member_in (one_member entry column below) q k = elim (in_front_or_rest (place entry column) [] q k) [
+  | inl old ↦ absurd (not_in_empty q old)
   | inr is ↦ in_front entry (entries_below below) q.entry (ap (λ (u : Place). u.entry) is)
 ]
-member_in (and_member entry column below rest) q k = elim (one_in (place entry column) (member_places rest) q k) [
+member_in (and_member entry column below rest) q k = elim (in_front_or_rest (place entry column) (member_places rest) q k) [
   | inl old ↦ in_rest entry (entries_below below ++ entries_within rest) q.entry (Contains-append_right (entries_below below) (entries_within rest) q.entry (member_in rest q old))
   | inr is ↦ in_front entry (entries_below below ++ entries_within rest) q.entry (ap (λ (u : Place). u.entry) is)
 ]
@@ -69,13 +69,13 @@ module _ (es : List Edge) where
   within_class : (r : Place) (ms : Members) → AreItsOthers es r ms → (q : Place) → class_of es r ≡ class_of es q → Contains (entries_within ms) q.entry ⊎ (q.entry ≡ r.entry)
   within_class r ms h q e = elim (are_same q r) [
     | inl is ↦ inr (ap (λ (u : Place). u.entry) is)
-    | inr ne ↦ inl (member_in ms q (h.all q (named es q r (sym e) ne) e ne))
+    | inr ne ↦ inl (member_in ms q (h.all q (named_if_not_alone es q r (sym e) ne) e ne))
   ]
 
   reach_below : (y : ℕ) (cs : Classes) → FollowsBelow es y cs → (c : ℕ) → Contains (class_columns cs) c → (q : Place) → class_of es (place y c) ≡ class_of es q
       → Contains (entries_below cs) q.entry ⊎ (q.entry ≡ y)
-  reach_below y no_class f c k q e = absurd (in_none c k)
-  reach_below y (and_class column members rest) f c k q e = elim (one_in column (class_columns rest) c k) [
+  reach_below y no_class f c k q e = absurd (not_in_empty c k)
+  reach_below y (and_class column members rest) f c k q e = elim (in_front_or_rest column (class_columns rest) c k) [
     | inl old ↦ elim (reach_below y rest f.2 c old q e) [
       | inl m ↦ inl (Contains-append_right (entries_within members) (entries_below rest) q.entry m)
       | inr is ↦ inr is
@@ -91,7 +91,7 @@ module _ (es : List Edge) where
   at_entry z above below columns f q q' q_at e off = elim (are_same q q') [
     | inl is ↦ inr (ap (λ (u : Place). u.entry) (sym is) ∙ q_at)
     | inr ne ↦ reach_below z below f q.column
-        (columns.all q.column (subst (λ a. Contains (places_of es) (place a q.column)) q_at (named es q q' e ne)) off) q'
+        (columns.all q.column (subst (λ a. Contains (places_of es) (place a q.column)) q_at (named_if_not_alone es q q' e ne)) off) q'
         (subst (λ a. class_of es (place a q.column) ≡ class_of es q') q_at e)
   ]
 
@@ -117,7 +117,7 @@ module _ (es : List Edge) where
   mutual
     closed_below : (y : ℕ) (cs : Classes) → FollowsBelow es y cs → (e : ℕ) → Contains (entries_below cs) e → (q q' : Place) → q.entry ≡ e → class_of es q ≡ class_of es q'
         → Contains (entries_below cs) q'.entry ⊎ (q'.entry ≡ y)
-    closed_below y no_class f e k q q' at g = absurd (in_none e k)
+    closed_below y no_class f e k q q' at g = absurd (not_in_empty e k)
     closed_below y (and_class column members rest) f e k q q' at g = elim (Contains-append_cases (entries_within members) (entries_below rest) e k) [
       | inl m ↦ elim (closed_within members f.1 e m q q' at g) [
         | inl n ↦ inl (Contains-append_left (entries_within members) (entries_below rest) q'.entry n)
@@ -134,7 +134,7 @@ module _ (es : List Edge) where
 
     closed_within : (ms : Members) → FollowsWithin es ms → (e : ℕ) → Contains (entries_within ms) e → (q q' : Place) → q.entry ≡ e → class_of es q ≡ class_of es q'
         → Leads (entries_within ms) (member_places ms) q'
-    closed_within (one_member entry column below) f e k q q' at g = elim (one_in entry (entries_below below) e k) [
+    closed_within (one_member entry column below) f e k q q' at g = elim (in_front_or_rest entry (entries_below below) e k) [
       | inl m ↦ elim (closed_below entry below f.1 e m q q' at g) [
         | inl n ↦ inl (in_rest entry (entries_below below) q'.entry n)
         | inr is ↦ inl (in_front entry (entries_below below) q'.entry is)
@@ -149,7 +149,7 @@ module _ (es : List Edge) where
     ]
     closed_within (and_member entry column below rest) f e k q q' at g =
         let E : List ℕ = entries_below below ++ entries_within rest in
-        elim (one_in entry E e k) [
+        elim (in_front_or_rest entry E e k) [
           | inl m ↦ elim (Contains-append_cases (entries_below below) (entries_within rest) e m) [
             | inl m_b ↦ elim (closed_below entry below f.1 e m_b q q' at g) [
               | inl n ↦ inl (in_rest entry E q'.entry (Contains-append_left (entries_below below) (entries_within rest) q'.entry n))
@@ -171,7 +171,7 @@ module _ (es : List Edge) where
 
   pub closed_tree : (t : BergeTree) → AreItsColumns es t.root None (class_columns t.below) → FollowsBelow es t.root t.below → (q q' : Place) → Contains (entries t) q.entry → class_of es q ≡ class_of es q'
       → Contains (entries t) q'.entry
-  closed_tree t columns f q q' k e = elim (one_in t.root (entries_below t.below) q.entry k) [
+  closed_tree t columns f q q' k e = elim (in_front_or_rest t.root (entries_below t.below) q.entry k) [
     | inl m ↦ elim (closed_below t.root t.below f q.entry m q q' refl e) [
       | inl n ↦ in_rest t.root (entries_below t.below) q'.entry n
       | inr is ↦ in_front t.root (entries_below t.below) q'.entry is

@@ -6,7 +6,7 @@ use Rattle.std.specs.List.{Contains, AllByRecursion, IsDistinct, list_any}
 use Rattle.std.specs.List.Sorted.{IsStrictlyIncreasing}
 use Rattle.std.proofs.lemmas.Bool.{cases_Bool, eq-eqb, eqb-true, false≢true, and_parts, and_from, not_from_false, not-true}
 use Rattle.std.proofs.lemmas.Map.Steps.{length-le_from_distinct_below}
-use Rattle.entry_sets.proofs.Listing.{rising, in_rest, in_front, in_none, one_in}
+use Rattle.entry_sets.proofs.Listing.{increasing_with_front, in_rest, in_front, not_in_empty, in_front_or_rest}
 use Rattle.berge_tree.specs.declared.edges.Place.{Place}
 use Rattle.berge_tree.specs.declared.edges.Edge.{Edge}
 use Rattle.berge_tree.specs.declared.columns.Column.{Column}
@@ -15,7 +15,7 @@ use Rattle.berge_tree.specs.Equalities.{place, same_place, merged, classes_from,
 use Rattle.berge_tree.specs.Rooted.{class_columns, member_places, member_entries, AreItsColumns, AreItsOthers, FollowsBelow, FollowsWithin}
 use Rattle.berge_tree.specs.Walk.{is_before, Ascend, AreSortedColumnsOf, is_column_above, is_column_below, is_other_of_class, joined_members, members_with, classes_with, classes_below, HaveOthers}
 use Rattle.berge_tree.proofs.NoCycle.{same_place-true}
-use Rattle.berge_tree.proofs.Joining.{keeps, joins}
+use Rattle.berge_tree.proofs.Joining.{later_equalities_keep, merge_joins}
 use Rattle.berge_tree.proofs.Steps.{same_place-is, none_some, IsReached, avoided, step}
 use Rattle.berge_tree.proofs.Separate.{Distinct}
 use Rattle.berge_tree.proofs.Listing.{Has, before_cases, by_parts}
@@ -25,19 +25,19 @@ Differ es = AllByRecursion (λ e. e.left.entry ≢ e.right.entry) es
 
 another_one : (es : List Edge) (h : Place → Place) → Differ es → (p : Place) → Contains (places_of es) p
     → (q : Place) × Contains (places_of es) q × (classes_from h es p ≡ classes_from h es q) × (q ≢ p)
-another_one [] h d p k = absurd (in_none p k)
-another_one (e ∷ es) h d p k = elim (one_in e.left (e.right ∷ places_of es) p k) [
+another_one [] h d p k = absurd (not_in_empty p k)
+another_one (e ∷ es) h d p k = elim (in_front_or_rest e.left (e.right ∷ places_of es) p k) [
   | inr is ↦ (
     e.right,
     in_rest e.left (e.right ∷ places_of es) e.right (in_front e.right (places_of es) e.right refl),
-    keeps es (merged h e.left e.right) p e.right (ap (merged h e.left e.right) is ∙ joins h e.left e.right),
+    later_equalities_keep es (merged h e.left e.right) p e.right (ap (merged h e.left e.right) is ∙ merge_joins h e.left e.right),
     λ f. d.0 (ap (λ (u : Place). u.entry) (sym (f ∙ is))),
   )
-  | inl old ↦ elim (one_in e.right (places_of es) p old) [
+  | inl old ↦ elim (in_front_or_rest e.right (places_of es) p old) [
     | inr is ↦ (
       e.left,
       in_front e.left (e.right ∷ places_of es) e.left refl,
-      keeps es (merged h e.left e.right) p e.left (ap (merged h e.left e.right) is ∙ sym (joins h e.left e.right)),
+      later_equalities_keep es (merged h e.left e.right) p e.left (ap (merged h e.left e.right) is ∙ sym (merge_joins h e.left e.right)),
       λ f. d.0 (ap (λ (u : Place). u.entry) (f ∙ is)),
     )
     | inl older ↦
@@ -63,9 +63,9 @@ filter_ascend test (c ∷ cs) h = elim (cases_Bool (test c)) [
 ]
 
 pub filter_some : (test : Column → Bool) (cs : List Column) (x : Column) → Contains (filter test cs) x → Contains cs x × (test x ≡ true)
-filter_some test [] x = λ k. absurd (in_none x k)
+filter_some test [] x = λ k. absurd (not_in_empty x k)
 filter_some test (c ∷ cs) x = elim (cases_Bool (test c)) [
-  | inl t ↦ rw t (λ k. elim (one_in c (filter test cs) x k) [
+  | inl t ↦ rw t (λ k. elim (in_front_or_rest c (filter test cs) x k) [
     | inl old ↦ (in_rest c cs x (filter_some test cs x old).0, (filter_some test cs x old).1)
     | inr is ↦ (in_front c cs x is, ap test is ∙ t)
   ])
@@ -73,8 +73,8 @@ filter_some test (c ∷ cs) x = elim (cases_Bool (test c)) [
 ]
 
 pub filter_in : (test : Column → Bool) (cs : List Column) (x : Column) → Contains cs x → test x ≡ true → Contains (filter test cs) x
-filter_in test [] x k h = absurd (in_none x k)
-filter_in test (c ∷ cs) x k h = elim (one_in c cs x k) [
+filter_in test [] x k h = absurd (not_in_empty x k)
+filter_in test (c ∷ cs) x k h = elim (in_front_or_rest c cs x k) [
   | inl old ↦ elim (cases_Bool (test c)) [
     | inl t ↦ rw t (in_rest c (filter test cs) x (filter_in test cs x old h))
     | inr n ↦ rw n (filter_in test cs x old h)
@@ -88,7 +88,7 @@ mapped f n (c ∷ cs) h = (h.0, mapped f n cs h.1)
 
 columns_increase : (y : ℕ) (cs : List Column) → Ascend cs → AllByRecursion (λ c. c.place.entry ≡ y) cs → IsStrictlyIncreasing (map (λ (c : Column). c.place.column) cs)
 columns_increase y [] h at = λ k l. absurd (omega (arith, l))
-columns_increase y (c ∷ cs) h at = rising c.place.column (map (λ (d : Column). d.place.column) cs) (mapped (λ d. d.place.column) c.place.column cs (greater cs h.0 at.1)) (columns_increase y cs h.1 at.1)
+columns_increase y (c ∷ cs) h at = increasing_with_front c.place.column (map (λ (d : Column). d.place.column) cs) (mapped (λ d. d.place.column) c.place.column cs (greater cs h.0 at.1)) (columns_increase y cs h.1 at.1)
   where
     greater : (ds : List Column) → AllByRecursion (λ d. is_before c.place d.place ≡ true) ds → AllByRecursion (λ d. d.place.entry ≡ y) ds → AllByRecursion (λ d. c.place.column < d.place.column) ds
     greater [] k m = tt
@@ -97,7 +97,7 @@ columns_increase y (c ∷ cs) h at = rising c.place.column (map (λ (d : Column)
 entries_increase : (cs : List Column) → Ascend cs → ((c d : Column) → Contains cs c → Contains cs d → c.place.entry ≡ d.place.entry → c.place ≡ d.place) → IsStrictlyIncreasing (map (λ (c : Column). c.place.entry) cs)
 entries_increase [] h one = λ k l. absurd (omega (arith, l))
 entries_increase (c ∷ cs) h one =
-    rising c.place.entry (map (λ (d : Column). d.place.entry) cs) (mapped (λ d. d.place.entry) c.place.entry cs (greater cs h.0 (λ d k. one c d (in_front c cs c refl) (in_rest c cs d k))))
+    increasing_with_front c.place.entry (map (λ (d : Column). d.place.entry) cs) (mapped (λ d. d.place.entry) c.place.entry cs (greater cs h.0 (λ d k. one c d (in_front c cs c refl) (in_rest c cs d k))))
     (entries_increase cs h.1 (λ a b j k. one a b (in_rest c cs a j) (in_rest c cs b k)))
   where
     greater : (ds : List Column) → AllByRecursion (λ d. is_before c.place d.place ≡ true) ds → ((d : Column) → Contains ds d → c.place.entry ≡ d.place.entry → c.place ≡ d.place) → AllByRecursion (λ d. c.place.entry < d.place.entry) ds
@@ -115,29 +115,29 @@ all_columns Q [] h = tt
 all_columns Q (c ∷ cs) h = (h c (in_front c cs c refl), all_columns Q cs (λ d k. h d (in_rest c cs d k)))
 
 in_map : (cs : List Column) (p : Place) → Has cs p → Contains (map (λ (c : Column). c.place) cs) p
-in_map [] p h = absurd (in_none h.0 h.1)
-in_map (c ∷ cs) p h = elim (one_in c cs h.0 h.1) [
+in_map [] p h = absurd (not_in_empty h.0 h.1)
+in_map (c ∷ cs) p h = elim (in_front_or_rest c cs h.0 h.1) [
   | inl old ↦ in_rest c.place (map (λ (d : Column). d.place) cs) p (in_map cs p (h.0, old, h.2))
   | inr is ↦ in_front c.place (map (λ (d : Column). d.place) cs) p (sym h.2 ∙ ap (λ (d : Column). d.place) is)
 ]
 
 of_map : (cs : List Column) (p : Place) → Contains (map (λ (c : Column). c.place) cs) p → Has cs p
-of_map [] p k = absurd (in_none p k)
-of_map (c ∷ cs) p k = elim (one_in c.place (map (λ (d : Column). d.place) cs) p k) [
+of_map [] p k = absurd (not_in_empty p k)
+of_map (c ∷ cs) p k = elim (in_front_or_rest c.place (map (λ (d : Column). d.place) cs) p k) [
   | inl old ↦ let rest : Has cs p = of_map cs p old in (rest.0, in_rest c cs rest.0 rest.1, rest.2)
   | inr is ↦ (c, in_front c cs c refl, sym is)
 ]
 
 number_in : (cs : List Column) (p : Place) → Has cs p → Contains (map (λ (c : Column). c.place.column) cs) p.column
-number_in [] p h = absurd (in_none h.0 h.1)
-number_in (c ∷ cs) p h = elim (one_in c cs h.0 h.1) [
+number_in [] p h = absurd (not_in_empty h.0 h.1)
+number_in (c ∷ cs) p h = elim (in_front_or_rest c cs h.0 h.1) [
   | inl old ↦ in_rest c.place.column (map (λ (d : Column). d.place.column) cs) p.column (number_in cs p (h.0, old, h.2))
   | inr is ↦ in_front c.place.column (map (λ (d : Column). d.place.column) cs) p.column (ap (λ (u : Place). u.column) (sym h.2 ∙ ap (λ (d : Column). d.place) is))
 ]
 
 of_number : (cs : List Column) (n : ℕ) → Contains (map (λ (c : Column). c.place.column) cs) n → (c : Column) × Contains cs c × (c.place.column ≡ n)
-of_number [] n k = absurd (in_none n k)
-of_number (c ∷ cs) n k = elim (one_in c.place.column (map (λ (d : Column). d.place.column) cs) n k) [
+of_number [] n k = absurd (not_in_empty n k)
+of_number (c ∷ cs) n k = elim (in_front_or_rest c.place.column (map (λ (d : Column). d.place.column) cs) n k) [
   | inl old ↦ let rest : (d : Column) × Contains cs d × (d.place.column ≡ n) = of_number cs n old in (rest.0, in_rest c cs rest.0 rest.1, rest.2)
   | inr is ↦ (c, in_front c cs c refl, sym is)
 ]
@@ -237,27 +237,27 @@ module _ (es : List Edge) (nc : HasNoCycle (class_of es)) (differ : Differ es) (
   have_others c c_in none =
       let a : (q : Place) × Contains (places_of es) q × (class_of es c.place ≡ class_of es q) × (q ≢ c.place) = another_one es (λ u. u) differ c.place (are.named c c_in).0 in
       let h : Has (filter (is_other_of_class c) columns) a.0 = other_all c c_in a.0 a.1 a.2 a.3 in
-      in_none h.0 (subst (λ cs. Contains cs h.0) none h.1)
+      not_in_empty h.0 (subst (λ cs. Contains cs h.0) none h.1)
 
 -- ---- members and classes from lists
 
-record IsGood (es : List Edge) (q : Place) (below : Classes) : Type 0 where
+record IsWalkedBelow (es : List Edge) (q : Place) (below : Classes) : Type 0 where
   columns : AreItsColumns es q.entry (Some q.column) (class_columns below)
   follows : FollowsBelow es q.entry below
 
 abbrev Made : List Edge → (Column → Classes) → List Column → Type 0
 Made es below cs = (ms : Members) × (members_with below cs ≡ Some ms) × (member_places ms ≡ map (λ (c : Column). c.place) cs) × FollowsWithin es ms
 
-made : (es : List Edge) (below : Column → Classes) (c : Column) (cs : List Column) → ((d : Column) → Contains (c ∷ cs) d → IsGood es d.place (below d)) → Made es below (c ∷ cs)
+made : (es : List Edge) (below : Column → Classes) (c : Column) (cs : List Column) → ((d : Column) → Contains (c ∷ cs) d → IsWalkedBelow es d.place (below d)) → Made es below (c ∷ cs)
 made es below c [] good =
-    let g : IsGood es c.place (below c) = good c (in_front c [] c refl) in
+    let g : IsWalkedBelow es c.place (below c) = good c (in_front c [] c refl) in
     (one_member c.place.entry c.place.column (below c), refl, refl, (g.columns, g.follows))
 made es below c (d ∷ ds) good =
-    let g : IsGood es c.place (below c) = good c (in_front c (d ∷ ds) c refl) in
+    let g : IsWalkedBelow es c.place (below c) = good c (in_front c (d ∷ ds) c refl) in
     let rest : Made es below (d ∷ ds) = made es below d ds (λ e k. good e (in_rest c (d ∷ ds) e k)) in
     (and_member c.place.entry c.place.column (below c) rest.0, ap (joined_members c.place.entry c.place.column (below c)) rest.1, ap (λ ps. c.place ∷ ps) rest.2, (g.columns, g.follows, rest.3))
 
-made_some : (es : List Edge) (below : Column → Classes) (cs : List Column) → cs ≢ [] → ((d : Column) → Contains cs d → IsGood es d.place (below d)) → Made es below cs
+made_some : (es : List Edge) (below : Column → Classes) (cs : List Column) → cs ≢ [] → ((d : Column) → Contains cs d → IsWalkedBelow es d.place (below d)) → Made es below cs
 made_some es below [] some good = absurd (some refl)
 made_some es below (c ∷ cs) some good = made es below c cs good
 
@@ -294,8 +294,8 @@ below_all n (x ∷ xs) h q = elim (cases_Bool (eqb q x)) [
   | inr m ↦ rw m (λ e. below_all n xs h.1 q e)
 ]
 
-pub few : (n : ℕ) (xs : List ℕ) → Distinct xs → AllByRecursion (λ x. x < n) xs → length xs ≤ n
-few n xs d h = length-le_from_distinct_below xs n (distinct xs d) (below_all n xs h)
+pub distinct_below_at_most : (n : ℕ) (xs : List ℕ) → Distinct xs → AllByRecursion (λ x. x < n) xs → length xs ≤ n
+distinct_below_at_most n xs d h = length-le_from_distinct_below xs n (distinct xs d) (below_all n xs h)
 
 not_in : (y : ℕ) (xs : List ℕ) → (Contains xs y → ⊥) → AllByRecursion (λ x. y ≢ x) xs
 not_in y [] h = tt
@@ -314,7 +314,7 @@ module _ (es : List Edge) (nc : HasNoCycle (class_of es)) (differ : Differ es) (
       members : Column → Option Members
       members c = members_with below (filter (is_other_of_class c) columns)
 
-      good : (c : Column) → Contains (filter (is_column_below y above) columns) c → (d : Column) → Contains (filter (is_other_of_class c) columns) d → IsGood es d.place (below d)
+      good : (c : Column) → Contains (filter (is_column_below y above) columns) c → (d : Column) → Contains (filter (is_other_of_class c) columns) d → IsWalkedBelow es d.place (below d)
       good c k d m =
           let g : Contains columns c × (c.place.entry ≡ y) × (above ≢ Some c.place.column) = at_some es nc differ columns are y above c k in
           let o : Contains columns d × (class_of es c.place ≡ class_of es d.place) × (d.place ≢ c.place) = other_some es nc differ columns are c d g.0 m in
@@ -340,7 +340,7 @@ module _ (es : List Edge) (nc : HasNoCycle (class_of es)) (differ : Differ es) (
   pub walked_follows : (depth : ℕ) (P : List ℕ) (y : ℕ) (above : Option ℕ) → IsReached (class_of es) P y above → Distinct P → AllByRecursion (λ x. x < n) P → y < n → n ≤ length P + depth
       → AreItsColumns es y above (class_columns (classes_below depth columns y above)) × FollowsBelow es y (classes_below depth columns y above)
   walked_follows zero P y above reached d low y_low enough =
-      absurd (short (length P) (few n (y ∷ P) (not_in y P (avoided (class_of es) P y above reached), d) (y_low, low)) enough)
+      absurd (short (length P) (distinct_below_at_most n (y ∷ P) (not_in y P (avoided (class_of es) P y above reached), d) (y_low, low)) enough)
   walked_follows (suc depth) P y above reached d low y_low enough =
       level depth y above (λ c c_in c_at c_off e e_in same ne.
       walked_follows depth (y ∷ P) e.place.entry (Some e.place.column) (step (class_of es) nc P y above reached c.place e.place c_at c_off same ne)

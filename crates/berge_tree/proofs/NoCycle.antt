@@ -68,8 +68,8 @@ module _ (g : ℕ → ℕ) (h : Place → Place) (l r : Place) (s : Sound g h) (
     first : h p ≡ h r → h q ≡ h l → JoinedBy p q
     second : h p ≡ h l → h q ≡ h r → JoinedBy p q
 
-  met : (p q : Place) → h' p ≡ h' q → JoinedBy p q
-  met p q e = elim (cases_Bool (same_place (h p) (h r))) [
+  how_joined : (p q : Place) → h' p ≡ h' q → JoinedBy p q
+  how_joined p q e = elim (cases_Bool (same_place (h p) (h r))) [
     | inl pr ↦ elim (cases_Bool (same_place (h q) (h r))) [
       | inl qr ↦ before (same_place-true (h p) (h r) pr ∙ sym (same_place-true (h q) (h r) qr))
       | inr qn ↦ first (same_place-true (h p) (h r) pr) (sym (merged-no same_place h l r q qn) ∙ sym e ∙ merged-yes same_place h l r p pr)
@@ -100,15 +100,15 @@ module _ (g : ℕ → ℕ) (h : Place → Place) (l r : Place) (s : Sound g h) (
   one_of p q (second e f) same = absurd (apart q p f e (sym same))
 
   module _ (p : Place) (b : IsBridge h p) where
-    abbrev turn : Bool
-    turn = flip (side_of_column b.side p l) (side_of_column b.side p r)
+    abbrev flips : Bool
+    flips = flip (side_of_column b.side p l) (side_of_column b.side p r)
 
     abbrev side' : ℕ → Bool
-    side' x = cond (eqb (g x) (g r.entry)) (flip turn (b.side x)) (b.side x)
+    side' x = cond (eqb (g x) (g r.entry)) (flip flips (b.side x)) (b.side x)
 
-    seen_turned : (q : Place) → eqb (g q.entry) (g r.entry) ≡ true → side_of_column side' p q ≡ flip turn (side_of_column b.side p q)
+    seen_turned : (q : Place) → eqb (g q.entry) (g r.entry) ≡ true → side_of_column side' p q ≡ flip flips (side_of_column b.side p q)
     seen_turned q e = elim (cases_Bool (same_place q p)) [
-      | inl at_p ↦ rw (at_p, e) (flip-not turn (b.side q.entry))
+      | inl at_p ↦ rw (at_p, e) (flip-not flips (b.side q.entry))
       | inr off_p ↦ rw (off_p, e) refl
     ]
 
@@ -120,13 +120,13 @@ module _ (g : ℕ → ℕ) (h : Place → Place) (l r : Place) (s : Sound g h) (
 
     across : (q u : Place) → h q ≡ h r → h u ≡ h l → side_of_column side' p q ≡ side_of_column side' p u
     across q u e f =
-        seen_turned q (in_second q e) ∙ ap (flip turn) (b.together q r e)
+        seen_turned q (in_second q e) ∙ ap (flip flips) (b.together q r e)
         ∙ flip-flip (side_of_column b.side p l) (side_of_column b.side p r) ∙ sym (b.together u l f) ∙ sym (seen_same u (not_second u f))
 
     together_of : (q u : Place) → JoinedBy q u → side_of_column side' p q ≡ side_of_column side' p u
     together_of q u (before e) = elim (cases_Bool (eqb (g q.entry) (g r.entry))) [
       | inl t ↦ (let t' : eqb (g u.entry) (g r.entry) ≡ true = subst (λ n. eqb n (g r.entry) ≡ true) (s.part q u e) t in
-          seen_turned q t ∙ ap (flip turn) (b.together q u e) ∙ sym (seen_turned u t'))
+          seen_turned q t ∙ ap (flip flips) (b.together q u e) ∙ sym (seen_turned u t'))
       | inr t ↦ (let t' : eqb (g u.entry) (g r.entry) ≡ false = subst (λ n. eqb n (g r.entry) ≡ false) (s.part q u e) t in
           seen_same q t ∙ b.together q u e ∙ sym (seen_same u t'))
     ]
@@ -134,20 +134,20 @@ module _ (g : ℕ → ℕ) (h : Place → Place) (l r : Place) (s : Sound g h) (
     together_of q u (second e f) = sym (across u q f e)
 
     bridge_of : IsBridge h' p
-    bridge_of = record { side = side'; together = λ q u e. together_of q u (met q u e) }
+    bridge_of = record { side = side'; together = λ q u e. together_of q u (how_joined q u e) }
 
   joined_sound : Sound g' h'
   joined_sound = record {
-    part = λ p q e. part_of p q (met p q e);
-    one = λ p q e same. one_of p q (met p q e) same;
+    part = λ p q e. part_of p q (how_joined p q e);
+    one = λ p q e same. one_of p q (how_joined p q e) same;
     bridge = λ p. bridge_of p (s.bridge p);
   }
 
 abbrev pub LiesTogether : (ℕ → Bool) → List Edge → Type 0
 LiesTogether side es = AllByRecursion (λ e. side e.left.entry ≡ side e.right.entry) es
 
--- the component of an entry is named by one of its entries, x. If the entries are divided into two sides so that each earlier equality is within one
--- side, x is on the entry's side
+-- `g x` names the component of x by one of its entries. In every division into two sides that splits no earlier equality, `x` and `g x` are on the
+-- same side
 abbrev AreParts : (ℕ → ℕ) → List Edge → Type 0
 AreParts g earlier = (side : ℕ → Bool) → LiesTogether side earlier → (x : ℕ) → side (g x) ≡ side x
 

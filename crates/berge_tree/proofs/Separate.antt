@@ -3,7 +3,7 @@ use Rattle.std.proofs.Common.{◌≡◌, ◌≢◌, ℕ, Bool, true, false, not,
 use Rattle.std.specs.Prelude.{⊤}
 use Rattle.std.specs.List.{Contains, AllByRecursion, AllPairs}
 use Rattle.std.proofs.lemmas.List.Kept.{AllPairs-from_increasing}
-use Rattle.entry_sets.proofs.Listing.{in_rest, in_front, in_none, one_in}
+use Rattle.entry_sets.proofs.Listing.{in_rest, in_front, not_in_empty, in_front_or_rest}
 use Rattle.berge_tree.specs.Trees.{Classes, no_class, and_class, Members, one_member, and_member, BergeTree}
 use Rattle.berge_tree.specs.Trees.{entries_below, entries_within, entries}
 use Rattle.berge_tree.specs.declared.edges.Place.{Place}
@@ -11,7 +11,7 @@ use Rattle.berge_tree.specs.declared.edges.Edge.{Edge}
 use Rattle.berge_tree.specs.Equalities.{place, class_of, IsBridge}
 use Rattle.berge_tree.specs.Rooted.{class_columns, member_places, member_entries, AreItsColumns, FollowsBelow, FollowsWithin}
 use Rattle.berge_tree.specs.Equalities.{HasNoCycle}
-use Rattle.berge_tree.proofs.Steps.{not_itself, IsReached, root_reached, avoided, off_class, far, step}
+use Rattle.berge_tree.proofs.Steps.{not_itself, IsReached, root_reached, avoided, off_class, on_other_side, step}
 
 pub all_append : {X : Type 0} (Q : X → Type 0) (xs ys : List X) → AllByRecursion Q xs → AllByRecursion Q ys → AllByRecursion Q (xs ++ ys)
 all_append Q [] ys h k = k
@@ -38,19 +38,19 @@ joined_distinct side v (x ∷ xs) ys dx dy hx hy = (
   joined_distinct side v xs ys dx.1 dy hx.1 hy,
 )
 
-double : (b : Bool) → b ≡ not (not b)
-double true = refl
-double false = refl
+not_not : (b : Bool) → b ≡ not (not b)
+not_not true = refl
+not_not false = refl
 
 pub differs : (a b : ℕ) → a < b → b ≡ a → ⊥
 differs a b l e = omega (arith, l, e)
 
 pub entry_in : (ms : Members) (q : Place) → Contains (member_places ms) q → Contains (member_entries ms) q.entry
-entry_in (one_member entry column below) q k = elim (one_in (record { entry = entry; column = column }) [] q k) [
-  | inl old ↦ absurd (in_none q old)
+entry_in (one_member entry column below) q k = elim (in_front_or_rest (record { entry = entry; column = column }) [] q k) [
+  | inl old ↦ absurd (not_in_empty q old)
   | inr is ↦ in_front entry [] q.entry (ap (λ (u : Place). u.entry) is)
 ]
-entry_in (and_member entry column below rest) q k = elim (one_in (record { entry = entry; column = column }) (member_places rest) q k) [
+entry_in (and_member entry column below rest) q k = elim (in_front_or_rest (record { entry = entry; column = column }) (member_places rest) q k) [
   | inl old ↦ in_rest entry (member_entries rest) q.entry (entry_in rest q old)
   | inr is ↦ in_front entry (member_entries rest) q.entry (ap (λ (u : Place). u.entry) is)
 ]
@@ -144,8 +144,8 @@ module _ (es : List Edge) (nc : HasNoCycle (class_of es)) where
               (avoid_within P y above reached r r_at r_off rest (others_rest r entry column below rest others) f.2),
         )
 
-  alone : (P : List ℕ) (z : ℕ) (xs : List ℕ) → AllByRecursion (Avoids (z ∷ P)) xs → AllByRecursion (λ e. z ≢ e) xs
-  alone P z xs h = all_map (Avoids (z ∷ P)) (λ e. z ≢ e) (λ e k is. k (in_front z P e (sym is))) xs h
+  not_the_root : (P : List ℕ) (z : ℕ) (xs : List ℕ) → AllByRecursion (Avoids (z ∷ P)) xs → AllByRecursion (λ e. z ≢ e) xs
+  not_the_root P z xs h = all_map (Avoids (z ∷ P)) (λ e. z ≢ e) (λ e k is. k (in_front z P e (sym is))) xs h
 
   mutual
     once_below : (P : List ℕ) (y : ℕ) (above : Option ℕ) → IsReached (class_of es) P y above → (cs : Classes) → AllPairs (λ a b. a < b) (class_columns cs) → AreOff above cs → FollowsBelow es y cs
@@ -160,17 +160,17 @@ module _ (es : List Edge) (nc : HasNoCycle (class_of es)) where
         joined_distinct b.side (not (b.side y)) (entries_within members) (entries_below rest)
         (once_within P y above reached r refl r_off members (AllPairs-from_increasing (member_entries members) f.0.ascending) others f.1)
         (once_below P y above reached rest (pairs_tail column (class_columns rest) pairs) (off_rest above column members rest off) f.2)
-        (sided_within P y above reached b.side const (not (b.side y)) r refl r_off members others (λ q k. far (class_of es) r b q (others q k).0 (others q k).1) f.1)
+        (sided_within P y above reached b.side const (not (b.side y)) r refl r_off members others (λ q k. on_other_side (class_of es) r b q (others q k).0 (others q k).1) f.1)
         (sided_below P y above reached b.side const (not (not (b.side y))) rest (off_rest above column members rest off)
         (λ c k q e ne. sym (off_class (class_of es) r b (place y c) q e
-        (λ is. differs (column) c (later_above column (class_columns rest) pairs c k) (ap (λ (u : Place). u.column) (nc.one_column (place y c) r is refl)))) ∙ double (b.side y)) f.2)
+        (λ is. differs (column) c (later_above column (class_columns rest) pairs c k) (ap (λ (u : Place). u.column) (nc.one_column (place y c) r is refl)))) ∙ not_not (b.side y)) f.2)
 
     once_within : (P : List ℕ) (y : ℕ) (above : Option ℕ) → IsReached (class_of es) P y above → (r : Place) → r.entry ≡ y → above ≢ Some r.column → (ms : Members) → AllPairs (λ a b. a < b) (member_entries ms)
         → AreOthers r ms → FollowsWithin es ms → Distinct (entries_within ms)
     once_within P y above reached r r_at r_off (one_member entry column below) pairs others f =
         let s : Place = place entry column in
         let reached_s : IsReached (class_of es) (y ∷ P) entry (Some column) = next P y above reached r s r_at r_off (others s (in_front s [] s refl)) in (
-          alone (y ∷ P) entry (entries_below below) (avoid_below (y ∷ P) entry (Some column) reached_s below (off_below entry column below f.0) f.1),
+          not_the_root (y ∷ P) entry (entries_below below) (avoid_below (y ∷ P) entry (Some column) reached_s below (off_below entry column below f.0) f.1),
           once_below (y ∷ P) entry (Some column) reached_s below (AllPairs-from_increasing (class_columns below) f.0.ascending) (off_below entry column below f.0) f.1,
         )
     once_within P y above reached r r_at r_off (and_member entry column below rest) pairs others f =
@@ -181,7 +181,7 @@ module _ (es : List Edge) (nc : HasNoCycle (class_of es)) where
         let others_r : AreOthers r rest = others_rest r entry column below rest others in
         let const : ConstOutside (class_of es) (y ∷ P) b.side = λ u v e out. off_class (class_of es) s b u v e (λ is. out r (in_front y P r.entry r_at) (s_in.0 ∙ sym is)) in
         joined_distinct b.side (b.side entry) (entry ∷ entries_below below) (entries_within rest) (
-          alone (y ∷ P) entry (entries_below below) (avoid_below (y ∷ P) entry (Some column) reached_s below (off_below entry column below f.0) f.1),
+          not_the_root (y ∷ P) entry (entries_below below) (avoid_below (y ∷ P) entry (Some column) reached_s below (off_below entry column below f.0) f.1),
           once_below (y ∷ P) entry (Some column) reached_s below (AllPairs-from_increasing (class_columns below) f.0.ascending) (off_below entry column below f.0) f.1,
         )
         (once_within P y above reached r r_at r_off rest (pairs_tail entry (member_entries rest) pairs) others_r f.2) (
@@ -192,13 +192,13 @@ module _ (es : List Edge) (nc : HasNoCycle (class_of es)) where
               (λ is. (f.0.some c k).1 (ap (λ (u : Place). Some u.column) (sym (nc.one_column (place entry c) s is refl)))))) f.1,
         )
         (sided_within P y above reached b.side const (not (b.side entry)) r r_at r_off rest others_r
-        (λ q k. far (class_of es) s b q (sym s_in.0 ∙ (others_r q k).0)
+        (λ q k. on_other_side (class_of es) s b q (sym s_in.0 ∙ (others_r q k).0)
         (λ is. differs entry q.entry (later_above entry (member_entries rest) pairs q.entry (entry_in rest q k)) (ap (λ (u : Place). u.entry) is))) f.2)
 
   pub once_tree : (t : BergeTree) → AreItsColumns es t.root None (class_columns t.below) → FollowsBelow es t.root t.below → Distinct (entries t)
   once_tree t columns f =
       let off : AreOff None t.below = λ c k. (columns.some c k).1 in (
-        alone [] t.root (entries_below t.below) (avoid_below [] t.root None (root_reached (class_of es) t.root) t.below off f),
+        not_the_root [] t.root (entries_below t.below) (avoid_below [] t.root None (root_reached (class_of es) t.root) t.below off f),
         once_below [] t.root None (root_reached (class_of es) t.root) t.below (AllPairs-from_increasing (class_columns t.below) columns.ascending) off f,
       )
 

@@ -4,7 +4,7 @@ use Rattle.std.proofs.Common.{◌≡◌, ◌≢◌, ℕ, Bool, true, false, not,
 use Rattle.std.specs.Prelude.{⊤}
 use Rattle.std.specs.List.{Contains}
 use Rattle.std.proofs.lemmas.Bool.{cases_Bool, eq-eqb, false≢true}
-use Rattle.entry_sets.proofs.Listing.{in_rest, in_front, in_none, one_in}
+use Rattle.entry_sets.proofs.Listing.{in_rest, in_front, not_in_empty, in_front_or_rest}
 use Rattle.berge_tree.specs.declared.edges.Place.{Place}
 use Rattle.berge_tree.specs.Equalities.{same_place, side_of_column, IsBridge}
 use Rattle.berge_tree.proofs.NoCycle.{same_place-true}
@@ -55,14 +55,14 @@ none_some c e = subst (λ (o : Option ℕ). is_none o) e tt
     is_none None = ⊤
     is_none (Some d) = ⊥
 
--- ---- the walk has reached entry y, below the entries P, by y's column `above`
+-- ---- the walk has come to entry y through y's column `above`; P has the entries above y
 
 pub record IsReached (class : Place → Place) (P : List ℕ) (y : ℕ) (above : Option ℕ) : Type 0 where
   pub connected : (side : ℕ → Bool) → ((u v : Place) → class u ≡ class v → Contains P u.entry → side u.entry ≡ side v.entry) → (a : ℕ) → Contains P a → side a ≡ side y
   pub fresh : (r : Place) → r.entry ≡ y → above ≢ Some r.column → (p : Place) → Contains P p.entry → class p ≡ class r → ⊥
 
 pub root_reached : (class : Place → Place) (y : ℕ) → IsReached class [] y None
-root_reached class y = record { connected = λ side h a k. absurd (in_none a k); fresh = λ r at off p k e. in_none p.entry k }
+root_reached class y = record { connected = λ side h a k. absurd (not_in_empty a k); fresh = λ r at off p k e. not_in_empty p.entry k }
 
 pub avoided : (class : Place → Place) (P : List ℕ) (y : ℕ) (above : Option ℕ) → IsReached class P y above → Contains P y → ⊥
 avoided class P y None h k = h.fresh (record { entry = y; column = 0 }) refl (none_some 0) (record { entry = y; column = 0 }) k refl
@@ -72,8 +72,8 @@ pub off_class : (class : Place → Place) (r : Place) (b : IsBridge class r) (u 
 off_class class r b u v e differ =
     sym (seen_off b.side r u (λ is. differ (ap class is))) ∙ b.together u v e ∙ seen_off b.side r v (λ is. differ (e ∙ ap class is))
 
-pub far : (class : Place → Place) (r : Place) (b : IsBridge class r) (s : Place) → class r ≡ class s → s ≢ r → b.side s.entry ≡ not (b.side r.entry)
-far class r b s same ne = sym (seen_off b.side r s ne) ∙ b.together s r (sym same) ∙ seen_at b.side r
+pub on_other_side : (class : Place → Place) (r : Place) (b : IsBridge class r) (s : Place) → class r ≡ class s → s ≢ r → b.side s.entry ≡ not (b.side r.entry)
+on_other_side class r b s same ne = sym (seen_off b.side r s ne) ∙ b.together s r (sym same) ∙ seen_at b.side r
 
 pub step : (class : Place → Place) → HasNoCycle class → (P : List ℕ) (y : ℕ) (above : Option ℕ) → IsReached class P y above → (r s : Place) → r.entry ≡ y → above ≢ Some r.column
     → class r ≡ class s → s ≢ r → IsReached class (y ∷ P) s.entry (Some s.column)
@@ -83,18 +83,18 @@ step class nc P y above old r s r_at r_off same ne = record { connected = connec
     b = nc.bridges r
 
     far_side : b.side s.entry ≡ not (b.side y)
-    far_side = far class r b s same ne ∙ ap (λ x. not (b.side x)) r_at
+    far_side = on_other_side class r b s same ne ∙ ap (λ x. not (b.side x)) r_at
 
     connected : (side : ℕ → Bool) → ((u v : Place) → class u ≡ class v → Contains (y ∷ P) u.entry → side u.entry ≡ side v.entry) → (a : ℕ) → Contains (y ∷ P) a → side a ≡ side s.entry
     connected side h a k =
         let here : side y ≡ side s.entry = ap side (sym r_at) ∙ h r s same (in_front y P r.entry r_at) in
-        elim (one_in y P a k) [
+        elim (in_front_or_rest y P a k) [
           | inl in_P ↦ old.connected side (λ u v e m. h u v e (in_rest y P u.entry m)) a in_P ∙ here
           | inr is ↦ ap side is ∙ here
         ]
 
     fresh : (t : Place) → t.entry ≡ s.entry → Some s.column ≢ Some t.column → (p : Place) → Contains (y ∷ P) p.entry → class p ≡ class t → ⊥
-    fresh t t_at t_off p k e = elim (one_in y P p.entry k) [
+    fresh t t_at t_off p k e = elim (in_front_or_rest y P p.entry k) [
       | inl in_P ↦
           let differ : class p ≢ class r = λ is. old.fresh r r_at r_off p in_P is in
           let to_y : b.side p.entry ≡ b.side y = old.connected b.side (λ u v f m. off_class class r b u v f (λ is. old.fresh r r_at r_off u m is)) p.entry in_P in

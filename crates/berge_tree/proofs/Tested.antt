@@ -9,10 +9,10 @@ use Rattle.berge_tree.specs.Equalities.{AreWithin, ClosesNoCycleAfter, ClosesNoC
 use Rattle.entry_sets.specs.Sets.{entries_of_set, has_entry}
 use Rattle.berge_tree.specs.Testing.{merged_components, joins_parts, has_entries}
 use Rattle.berge_tree.proofs.NoCycle.{apart_by}
-use Rattle.entry_sets.proofs.Listing.{set_has}
+use Rattle.entry_sets.proofs.Listing.{listed_if_bit_is_set}
 
-abbrev Kept : (ℕ → ℕ) → List Edge → Type 0
-Kept name es = AllByRecursion (λ e. name e.left.entry ≡ name e.right.entry) es
+abbrev JoinsSameNames : (ℕ → ℕ) → List Edge → Type 0
+JoinsSameNames name es = AllByRecursion (λ e. name e.left.entry ≡ name e.right.entry) es
 
 pub joined_same : (name : ℕ → ℕ) (a b x y : ℕ) → name x ≡ name y → merged_components name a b x ≡ merged_components name a b y
 joined_same name a b x y is = elim (cases_Bool (eqb (name x) (name b))) [
@@ -26,16 +26,16 @@ joined_ends name a b = elim (cases_Bool (eqb (name a) (name b))) [
   | inr n ↦ rw (n, eq-eqb (name b) (name b) refl) refl
 ]
 
-joined_kept : (name : ℕ → ℕ) (a b : ℕ) (es : List Edge) → Kept name es → Kept (merged_components name a b) es
-joined_kept name a b [] h = tt
-joined_kept name a b (e ∷ es) h = (joined_same name a b e.left.entry e.right.entry h.0, joined_kept name a b es h.1)
+merged_same_names : (name : ℕ → ℕ) (a b : ℕ) (es : List Edge) → JoinsSameNames name es → JoinsSameNames (merged_components name a b) es
+merged_same_names name a b [] h = tt
+merged_same_names name a b (e ∷ es) h = (joined_same name a b e.left.entry e.right.entry h.0, merged_same_names name a b es h.1)
 
-joins_after : (name : ℕ → ℕ) (earlier es : List Edge) → Kept name earlier → joins_parts name es ≡ true → ClosesNoCycleAfter earlier es
+joins_after : (name : ℕ → ℕ) (earlier es : List Edge) → JoinsSameNames name earlier → joins_parts name es ≡ true → ClosesNoCycleAfter earlier es
 joins_after name earlier [] kept t = tt
 joins_after name earlier (e ∷ es) kept t =
     let h : (not (eqb (name e.left.entry) (name e.right.entry)) ≡ true) × (joins_parts (merged_components name e.left.entry e.right.entry) es ≡ true) = and_parts (not (eqb (name e.left.entry) (name e.right.entry))) (joins_parts (merged_components name e.left.entry e.right.entry) es) t in (
       apart_by earlier e.left.entry e.right.entry name kept (λ is. false≢true (sym (not-true (eqb (name e.left.entry) (name e.right.entry)) h.0) ∙ eq-eqb (name e.left.entry) (name e.right.entry) is)),
-      joins_after (merged_components name e.left.entry e.right.entry) (e ∷ earlier) es (joined_ends name e.left.entry e.right.entry, joined_kept name e.left.entry e.right.entry earlier kept) h.1,
+      joins_after (merged_components name e.left.entry e.right.entry) (e ∷ earlier) es (joined_ends name e.left.entry e.right.entry, merged_same_names name e.left.entry e.right.entry earlier kept) h.1,
     )
 
 pub joins_no_cycle : (es : List Edge) → joins_parts (λ e. e) es ≡ true → ClosesNoCycle es
@@ -48,4 +48,4 @@ has_within subset (e ∷ es) t =
     let k : (has_entry subset e.right.entry ≡ true) × (has_entries subset es ≡ true) = and_parts (has_entry subset e.right.entry) (has_entries subset es) h.1 in
     let l : (ltb e.left.entry greatest_entries ≡ true) × (eqb (bit_at subset e.left.entry) 1 ≡ true) = and_parts (ltb e.left.entry greatest_entries) (eqb (bit_at subset e.left.entry) 1) h.0 in
     let r : (ltb e.right.entry greatest_entries ≡ true) × (eqb (bit_at subset e.right.entry) 1 ≡ true) = and_parts (ltb e.right.entry greatest_entries) (eqb (bit_at subset e.right.entry) 1) k.0 in
-    ((set_has subset e.left.entry (ltb-true e.left.entry greatest_entries l.0) l.1, set_has subset e.right.entry (ltb-true e.right.entry greatest_entries r.0) r.1), has_within subset es k.1)
+    ((listed_if_bit_is_set subset e.left.entry (ltb-true e.left.entry greatest_entries l.0) l.1, listed_if_bit_is_set subset e.right.entry (ltb-true e.right.entry greatest_entries r.0) r.1), has_within subset es k.1)

@@ -13,8 +13,8 @@ use Rattle.berge_tree.specs.Equalities.{AreWithin, ClosesNoCycle}
 use Rattle.berge_tree.specs.Trees.{BergeTree, entries}
 use Rattle.berge_tree.specs.Rooted.{AreAllTreesOf}
 use Rattle.entry_sets.specs.Sets.{entries_from, entries_of_set}
-use Rattle.entry_sets.proofs.Listing.{from_next, from_skip, set_from, set_increases, set_low}
-use Rattle.berge_tree.specs.Walk.{columns_of, is_among, is_in_a_tree, added, tree_at, forest}
+use Rattle.entry_sets.proofs.Listing.{from_next, from_skip, set_from, set_increases, set_entries_below_limit}
+use Rattle.berge_tree.specs.Walk.{columns_of, is_among, is_in_a_tree, tree_of_new_entry, tree_at, forest}
 use Rattle.berge_tree.proofs.Among.{among-append}
 use Rattle.berge_tree.proofs.Listing.{columns_are}
 use Rattle.berge_tree.proofs.Forest.{all_trees}
@@ -25,9 +25,9 @@ abbrev is_in_some_tree : List BergeTree → ℕ → Bool
 is_in_some_tree [] x = false
 is_in_some_tree (t ∷ ts) x = is_among (entries t) x || is_in_some_tree ts x
 
-stands_is : (trees : List Tree) (x : ℕ) → is_in_a_tree trees x ≡ is_in_some_tree (map tree_of trees) x
-stands_is [] x = refl
-stands_is (t ∷ trees) x = ap (λ b. is_among (entries (tree_of t)) x || b) (stands_is trees x)
+in_a_tree_is : (trees : List Tree) (x : ℕ) → is_in_a_tree trees x ≡ is_in_some_tree (map tree_of trees) x
+in_a_tree_is [] x = refl
+in_a_tree_is (t ∷ trees) x = ap (λ b. is_among (entries (tree_of t)) x || b) (in_a_tree_is trees x)
 
 or_swap : (a b c : Bool) → (a || (b || c)) ≡ (b || (a || c))
 or_swap true true c = refl
@@ -35,9 +35,9 @@ or_swap true false c = refl
 or_swap false true c = refl
 or_swap false false c = refl
 
-stands_push : (ts : List BergeTree) (t : BergeTree) (x : ℕ) → is_in_some_tree (ts ++ t ∷ []) x ≡ (is_among (entries t) x || is_in_some_tree ts x)
-stands_push [] t x = refl
-stands_push (u ∷ ts) t x = ap (λ b. is_among (entries u) x || b) (stands_push ts t x) ∙ or_swap (is_among (entries u) x) (is_among (entries t) x) (is_in_some_tree ts x)
+in_a_tree_push : (ts : List BergeTree) (t : BergeTree) (x : ℕ) → is_in_some_tree (ts ++ t ∷ []) x ≡ (is_among (entries t) x || is_in_some_tree ts x)
+in_a_tree_push [] t x = refl
+in_a_tree_push (u ∷ ts) t x = ap (λ b. is_among (entries u) x || b) (in_a_tree_push ts t x) ∙ or_swap (is_among (entries u) x) (is_among (entries t) x) (is_in_some_tree ts x)
 
 -- ---- one step of the loop
 
@@ -59,14 +59,14 @@ pub planting_skip : (columns : List Column) (trees : List Tree) (subset first co
 planting_skip columns trees subset first count left whole is bit so_far =
     subst (λ xs. TreesSoFar columns trees xs whole) (ap (entries_from subset first) is ∙ from_skip subset first count bit) so_far
 
-planted : (columns : List Column) (trees more : List Tree) (x : ℕ) (xs : List ℕ) (whole : List BergeTree) → map tree_of more ≡ map tree_of trees ++ added columns trees x → TreesSoFar columns trees (x ∷ xs) whole → TreesSoFar columns more xs whole
+planted : (columns : List Column) (trees more : List Tree) (x : ℕ) (xs : List ℕ) (whole : List BergeTree) → map tree_of more ≡ map tree_of trees ++ tree_of_new_entry columns trees x → TreesSoFar columns trees (x ∷ xs) whole → TreesSoFar columns more xs whole
 planted columns trees more x xs whole is so_far = elim (cases_Bool (is_in_a_tree trees x)) [
   | inl old ↦
       let same_trees : map tree_of more ≡ map tree_of trees = subst (λ b. map tree_of more ≡ map tree_of trees ++ cond b [] (tree_at greatest_entries columns x ∷ [])) old is ∙ append-nil (map tree_of trees) in
       let skipped : forest greatest_entries columns so_far.done (x ∷ xs) ≡ forest greatest_entries columns so_far.done xs = rw (so_far.same x ∙ old) refl in
       record {
         done = so_far.done;
-        same = λ e. so_far.same e ∙ stands_is trees e ∙ ap (λ ts. is_in_some_tree ts e) (sym same_trees) ∙ sym (stands_is more e);
+        same = λ e. so_far.same e ∙ in_a_tree_is trees e ∙ ap (λ ts. is_in_some_tree ts e) (sym same_trees) ∙ sym (in_a_tree_is more e);
         all = ap (λ ts. ts ++ forest greatest_entries columns so_far.done xs) same_trees ∙ ap (λ ts. map tree_of trees ++ ts) (sym skipped) ∙ so_far.all;
       }
   | inr new ↦
@@ -75,15 +75,15 @@ planted columns trees more x xs whole is so_far = elim (cases_Bool (is_in_a_tree
       let made : forest greatest_entries columns so_far.done (x ∷ xs) ≡ t ∷ forest greatest_entries columns (entries t ++ so_far.done) xs = rw (so_far.same x ∙ new) refl in
       record {
         done = entries t ++ so_far.done;
-        same = λ e. among-append (entries t) so_far.done e ∙ ap (λ b. is_among (entries t) e || b) (so_far.same e ∙ stands_is trees e)
-            ∙ sym (stands_push (map tree_of trees) t e) ∙ ap (λ ts. is_in_some_tree ts e) (sym longer) ∙ sym (stands_is more e);
+        same = λ e. among-append (entries t) so_far.done e ∙ ap (λ b. is_among (entries t) e || b) (so_far.same e ∙ in_a_tree_is trees e)
+            ∙ sym (in_a_tree_push (map tree_of trees) t e) ∙ ap (λ ts. is_in_some_tree ts e) (sym longer) ∙ sym (in_a_tree_is more e);
         all = ap (λ ts. ts ++ forest greatest_entries columns (entries t ++ so_far.done) xs) longer
             ∙ append_assoc (map tree_of trees) (t ∷ []) (forest greatest_entries columns (entries t ++ so_far.done) xs)
             ∙ ap (λ ts. map tree_of trees ++ ts) (sym made) ∙ so_far.all;
       }
 ]
 
-pub planting_more : (columns : List Column) (trees more : List Tree) (subset first count left : ℕ) (whole : List BergeTree) → left ≡ suc count → eqb (bit_at subset first) 1 ≡ true → map tree_of more ≡ map tree_of trees ++ added columns trees first
+pub planting_more : (columns : List Column) (trees more : List Tree) (subset first count left : ℕ) (whole : List BergeTree) → left ≡ suc count → eqb (bit_at subset first) 1 ≡ true → map tree_of more ≡ map tree_of trees ++ tree_of_new_entry columns trees first
     → TreesSoFar columns trees (entries_from subset first left) whole → TreesSoFar columns more (entries_from subset (first + 1) count) whole
 planting_more columns trees more subset first count left whole left_is bit is so_far =
     planted columns trees more first (entries_from subset (first + 1) count) whole is
@@ -93,7 +93,7 @@ planting_more columns trees more subset first count left whole left_is bit is so
 
 module _ (es : List Edge) (closes : ClosesNoCycle es) (subset : ℕ) (inside : AreWithin (entries_of_set subset) es) where
   all_planted : AreAllTreesOf es (entries_of_set subset) (forest greatest_entries (columns_of es) [] (entries_of_set subset))
-  all_planted = all_trees es closes (columns_of es) (columns_are es) (entries_of_set subset) greatest_entries inside (set_low subset) (set_increases subset)
+  all_planted = all_trees es closes (columns_of es) (columns_are es) (entries_of_set subset) greatest_entries inside (set_entries_below_limit subset) (set_increases subset)
 
   pub planting_rooted : (columns : List Column) (trees : List Tree) (first left : ℕ) → columns ≡ columns_of es → left ≡ 0 → TreesSoFar columns trees (entries_from subset first left) (forest greatest_entries columns [] (entries_of_set subset))
       → AreAllTreesOf es (entries_of_set subset) (map tree_of trees)

@@ -1,4 +1,4 @@
--- Equalities of columns, and the classes of columns that they make. Equalities that close no cycle between entries.
+-- Equalities of columns, the classes of columns that they make, and what it means that they close no cycle between entries.
 use Rattle.std.specs.Prelude.{◌≡◌, ◌≢◌, ℕ, Bool, not, ◌&&◌, ◌==◌, if◌then◌else◌, ⊤, List, [], ◌∷◌}
 use Rattle.std.specs.List.{AllByRecursion, Contains}
 use Rattle.berge_tree.specs.declared.edges.Place.{Place}
@@ -58,13 +58,12 @@ AreInOneClass es p q =
 
 -- ---- no cycle of entries and classes
 
--- the side of column q is the side of its entry. Only the column p is on the other side than its entry
+-- the side of column q is the side of its entry. Column p alone is not on the side of its entry, but on the other side
 abbrev pub side_of_column : (ℕ → Bool) → Place → Place → Bool
 side_of_column side p q = if same_place q p then not (side q.entry) else side q.entry
 
--- only the link p connects p's entry with p's class. That is: entries can be divided into two sides so that all columns of each class are on one
--- side.
--- A column is on the side of its entry, except p, which is on the other side
+-- column p is a bridge: without p, its entry isn't connected with its class. That is: the entries can be divided into two sides so that all columns
+-- of each class are on one side. A column is on the side of its entry, except p, which is on the other side
 pub record IsBridge (class : Place → Place) (p : Place) : Type 0 where
   pub side : ℕ → Bool
   pub together : (q r : Place) → class q ≡ class r → side_of_column side p q ≡ side_of_column side p r

@@ -1,4 +1,4 @@
--- Tests by computation. If both are true of equalities, `rooted` may be called with them.
+-- Tests by computation. If `joins_parts` and `has_entries` give true for equalities, `rooted` may be called with them.
 use Rattle.std.specs.Prelude.{ℕ, Bool, true, not, ◌&&◌, ◌==◌, if◌then◌else◌, List, [], ◌∷◌}
 use Rattle.entry_sets.specs.Sets.{has_entry}
 use Rattle.berge_tree.specs.declared.edges.Edge.{Edge}

@@ -16,7 +16,7 @@ use Rattle.berge_tree.specs.Boxed.{tree_of}
 abbrev pub is_before : Place → Place → Bool
 is_before p q = nat_lt p.entry q.entry || ((p.entry == q.entry) && nat_lt p.column q.column)
 
--- the sorted list with one more column, as a class of its own. If the list has the column already, it stays
+-- the sorted list with one more column, as a class of its own. If the list has the column already, the list stays as it is
 abbrev pub with_inserted : Place → List Column → List Column
 with_inserted p [] = record { place = p; class = p } ∷ []
 with_inserted p (c ∷ cs) =
@@ -64,9 +64,9 @@ is_column_above (Some above) column = above == column
 abbrev pub is_column_below : ℕ → Option ℕ → Column → Bool
 is_column_below entry above c = (c.place.entry == entry) && not (is_column_above above c.place.column)
 
--- whether a column is another column in the class of `above`
+-- whether a column is another column in the class of `column_above`
 abbrev pub is_other_of_class : Column → Column → Bool
-is_other_of_class above c = same_place above.class c.class && not (same_place above.place c.place)
+is_other_of_class column_above c = same_place column_above.class c.class && not (same_place column_above.place c.place)
 
 -- the members with one more member at the front
 abbrev pub joined_members : ℕ → ℕ → Classes → Option Members → Option Members
@@ -98,10 +98,10 @@ classes_at depth columns from entry above =
     classes_with (λ c. members_with (λ d. classes_below depth columns d.place.entry (Some d.place.column)) (filter (is_other_of_class c) columns))
     (filter (is_column_below entry above) (drop from columns))
 
--- the members of the class of `above`. Only columns that `columns` has at index `from` or later are considered
+-- the members of the class of `column_above`. Only columns that `columns` has at index `from` or later are considered
 abbrev pub members_at : ℕ → List Column → ℕ → Column → Option Members
-members_at depth columns from above =
-    members_with (λ d. classes_below depth columns d.place.entry (Some d.place.column)) (filter (is_other_of_class above) (drop from columns))
+members_at depth columns from column_above =
+    members_with (λ d. classes_below depth columns d.place.entry (Some d.place.column)) (filter (is_other_of_class column_above) (drop from columns))
 
 -- each column has another column in its class
 abbrev pub HaveOthers : List Column → Type 0
@@ -137,5 +137,5 @@ is_in_a_tree [] x = false
 is_in_a_tree (t ∷ ts) x = is_among (entries (tree_of t)) x || is_in_a_tree ts x
 
 -- a tree for the entry, if none of the trees has it yet
-abbrev pub added : List Column → List Tree → ℕ → List BergeTree
-added columns trees x = if is_in_a_tree trees x then [] else tree_at greatest_entries columns x ∷ []
+abbrev pub tree_of_new_entry : List Column → List Tree → ℕ → List BergeTree
+tree_of_new_entry columns trees x = if is_in_a_tree trees x then [] else tree_at greatest_entries columns x ∷ []

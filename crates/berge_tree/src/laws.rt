@@ -35,20 +35,20 @@ pub fn joined_parts_close_no_cycle()
 {}
 
 /// If `has_entries` is true of a set and of equalities, the equalities join only entries of this set.
-pub fn bits_tell_what_a_set_has()
+pub fn has_entries_implies_within()
     ensures { (subset : ℕ) (es : List Edge) → has_entries subset es ≡ true
         → AreWithin (entries_of_set subset) es }
 {}
 
 /// A tree of equalities is a component: it has every entry that the equalities connect with its root, no other entry, and each entry once.
 pub fn a_tree_is_a_component()
-    ensures whole { (es : List Edge) (t : BergeTree) → IsTreeOf es t
+    ensures has_all_connected { (es : List Edge) (t : BergeTree) → IsTreeOf es t
         → (p q : Place) → Contains (entries t) p.entry → class_of es p ≡ class_of es q
         → Contains (entries t) q.entry }
-    ensures one_part { (es : List Edge) (t : BergeTree) → ClosesNoCycle es → IsTreeOf es t
+    ensures has_no_unconnected { (es : List Edge) (t : BergeTree) → ClosesNoCycle es → IsTreeOf es t
         → (side : ℕ → Bool) → ((p q : Place) → class_of es p ≡ class_of es q → side p.entry ≡ side q.entry)
         → AllByRecursion (λ e. side e ≡ side t.root) (entries t) }
-    ensures once { (es : List Edge) (t : BergeTree) → ClosesNoCycle es → IsTreeOf es t
+    ensures entries_once { (es : List Edge) (t : BergeTree) → ClosesNoCycle es → IsTreeOf es t
         → AllPairs (λ e f. e ≢ f) (entries t) }
 {}
 

@@ -6,7 +6,7 @@ ghost use Rattle.berge_tree.specs.Equalities.{AreWithin, ClosesNoCycle};
 ghost use Rattle.berge_tree.specs.Rooted.{AreAllTreesOf};
 ghost use Rattle.entry_sets.specs.Sets.{entries_of_set};
 ghost use Rattle.berge_tree.specs.Trees.{entries, entries_below, entries_within};
-ghost use Rattle.berge_tree.specs.Walk.{IsNext, added, classes_at, is_among, is_column_below, is_other_of_class, members_at, is_in_a_tree, tree_at, classes_below};
+ghost use Rattle.berge_tree.specs.Walk.{IsNext, tree_of_new_entry, classes_at, is_among, is_column_below, is_other_of_class, members_at, is_in_a_tree, tree_at, classes_below};
 
 use crate::columns::{Column, columns_of, is_same};
 use crate::edges::Edge;
@@ -30,11 +30,11 @@ fn is_column_below(column: Column, entry: u8, above: Option<u32>) -> bool
     column.place.entry == entry && !is_above
 }
 
-// Whether the column is another column in the class of `above`.
-fn is_other_of_class(above: Column, column: Column) -> bool
-    ensures { result ≡ is_other_of_class above column }
+// Whether the column is another column in the class of `column_above`.
+fn is_other_of_class(column_above: Column, column: Column) -> bool
+    ensures { result ≡ is_other_of_class column_above column }
 {
-    is_same(above.class, column.class) && !is_same(above.place, column.place)
+    is_same(column_above.class, column.class) && !is_same(column_above.place, column.place)
 }
 
 fn next_at(columns: &[Column], from: usize, entry: u8, above: Option<u32>) -> Option<usize>
@@ -48,11 +48,11 @@ fn next_at(columns: &[Column], from: usize, entry: u8, above: Option<u32>) -> Op
     None
 }
 
-fn next_other(columns: &[Column], from: usize, above: Column) -> Option<usize>
-    ensures { IsNext (is_other_of_class above) columns.now from result }
+fn next_other(columns: &[Column], from: usize, column_above: Column) -> Option<usize>
+    ensures { IsNext (is_other_of_class column_above) columns.now from result }
 {
     for i in from..columns.len() {
-        if is_other_of_class(above, columns[i]) {
+        if is_other_of_class(column_above, columns[i]) {
             return Some(i);
         }
     }
@@ -87,24 +87,24 @@ fn classes_at(
     }
 }
 
-// The members of the class of `above`, each with the classes below it. Only columns that `columns` has at index `from` or later are considered.
-// `None` if there is no member.
+// The members of the class of `column_above`, each with the classes below it. Only columns that `columns` has at index `from` or later are
+// considered. `None` if there is no member.
 #[cycle(walk)]
 fn members_at(
     alloc: Global,
     columns: &[Column],
     from: usize,
-    above: Column,
+    column_above: Column,
     depth: u8,
 ) -> Result<Option<Members>, NoMemory>
-    ensures { IfOk result (λ members. some_members_of members ≡ members_at depth columns.now from above) }
+    ensures { IfOk result (λ members. some_members_of members ≡ members_at depth columns.now from column_above) }
 {
-    let Some(i) = next_other(columns, from, above) else {
+    let Some(i) = next_other(columns, from, column_above) else {
         return Ok(None);
     };
     let place = columns[i].place;
     let below = classes_below(alloc, columns, place.entry, Some(place.column), depth)?;
-    match members_at(alloc, columns, i + 1, above, depth)? {
+    match members_at(alloc, columns, i + 1, column_above, depth)? {
         None => Ok(Some(Members::One(place.entry, place.column, below))),
         Some(rest) => {
             let rest = Box::new(alloc, rest)?;
@@ -205,7 +205,7 @@ fn add_tree(
     columns: &[Column],
     entry: u8,
 ) -> Result<(), NoMemory>
-    ensures { IfOk result (λ _. map tree_of trees.new ≡ map tree_of trees.old ++ added columns.now trees.old entry) }
+    ensures { IfOk result (λ _. map tree_of trees.new ≡ map tree_of trees.old ++ tree_of_new_entry columns.now trees.old entry) }
 {
     if !is_in_a_tree(trees.as_slice(), entry) {
         let tree = tree_from(alloc, columns, entry)?;

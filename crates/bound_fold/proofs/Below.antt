@@ -26,8 +26,8 @@ if_ok P Q (Err e) f h = tt
 
 -- ---- the result of looking up a list
 
-pub found_list : (r : Option (Bor (List ℕ))) (x : Bor (List ℕ)) (o : Option (List ℕ)) → option_copied r ≡ o → r ≡ Some x → x.now ≡ unwrap_or o []
-found_list r x o e h = sym (ap (λ (p : Option (List ℕ)). unwrap_or p []) (sym e) ∙ ap (λ (p : Option (Bor (List ℕ))). unwrap_or (option_copied p) []) h)
+pub list_of_lookup : (r : Option (Bor (List ℕ))) (x : Bor (List ℕ)) (o : Option (List ℕ)) → option_copied r ≡ o → r ≡ Some x → x.now ≡ unwrap_or o []
+list_of_lookup r x o e h = sym (ap (λ (p : Option (List ℕ)). unwrap_or p []) (sym e) ∙ ap (λ (p : Option (Bor (List ℕ))). unwrap_or (option_copied p) []) h)
 
 -- ---- each list of an entry sums to its row bound
 
@@ -35,18 +35,18 @@ total_of : (lists : EntryLists) (entry column : ℕ) (o : Option (List ℕ)) →
 total_of lists entry column None e h = absurd (cc h)
 total_of lists entry column (Some list) e h = sym (ap (λ (o : Option ℕ). unwrap_or o 0) (lists.sums entry column list e).1)
 
-pub listed_total : (lists : EntryLists) (entry column : ℕ) → IsSome (list_of lists entry column) → sum ((bounds_of lists).list entry column) ≡ (bounds_of lists).rows entry
-listed_total lists entry column h = total_of lists entry column (list_of lists entry column) refl h
+pub list_total : (lists : EntryLists) (entry column : ℕ) → IsSome (list_of lists entry column) → sum ((bounds_of lists).list entry column) ≡ (bounds_of lists).rows entry
+list_total lists entry column h = total_of lists entry column (list_of lists entry column) refl h
 
-small_rows : (lists : EntryLists) (entry : ℕ) (o : Option ℕ) → row_bound_of lists entry ≡ o → unwrap_or o 0 < 2 ^ 64
-small_rows lists entry None e = omega arith
-small_rows lists entry (Some n) e = lists.bounds entry n e
+row_bound_fits : (lists : EntryLists) (entry : ℕ) (o : Option ℕ) → row_bound_of lists entry ≡ o → unwrap_or o 0 < 2 ^ 64
+row_bound_fits lists entry None e = omega arith
+row_bound_fits lists entry (Some n) e = lists.bounds entry n e
 
-rows_small : (lists : EntryLists) (entry : ℕ) → (bounds_of lists).rows entry < 2 ^ 64
-rows_small lists entry = small_rows lists entry (row_bound_of lists entry) refl
+entry_rows_fit : (lists : EntryLists) (entry : ℕ) → (bounds_of lists).rows entry < 2 ^ 64
+entry_rows_fit lists entry = row_bound_fits lists entry (row_bound_of lists entry) refl
 
-pub found_small : (lists : EntryLists) (entry column : ℕ) (list : List ℕ) → list ≡ (bounds_of lists).list entry column → IsSome (list_of lists entry column) → sum list < 2 ^ 64
-found_small lists entry column list is h = subst (λ n. n < 2 ^ 64) (sym (ap sum is ∙ listed_total lists entry column h)) (rows_small lists entry)
+pub list_sum_fits : (lists : EntryLists) (entry column : ℕ) (list : List ℕ) → list ≡ (bounds_of lists).list entry column → IsSome (list_of lists entry column) → sum list < 2 ^ 64
+list_sum_fits lists entry column list is h = subst (λ n. n < 2 ^ 64) (sym (ap sum is ∙ list_total lists entry column h)) (entry_rows_fit lists entry)
 
 at_each : (P : ChildLists → Type 0) (children : List Child) → AllByRecursion P (map lists_of children) → (k : ℕ) (d : Child) → k < length children → P (lists_of (get_or children k d))
 at_each P [] h k d within = absurd (omega arith)
@@ -57,7 +57,7 @@ module _ (lists : EntryLists) (entry : ℕ) where
   each_total : (cs : Classes) → EachColumnBelow (λ e c. IsSome (list_of lists e c)) entry cs
       → AllByRecursion (λ (c : ChildLists). sum c.column ≡ (bounds_of lists).rows entry) (map saturated_class (child_lists (bounds_of lists) entry cs))
   each_total no_class h = tt
-  each_total (and_class column members rest) h = (listed_total lists entry column h.0, each_total rest h.2)
+  each_total (and_class column members rest) h = (list_total lists entry column h.0, each_total rest h.2)
 
   pub columns_total : (cs : Classes) (total : ℕ) (children : List Child) → EachColumnBelow (λ e c. IsSome (list_of lists e c)) entry cs
       → map lists_of children ≡ map saturated_class (child_lists (bounds_of lists) entry cs) → (bounds_of lists).rows entry ≡ total

@@ -12,7 +12,7 @@ use Rattle.tree_bounds.proofs.Injected.{choices_within}
 use Rattle.tree_bounds.proofs.Saturated.{within_saturated}
 use Rattle.bound_fold.specs.declared.lists.EntryLists.{EntryLists}
 use Rattle.bound_fold.specs.Lists.{bounds_of, list_of, TreeHasBounds}
-use Rattle.bound_fold.proofs.Below.{listed_total}
+use Rattle.bound_fold.proofs.Below.{list_total}
 
 -- ---- a property of each column of a tree, carried over to a weaker property
 
@@ -25,12 +25,12 @@ abbrev mutual
   carried_within Q R f (one_member entry column below) h = (f entry column h.0, carried_below Q R f entry below h.1)
   carried_within Q R f (and_member entry column below rest) h = (f entry column h.0, carried_below Q R f entry below h.1, carried_within Q R f rest h.2)
 
-falls_there : (lists : EntryLists) (entry column : ℕ) (o : Option (List ℕ)) → list_of lists entry column ≡ o → IsSome o → IsDescending (unwrap_or o [])
-falls_there lists entry column None e h = absurd (cc h)
-falls_there lists entry column (Some list) e h = (lists.sums entry column list e).0
+list_descends : (lists : EntryLists) (entry column : ℕ) (o : Option (List ℕ)) → list_of lists entry column ≡ o → IsSome o → IsDescending (unwrap_or o [])
+list_descends lists entry column None e h = absurd (cc h)
+list_descends lists entry column (Some list) e h = (lists.sums entry column list e).0
 
 pub has_list : (lists : EntryLists) (entry column : ℕ) → IsSome (list_of lists entry column) → HasList (bounds_of lists) entry column
-has_list lists entry column h = record { falls = falls_there lists entry column (list_of lists entry column) refl h; total = listed_total lists entry column h }
+has_list lists entry column h = record { falls = list_descends lists entry column (list_of lists entry column) refl h; total = list_total lists entry column h }
 
 has_lists : (lists : EntryLists) (t : BergeTree) → TreeHasBounds lists t → TreeHasLists (bounds_of lists) t
 has_lists lists t listed =

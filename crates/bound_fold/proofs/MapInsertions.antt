@@ -11,13 +11,13 @@ use Rattle.bound_fold.specs.BoundMaps.{MapOf, same_pair, row_bound_in, list_in, 
 abbrev pub PutOrFailed : {K X : Type 0} → (K → K → Bool) → MapOf K X → MapOf K X → K → X → Type 0
 PutOrFailed {K} same old new k v = ((q : K) → get same new q ≡ get same old q) ⊎ ((q : K) → get same new q ≡ (if same k q then Some v else get same old q))
 
-pub put : {K X T E : Type 0} (same : K → K → Bool) (old new : MapOf K X) (k : K) (v : X) (r : Result T E)
+pub put_or_failed : {K X T E : Type 0} (same : K → K → Bool) (old new : MapOf K X) (k : K) (v : X) (r : Result T E)
     → OnOk r (Updates same old new k (Some v)) → OnErr r (IsUnchanged old new) → PutOrFailed same old new k v
-put same old new k v (Ok x) up un = inr (λ q. up.0 q)
-put same old new k v (Err e) up un = inl (λ q. ap (lookup (λ p. same q p)) un)
+put_or_failed same old new k v (Ok x) up un = inr (λ q. up.0 q)
+put_or_failed same old new k v (Err e) up un = inl (λ q. ap (lookup (λ p. same q p)) un)
 
-same_is : (a b : ℕ × ℕ) → same_pair a b ≡ true → (a.0 ≡ b.0) × (a.1 ≡ b.1)
-same_is a b e = by (nat_eq a.0 b.0) (nat_eq a.1 b.1) refl refl e
+same_pair_is_equal : (a b : ℕ × ℕ) → same_pair a b ≡ true → (a.0 ≡ b.0) × (a.1 ≡ b.1)
+same_pair_is_equal a b e = by (nat_eq a.0 b.0) (nat_eq a.1 b.1) refl refl e
   where
     by : (x y : Bool) → nat_eq a.0 b.0 ≡ x → nat_eq a.1 b.1 ≡ y → (x && y) ≡ true → (a.0 ≡ b.0) × (a.1 ≡ b.1)
     by true true p q h = (eqb-true a.0 b.0 p, eqb-true a.1 b.1 q)
@@ -54,7 +54,7 @@ lists_after rows old new entry column list are falls total (inr up) e c other h 
     elim (at_key (same_pair (entry, column) (e, c)) list (list_in old e c) other (sym (up (e, c)) ∙ h)) [
       | inl now ↦ (
         subst IsDescending now.1 falls,
-        ap (row_bound_in rows) (sym (same_is (entry, column) (e, c) now.0).0) ∙ total ∙ ap (λ (s : List ℕ). Some (sum s)) now.1,
+        ap (row_bound_in rows) (sym (same_pair_is_equal (entry, column) (e, c) now.0).0) ∙ total ∙ ap (λ (s : List ℕ). Some (sum s)) now.1,
       )
       | inr was ↦ are e c other was.1
     ]
@@ -66,5 +66,5 @@ others_stay old new entry column list (inr up) e c apart = up (e, c) ∙ by (sam
   where
     by : (t : Bool) → same_pair (entry, column) (e, c) ≡ t → ((e ≢ entry) ⊎ (c ≢ column)) → (if t then Some list else list_in old e c) ≡ list_in old e c
     by false p h = refl
-    by true p (inl h) = absurd (h (sym (same_is (entry, column) (e, c) p).0))
-    by true p (inr h) = absurd (h (sym (same_is (entry, column) (e, c) p).1))
+    by true p (inl h) = absurd (h (sym (same_pair_is_equal (entry, column) (e, c) p).0))
+    by true p (inr h) = absurd (h (sym (same_pair_is_equal (entry, column) (e, c) p).1))

@@ -24,10 +24,10 @@ use Rattle.bound_fold.proofs.SetTrees.{set_has_lists, turn_has_bounds}
 -- ---- the loop over trees, which multiplies their bounds
 
 module _ (lists : EntryLists) where
-  pub tree_listed : (trees : List Tree) (i : ℕ) (d : Tree) → AllByRecursion (TreeHasBounds lists) (map tree_of trees) → i < length trees → TreeHasBounds lists (tree_of (get_or trees i d))
-  tree_listed [] i d h l = absurd (omega arith)
-  tree_listed (tree ∷ trees) zero d h l = h.0
-  tree_listed (tree ∷ trees) (suc i) d h l = tree_listed trees i d h.1 (omega arith)
+  pub tree_has_bounds : (trees : List Tree) (i : ℕ) (d : Tree) → AllByRecursion (TreeHasBounds lists) (map tree_of trees) → i < length trees → TreeHasBounds lists (tree_of (get_or trees i d))
+  tree_has_bounds [] i d h l = absurd (omega arith)
+  tree_has_bounds (tree ∷ trees) zero d h l = h.0
+  tree_has_bounds (tree ∷ trees) (suc i) d h l = tree_has_bounds trees i d h.1 (omega arith)
 
 take_one_more : (trees : List Tree) (i : ℕ) (d : Tree) → i < length trees → map tree_of (take (suc i) trees) ≡ map tree_of (take i trees) ++ tree_of (get_or trees i d) ∷ []
 take_one_more [] i d h = absurd (omega arith)
@@ -52,8 +52,8 @@ module _ (es : List Edge) (subset turn : ℕ) (kept : List Edge) (is_kept : kept
   are_all : AreAllTreesOf (kept_of subset turn es) (entries_of_set subset) ts
   are_all = subst (λ es. AreAllTreesOf es (entries_of_set subset) ts) is_kept r
 
-  pub trees_listed : (lists : EntryLists) → SetHasBounds lists es subset → AllByRecursion (TreeHasBounds lists) ts
-  trees_listed lists h = turn_has_bounds lists es subset turn h ts are_all
+  pub trees_have_bounds : (lists : EntryLists) → SetHasBounds lists es subset → AllByRecursion (TreeHasBounds lists) ts
+  trees_have_bounds lists h = turn_has_bounds lists es subset turn h ts are_all
 
   pub turn_done : {E : Type 0} (b : EntryBounds) (n : Result ℕ E) → IfOk n (λ n. n ≡ saturated (bound_of_trees b ts)) → IfOk n (λ n. n ≡ saturated (bound_of_turn b es subset turn))
   turn_done b (Ok n) h = h ∙ ap (λ ts. saturated (bound_of_trees b ts)) (trees_are es subset turn ts are_all)

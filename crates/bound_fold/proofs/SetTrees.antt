@@ -33,21 +33,21 @@ module _ (lists : EntryLists) (es : List Edge) (subset turn : ℕ) (h : SetHasBo
   abbrev HasRowBound : ℕ → Type 0
   HasRowBound entry = IsSome (row_bound_of lists entry)
 
-  abbrev IsThere : ℕ → ℕ → Type 0
-  IsThere entry column = IsSome (list_of lists entry column)
+  abbrev HasListOfColumn : ℕ → ℕ → Type 0
+  HasListOfColumn entry column = IsSome (list_of lists entry column)
 
-  each_listed : (ts : List BergeTree) → AllByRecursion (IsTreeOf (kept_of subset turn es)) ts → AllByRecursion HasRowBound (entries_of_all ts) → AllByRecursion (TreeHasBounds lists) ts
-  each_listed [] trees rows = tt
-  each_listed (t ∷ ts) trees rows = (
+  each_tree_has_bounds : (ts : List BergeTree) → AllByRecursion (IsTreeOf (kept_of subset turn es)) ts → AllByRecursion HasRowBound (entries_of_all ts) → AllByRecursion (TreeHasBounds lists) ts
+  each_tree_has_bounds [] trees rows = tt
+  each_tree_has_bounds (t ∷ ts) trees rows = (
     record {
       rows = all_left HasRowBound (entries t) (entries_of_all ts) rows;
-      columns = tree_columns IsThere (kept_of subset turn es) (named_in_turn IsThere subset turn es h.columns) t trees.0;
+      columns = tree_columns HasListOfColumn (kept_of subset turn es) (named_in_turn HasListOfColumn subset turn es h.columns) t trees.0;
     },
-    each_listed ts trees.1 (all_right HasRowBound (entries t) (entries_of_all ts) rows),
+    each_tree_has_bounds ts trees.1 (all_right HasRowBound (entries t) (entries_of_all ts) rows),
   )
 
   pub turn_has_bounds : (ts : List BergeTree) → AreAllTreesOf (kept_of subset turn es) (entries_of_set subset) ts → AllByRecursion (TreeHasBounds lists) ts
-  turn_has_bounds ts all = each_listed ts all.trees (in_trees es subset turn ts all HasRowBound h.rows)
+  turn_has_bounds ts all = each_tree_has_bounds ts all.trees (in_trees es subset turn ts all HasRowBound h.rows)
 
 -- ---- the lists of a set are in descending order, and each sums to a row bound
 

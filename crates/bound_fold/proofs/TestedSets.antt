@@ -9,7 +9,7 @@ use Rattle.std.proofs.lemmas.List.Elements.{All-contains_itself, All-weaker, rec
 use Rattle.limits.specs.Profile.{greatest_entries}
 use Rattle.berge_tree.specs.declared.edges.Edge.{Edge}
 use Rattle.entry_sets.specs.Sets.{entries_of_set, has_entry}
-use Rattle.entry_sets.proofs.Listing.{set_bits, set_bits_only, each}
+use Rattle.entry_sets.proofs.Listing.{set_bits, set_bits_only, at_member}
 use Rattle.join_graph.specs.Kept.{equalities_within, joins_within}
 use Rattle.tree_bounds.specs.Columns.{EachNamedColumn}
 
@@ -20,8 +20,8 @@ module _ (P : ℕ → Type 0) (subset : ℕ) where
     | inr top ↦ (let same : k ≡ i = omega arith in subst P (sym same) (here (subst (λ j. has_entry subset j ≡ true) same has)))
   ]
 
-  has_it : (k : ℕ) → k < greatest_entries → bit_at subset k ≡ 1 → has_entry subset k ≡ true
-  has_it k low bit = rw (lt-ltb k greatest_entries low, eq-eqb (bit_at subset k) 1 bit) refl
+  has_entry_if_bit : (k : ℕ) → k < greatest_entries → bit_at subset k ≡ 1 → has_entry subset k ≡ true
+  has_entry_if_bit k low bit = rw (lt-ltb k greatest_entries low, eq-eqb (bit_at subset k) 1 bit) refl
 
   pub each_in_set : ((k : ℕ) → k < greatest_entries → has_entry subset k ≡ true → P k) → AllByRecursion P (entries_of_set subset)
   each_in_set h =
@@ -29,7 +29,7 @@ module _ (P : ℕ → Type 0) (subset : ℕ) where
       (All-weaker (Contains (entries_of_set subset)) P (λ k in_set. at k (set_bits subset k in_set)) (entries_of_set subset) (All-contains_itself (entries_of_set subset)))
     where
       at : (k : ℕ) → (k < greatest_entries) × (bit_at subset k ≡ 1) → P k
-      at k bits = h k bits.0 (has_it k bits.0 bits.1)
+      at k bits = h k bits.0 (has_entry_if_bit k bits.0 bits.1)
 
 pub edge_more : (P : Edge → Type 0) (es : List Edge) (i : ℕ) (e : Edge) → ((k : ℕ) (d : Edge) → k < i → P (get_or es k d)) → P (get_or es i e) → i < length es
     → (k : ℕ) (d : Edge) → k < i + 1 → P (get_or es k d)
@@ -41,11 +41,11 @@ edge_more P es i e before here inside k d h = elim (cases_lt k i) [
 abbrev pub AtBoth : (ℕ → ℕ → Type 0) → ℕ → Edge → Type 0
 AtBoth Q subset e = joins_within subset e ≡ true → Q e.left.entry e.left.column × Q e.right.entry e.right.column
 
-pub each_named : (Q : ℕ → ℕ → Type 0) (subset : ℕ) (es : List Edge) → ((k : ℕ) (d : Edge) → k < length es → AtBoth Q subset (get_or es k d)) → EachNamedColumn Q (equalities_within subset es)
-each_named Q subset [] h = tt
-each_named Q subset (e ∷ es) h =
+pub each_named_column : (Q : ℕ → ℕ → Type 0) (subset : ℕ) (es : List Edge) → ((k : ℕ) (d : Edge) → k < length es → AtBoth Q subset (get_or es k d)) → EachNamedColumn Q (equalities_within subset es)
+each_named_column Q subset [] h = tt
+each_named_column Q subset (e ∷ es) h =
     let here : AtBoth Q subset e = h 0 e (omega arith) in
-    let later : EachNamedColumn Q (equalities_within subset es) = each_named Q subset es (λ k d l. h (suc k) d (omega arith)) in
+    let later : EachNamedColumn Q (equalities_within subset es) = each_named_column Q subset es (λ k d l. h (suc k) d (omega arith)) in
     elim (cases_Bool (joins_within subset e)) [
       | inl joins ↦ rw joins ((here joins).0, ((here joins).1, later))
       | inr apart ↦ rw apart later
@@ -74,4 +74,4 @@ named_at Q subset (e ∷ es) h (suc k) d low joins = named_at Q subset es (later
 pub entry_at : (P : ℕ → Type 0) (subset : ℕ) → AllByRecursion P (entries_of_set subset) → (k : ℕ) → has_entry subset k ≡ true → P k
 entry_at P subset h k has =
     let bits : (ltb k greatest_entries ≡ true) × (eqb (bit_at subset k) 1 ≡ true) = and_parts (ltb k greatest_entries) (eqb (bit_at subset k) 1) has in
-    each P (entries_of_set subset) h k (set_bits_only subset k (ltb-true k greatest_entries bits.0, eqb-true (bit_at subset k) 1 bits.1))
+    at_member P (entries_of_set subset) h k (set_bits_only subset k (ltb-true k greatest_entries bits.0, eqb-true (bit_at subset k) 1 bits.1))

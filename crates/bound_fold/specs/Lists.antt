@@ -1,4 +1,4 @@
--- The row bounds and lists of an `EntryLists`, the same as `EntryBounds`, and those that a tree needs.
+-- The row bounds and lists of an `EntryLists`, also in the form of `EntryBounds`. Whether an `EntryLists` has those that a tree needs.
 use Rattle.std.specs.Prelude.{ℕ, List, [], Option, unwrap_or, IsSome}
 use Rattle.std.specs.List.{AllByRecursion}
 use Rattle.berge_tree.specs.Trees.{BergeTree, entries}

@@ -4,9 +4,9 @@
 //! In: a tree of entries and classes, and for each entry a row bound and the lists of its joined columns. A list is given by its pieces, in
 //! descending order. Out: one number of 128 bits.
 //!
-//! The fold goes from the leaves up. A class multiplies the lists of the entries below it, rank by rank. An entry composes its own list with the
-//! lists of the classes below it. The root sums the weights of its rows; this sum is the bound of the tree. In each turn a set of entries keeps some
-//! equalities. They make trees, and the bound of the turn is the product of the trees' bounds. The least bound of all turns is the bound of the set.
+//! The fold goes from the leaves up. The list of a class is the rank-wise product of the lists of the entries below it. The list of an entry is
+//! composed with the lists of the classes below it. The bound of the tree is the sum of the weights of the root's rows. Each turn of a set has kept
+//! equalities, and they make trees. The bound of the turn is the product of the trees' bounds, and the least bound of all turns is the set's bound.
 //!
 //! In contracts `row_bound_of` and `list_of` give the row bounds and lists of an `EntryLists`, and `bounds_of` gives them as `EntryBounds`.
 //! `TreeHasBounds` and `SetHasBounds` say that an `EntryLists` has the row bounds and lists that a tree or a set needs.

@@ -43,7 +43,7 @@ fn add_children(
     }
 }
 
-// The product of the lists of the entries below a class.
+// The list of a class: the rank-wise product of the lists of the entries below it.
 #[cycle(folding)]
 fn class_list(alloc: Global, members: &Members, lists: &EntryLists) -> Result<Pieces, NoMemory>
     requires { EachColumnWithin (λ e c. IsSome (list_of lists.now e c)) (members_of members.now) }
@@ -96,8 +96,9 @@ fn own_list(list: &Pieces) -> Result<Pieces, NoMemory>
 
 /// The bound of a tree, or `u128::MAX` if the bound is larger.
 ///
-/// From the leaves up, an entry's list is composed with the lists of the classes below it. A class multiplies the lists of the entries below it
-/// (Degree Sequence Bound, ICDT 2023; SafeBound, SIGMOD 2023). If the lists dominate tables, no join of the tables along the tree has more rows.
+/// From the leaves up, an entry's list is composed with the lists of the classes below it. The list of a class is the product of the lists of the
+/// entries below it (Degree Sequence Bound, ICDT 2023; SafeBound, SIGMOD 2023). If the lists dominate tables, no join of the tables along the tree
+/// has more rows than this bound.
 pub fn fold(alloc: Global, tree: &Tree, lists: &EntryLists) -> Result<u128, NoMemory>
     requires { TreeHasBounds lists.now (tree_of tree.now) }
     ensures exact { IfOk result (λ n. n ≡ saturated (bound_of_tree (bounds_of lists.now) (tree_of tree.now))) }

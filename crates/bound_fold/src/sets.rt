@@ -16,7 +16,7 @@ use crate::over_trees::fold;
 use base_io::NoMemory;
 use berge_tree::{Tree, rooted};
 use entry_sets::EntrySet;
-use join_graph::{Parts, kept, turns};
+use join_graph::{Parts, count_turns, kept};
 use std::alloc::Global;
 
 // The product of the bounds of trees.
@@ -31,8 +31,8 @@ fn product_of_trees(alloc: Global, trees: &[Tree], lists: &EntryLists) -> Result
     Ok(product)
 }
 
-/// The bound of a set in one turn, or `u128::MAX` if the bound is larger. In this turn the set keeps some equalities, and the bounds of their trees
-/// are multiplied.
+/// The bound of a set in one turn, or `u128::MAX` if the bound is larger. The bound is the product of the bounds of the trees that the turn's kept
+/// equalities make.
 pub fn turn_bound(
     alloc: Global,
     parts: &Parts,
@@ -50,9 +50,9 @@ pub fn turn_bound(
 
 /// The bound of a set of entries, or `u128::MAX` if the bound is larger.
 ///
-/// In each turn the set keeps some equalities. These equalities make trees, and the bound of the turn is the product of the trees' bounds. The least
-/// bound of all turns is the bound of the set (SafeBound, SIGMOD 2023). A turn leaves out the other equalities, which can only reduce the rows. If
-/// the lists dominate tables, no join of the set's tables by all its equalities has more rows.
+/// The kept equalities of a turn make trees, and the bound of the turn is the product of the trees' bounds. The least bound of all turns is the bound
+/// of the set (SafeBound, SIGMOD 2023). A turn leaves the other equalities out, but these could only reduce the rows. If the lists dominate tables,
+/// no join of the set's tables by all its equalities has more rows than this bound.
 pub fn set_bound(
     alloc: Global,
     parts: &Parts,
@@ -68,7 +68,7 @@ pub fn set_bound(
         → (length choices ≤ n) ⊎ (n ≡ 2 ^ 128 - 1)) }
 {
     let mut least = turn_bound(alloc, parts, subset, 0, lists)?;
-    for turn in 1..turns(parts, subset) {
+    for turn in 1..count_turns(parts, subset) {
         least = least.min(turn_bound(alloc, parts, subset, turn, lists)?);
     }
     Ok(least)

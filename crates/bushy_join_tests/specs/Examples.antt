@@ -2,21 +2,21 @@
 use Rattle.std.specs.Prelude.{ℕ, List, [], ◌∷◌, map}
 use Rattle.csv_tables.specs.declared.types.Database.{Database}
 use Rattle.query_types.specs.declared.types.Query.{Query}
-use Rattle.tree_plans.specs.declared.bushy.BushyPlan.{BushyPlan}
-use Rattle.tree_plans.specs.Examples.{join, plan_of}
-use Rattle.bushy_join_tests.specs.SmallQueries.{cond_of, number_table, one_is_two, tables_are}
+use Rattle.plans.specs.declared.bushy.BushyPlan.{BushyPlan}
+use Rattle.plans.specs.TreeExamples.{join, plan_of}
+use Rattle.bushy_join_tests.specs.SmallQueries.{cond_of, number_table, one_is_two, database_of_tables}
 
 -- a query that has no answer rows: FROM these tables, which are given by their numbers, WHERE 1 = 2. It selects no column
-abbrev pub never : List ℕ → Query
-never tables = record {
+abbrev pub query_with_false_condition : List ℕ → Query
+query_with_false_condition tables = record {
   from = map (λ table. record { table = table; alias = [] }) tables;
   conjuncts = cond_of one_is_two ∷ [];
   select = [];
 }
 
 -- a table T(X) with the rows 1, 2 and 3
-abbrev pub three : Database
-three = tables_are (number_table 3 ((1 ∷ 2 ∷ 3 ∷ []) ∷ []) ∷ [])
+abbrev pub three_rows : Database
+three_rows = database_of_tables (number_table 3 ((1 ∷ 2 ∷ 3 ∷ []) ∷ []) ∷ [])
 
 -- a plan that joins two entries, of at most 6 and 5 rows, into at most 12 rows
 abbrev pub pair_plan : BushyPlan
@@ -27,9 +27,9 @@ abbrev pub triangle_plan : BushyPlan
 triangle_plan = plan_of (join 1 2 5 ∷ join 0 3 9 ∷ []) (3 ∷ 3 ∷ 3 ∷ []) 9
 
 -- a plan for one entry of at most three rows, which joins nothing
-abbrev pub alone : BushyPlan
-alone = plan_of [] (3 ∷ []) 3
+abbrev pub one_entry_plan : BushyPlan
+one_entry_plan = plan_of [] (3 ∷ []) 3
 
 -- a plan that joins two entries of at most three rows each
-abbrev pub twice : BushyPlan
-twice = plan_of (join 0 1 9 ∷ []) (3 ∷ 3 ∷ []) 9
+abbrev pub two_entries_plan : BushyPlan
+two_entries_plan = plan_of (join 0 1 9 ∷ []) (3 ∷ 3 ∷ []) 9

@@ -1,11 +1,11 @@
-//! Small join trees: the rows of their nodes over whole tables. Also that each plan is valid for its query over whole scans.
+//! Small join trees: the rows of their nodes over whole tables, and that each plan is a plan of its query over whole scans.
 ghost use Rattle.std.specs.Prelude.{◌≡◌, ◌∷◌, []};
 ghost use Rattle.sql_meaning.specs.Examples.{triangle, triangle_tables};
 ghost use Rattle.bushy_join_tests.specs.SmallQueries.{r_joins_s, six_and_five, three_rows_two_entries};
 ghost use Rattle.sql_meaning.specs.Tables.{tables_of};
 ghost use Rattle.join_steps.specs.Lists.{scans_of};
 ghost use Rattle.bushy_join.specs.Trees.{rows_over_tables, IsTreePlanOf};
-ghost use Rattle.bushy_join_tests.specs.Examples.{alone, never, pair_plan, three, triangle_plan, twice};
+ghost use Rattle.bushy_join_tests.specs.Examples.{one_entry_plan, query_with_false_condition, pair_plan, three_rows, triangle_plan, two_entries_plan};
 
 /// Two tables with one inner node, which has six of the 30 choices.
 pub fn two_tables()
@@ -23,12 +23,12 @@ pub fn triangles()
         ≡ (0 ∷ 0 ∷ 0 ∷ []) ∷ (0 ∷ 1 ∷ 1 ∷ []) ∷ (1 ∷ 0 ∷ 2 ∷ []) ∷ (2 ∷ 2 ∷ 0 ∷ []) ∷ [] }
 {}
 
-/// A query with the constant condition 1 = 2, which fails. A leaf that is the root is empty, and so is an inner node. A leaf below an inner node has
-/// its rows.
+/// A query with the constant condition 1 = 2, which fails. A leaf that is the root is empty, and so is an inner node. A leaf below an inner node
+/// keeps its rows.
 pub fn constants()
-    ensures plan_alone { IsTreePlanOf (never (0 ∷ [])) (tables_of three) (scans_of (never (0 ∷ [])) (tables_of three)) alone }
-    ensures alone { rows_over_tables (never (0 ∷ [])) (tables_of three) alone 0 ≡ [] }
-    ensures plan_twice { IsTreePlanOf (never (0 ∷ 0 ∷ [])) (tables_of three_rows_two_entries) (scans_of (never (0 ∷ 0 ∷ [])) (tables_of three_rows_two_entries)) twice }
-    ensures inner { rows_over_tables (never (0 ∷ 0 ∷ [])) (tables_of three_rows_two_entries) twice 2 ≡ [] }
-    ensures leaf { rows_over_tables (never (0 ∷ 0 ∷ [])) (tables_of three_rows_two_entries) twice 0 ≡ (0 ∷ []) ∷ (1 ∷ []) ∷ (2 ∷ []) ∷ [] }
+    ensures plan_alone { IsTreePlanOf (query_with_false_condition (0 ∷ [])) (tables_of three_rows) (scans_of (query_with_false_condition (0 ∷ [])) (tables_of three_rows)) one_entry_plan }
+    ensures alone { rows_over_tables (query_with_false_condition (0 ∷ [])) (tables_of three_rows) one_entry_plan 0 ≡ [] }
+    ensures plan_twice { IsTreePlanOf (query_with_false_condition (0 ∷ 0 ∷ [])) (tables_of three_rows_two_entries) (scans_of (query_with_false_condition (0 ∷ 0 ∷ [])) (tables_of three_rows_two_entries)) two_entries_plan }
+    ensures inner { rows_over_tables (query_with_false_condition (0 ∷ 0 ∷ [])) (tables_of three_rows_two_entries) two_entries_plan 2 ≡ [] }
+    ensures leaf { rows_over_tables (query_with_false_condition (0 ∷ 0 ∷ [])) (tables_of three_rows_two_entries) two_entries_plan 0 ≡ (0 ∷ []) ∷ (1 ∷ []) ∷ (2 ∷ []) ∷ [] }
 {}

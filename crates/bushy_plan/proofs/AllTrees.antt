@@ -5,7 +5,7 @@ use Rattle.std.specs.Int.{bit_at}
 use Rattle.std.proofs.lemmas.Bool.{cases_eq, cases_lt, cases_order}
 use Rattle.std.proofs.lemmas.Nat.{pow_pos}
 use Rattle.std.proofs.lemmas.Nat.Bits.{bit_at-lt, bit_at-pow_other, bit_at_above, bit_at_ones}
-use Rattle.entry_sets.proofs.Bits.{bit_without_other, bit_without_same, power_within, twice}
+use Rattle.entry_sets.proofs.Bits.{bit_without_other, bit_without_same, power_within, power_of_next}
 use Rattle.order_search.proofs.Tested.{both_true}
 use Rattle.bushy_plan.specs.BestTree.{full_set}
 use Rattle.bushy_plan.specs.PlanTrees.{IsFirstEntry, IsSplit, IsTreeOver, PlanTree, leaf, node, leaf_set}
@@ -94,8 +94,7 @@ split_without_left set left right last fits split has more = record {
     in_set : bit_at set last ≡ 1
     in_set = omega (arith, split.apart last, bit_at-lt set last)
 
--- a split whose set has the last entry: the first entry is on the left side, and the right side has a later entry. So the first entry isn't the last
--- one
+-- if the left side of a split has the last entry, it has another entry too, the first entry of the set
 left_has_more : (set last : ℕ) (left right : PlanTree) → set < 2 ^ suc last → IsTreeOver set (node left right) → bit_at (leaf_set left) last ≡ 1 → 0 < leaf_set left - 2 ^ last
 left_has_more set last left right fits is_tree has = elim (cases_lt (2 ^ last) (leaf_set left)) [
   | inl more ↦ omega arith
@@ -128,7 +127,7 @@ IsWith last (node left right) tree =
     (tree ≡ node (node left right) (leaf last))
     ⊎ (((left' : PlanTree) × IsWith last left left' × (tree ≡ node left' right)) ⊎ ((right' : PlanTree) × IsWith last right right' × (tree ≡ node left right')))
 
-pub record Without (set last : ℕ) (tree : PlanTree) : Type 0 where
+pub record TreeWithoutLast (set last : ℕ) (tree : PlanTree) : Type 0 where
   pub rest : PlanTree
   pub is_tree : IsTreeOver (set - 2 ^ last) rest
   pub is_with : IsWith last rest tree
@@ -157,17 +156,17 @@ pub only_last : (last : ℕ) (tree : PlanTree) → IsTreeOver (2 ^ last) tree �
 only_last last (leaf entry) is_tree = ap leaf (sym (same_power last entry is_tree))
 only_last last (node left right) is_tree = absurd (no_split_of_one last (leaf_set left) (leaf_set right) is_tree.0)
 
-without : (set last : ℕ) (tree : PlanTree) → set < 2 ^ suc last → bit_at set last ≡ 1 → 0 < set - 2 ^ last → IsTreeOver set tree → Without set last tree
-without set last (leaf entry) fits has more is_tree = elim (cases_eq last entry) [
+remove_last : (set last : ℕ) (tree : PlanTree) → set < 2 ^ suc last → bit_at set last ≡ 1 → 0 < set - 2 ^ last → IsTreeOver set tree → TreeWithoutLast set last tree
+remove_last set last (leaf entry) fits has more is_tree = elim (cases_eq last entry) [
   | inl same ↦ absurd (omega (arith, is_tree, ap (λ k. 2 ^ k) same))
   | inr apart ↦ absurd (omega (arith, bit_at-pow_other entry last apart, ap (λ k. bit_at k last) is_tree, has))
 ]
-without set last (node left right) fits has more is_tree = elim (cases_eq (bit_at (leaf_set right) last) 1) [
+remove_last set last (node left right) fits has more is_tree = elim (cases_eq (bit_at (leaf_set right) last) 1) [
   | inr out ↦ (let in_left : bit_at (leaf_set left) last ≡ 1 = omega (arith, is_tree.0.apart last, bit_at-lt (leaf_set right) last, bit_at-lt (leaf_set left) last) in
       let some : 0 < leaf_set left - 2 ^ last = left_has_more set last left right fits is_tree in_left in
-      in_the_left in_left some (without (leaf_set left) last left (omega (arith, whole)) in_left some is_tree.1))
+      in_the_left in_left some (remove_last (leaf_set left) last left (omega (arith, whole)) in_left some is_tree.1))
   | inl in_right ↦ elim (cases_lt (2 ^ last) (leaf_set right)) [
-    | inl some ↦ in_the_right in_right (omega arith) (without (leaf_set right) last right (omega (arith, whole)) in_right (omega arith) is_tree.2)
+    | inl some ↦ in_the_right in_right (omega arith) (remove_last (leaf_set right) last right (omega (arith, whole)) in_right (omega arith) is_tree.2)
     | inr within ↦ (let alone : leaf_set right ≡ 2 ^ last = omega (arith, power_within last (leaf_set right) in_right) in
         record {
           rest = left;
@@ -180,7 +179,7 @@ without set last (node left right) fits has more is_tree = elim (cases_eq (bit_a
     whole : leaf_set left + leaf_set right ≡ set
     whole = split_sum set (leaf_set left) (leaf_set right) is_tree.0
 
-    in_the_left : bit_at (leaf_set left) last ≡ 1 → 0 < leaf_set left - 2 ^ last → Without (leaf_set left) last left → Without set last (node left right)
+    in_the_left : bit_at (leaf_set left) last ≡ 1 → 0 < leaf_set left - 2 ^ last → TreeWithoutLast (leaf_set left) last left → TreeWithoutLast set last (node left right)
     in_the_left in_left some rest =
         let rest_set : leaf_set rest.rest ≡ leaf_set left - 2 ^ last = tree_set (leaf_set left - 2 ^ last) rest.rest rest.is_tree in
         record {
@@ -193,7 +192,7 @@ without set last (node left right) fits has more is_tree = elim (cases_eq (bit_a
           is_with = inr (inl (left, rest.is_with, refl));
         }
 
-    in_the_right : bit_at (leaf_set right) last ≡ 1 → 0 < leaf_set right - 2 ^ last → Without (leaf_set right) last right → Without set last (node left right)
+    in_the_right : bit_at (leaf_set right) last ≡ 1 → 0 < leaf_set right - 2 ^ last → TreeWithoutLast (leaf_set right) last right → TreeWithoutLast set last (node left right)
     in_the_right in_right some rest =
         let rest_set : leaf_set rest.rest ≡ leaf_set right - 2 ^ last = tree_set (leaf_set right - 2 ^ last) rest.rest rest.is_tree in
         record {
@@ -208,9 +207,9 @@ without set last (node left right) fits has more is_tree = elim (cases_eq (bit_a
 
 pub without_last : (n : ℕ) (tree : PlanTree) → IsTreeOver (full_set (suc (suc n))) tree → (rest : PlanTree) × IsTreeOver (full_set (suc n)) rest × IsWith (suc n) rest tree
 without_last n tree is_tree =
-    let rest : Without (full_set (suc (suc n))) (suc n) tree =
-    without (full_set (suc (suc n))) (suc n) tree (omega (arith, pow_pos (suc (suc n)))) (bit_at_ones (suc (suc n)) (suc n) (omega arith)) (omega (arith, twice (suc n), twice n, pow_pos n)) is_tree in
-    let others : 2 ^ suc (suc n) - 1 - 2 ^ suc n ≡ 2 ^ suc n - 1 = omega (arith, twice (suc n)) in
+    let rest : TreeWithoutLast (full_set (suc (suc n))) (suc n) tree =
+    remove_last (full_set (suc (suc n))) (suc n) tree (omega (arith, pow_pos (suc (suc n)))) (bit_at_ones (suc (suc n)) (suc n) (omega arith)) (omega (arith, power_of_next (suc n), power_of_next n, pow_pos n)) is_tree in
+    let others : 2 ^ suc (suc n) - 1 - 2 ^ suc n ≡ 2 ^ suc n - 1 = omega (arith, power_of_next (suc n)) in
     (rest.rest, subst (λ (k : ℕ). IsTreeOver k rest.rest) others rest.is_tree, rest.is_with)
 
 pub at_tree : (n : ℕ) (test : PlanTree → Bool) (tree : PlanTree) → 0 < n → each_tree n test ≡ true → IsTreeOver (full_set n) tree → test tree ≡ true

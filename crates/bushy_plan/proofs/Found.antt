@@ -4,14 +4,14 @@ use Rattle.std.proofs.lemmas.List.{append-nil, append_assoc, length-append}
 use Rattle.std.proofs.lemmas.Nat.{pow_pos}
 use Rattle.std.proofs.lemmas.Bool.{cases_lt}
 use Rattle.limits.specs.Profile.{greatest_entries}
-use Rattle.entry_sets.proofs.Bits.{twice}
-use Rattle.tree_plans.specs.declared.bushy.Join.{Join}
+use Rattle.entry_sets.proofs.Bits.{power_of_next}
+use Rattle.plans.specs.declared.bushy.Join.{Join}
 use Rattle.bushy_plan.specs.declared.weight.Weighing.{Weighing}
 use Rattle.bushy_plan.specs.declared.weight.Weighing.TheVariants as weight
 use Rattle.bushy_plan.specs.BestTree.{AreOfBest, IsTreeBefore, IsBest, IsLeastCost, full_set, cost, inner_greatest, inner_sum, total}
 use Rattle.bushy_plan.specs.PlanTrees.{IsFirstEntry, IsSplit, IsTreeOver, PlanTree, leaf, node, leaf_set, inner_count, joins_from, root_number}
 use Rattle.bushy_plan.specs.Splits.{IsWithoutFirst, IsFirstLightest, IsLeastWeight, AppendsFirstLightest, HasLeastWeights, weight_of}
-use Rattle.bushy_plan.proofs.Costs.{cost_inside, greatest_at_most_cost, sum_small, total_inside, weighs_greatest, weighs_most, weighs_sum}
+use Rattle.bushy_plan.proofs.Costs.{cost_inside, greatest_at_most_cost, sum_at_most, total_inside, weighs_greatest, weighs_most, weighs_sum}
 use Rattle.bushy_plan.proofs.Lightest.{right_in_table}
 use Rattle.bushy_plan.proofs.Numbering.{count_of_all, length-joins_from}
 use Rattle.bushy_plan.proofs.ReadingOff.{first_of_one, node_over}
@@ -67,9 +67,9 @@ pub room_behind : (w : Weighing) (bounds : List ℕ) (next set right_set : ℕ) 
 room_behind w bounds next set right_set old middle left_root left split room tree is_tree =
     omega (arith, count_after w bounds next (set - right_set) old middle left_root left, room_right set right_set (length old) left.tree left.is_first.is_tree split room tree is_tree)
 
-pub few_numbers : (w : Weighing) (bounds : List ℕ) (next set right_set : ℕ) (old middle all : List Join) (left_root right_root : ℕ) → AppendsFirstLightest w bounds next (set - right_set) old middle left_root
+pub numbers_below_limit : (w : Weighing) (bounds : List ℕ) (next set right_set : ℕ) (old middle all : List Join) (left_root right_root : ℕ) → AppendsFirstLightest w bounds next (set - right_set) old middle left_root
     → AppendsFirstLightest w bounds next right_set middle all right_root → IsSplit set (set - right_set) right_set → ((tree : PlanTree) → IsTreeOver set tree → length old + inner_count tree < greatest_entries) → length all < greatest_entries
-few_numbers w bounds next set right_set old middle all left_root right_root left right split room =
+numbers_below_limit w bounds next set right_set old middle all left_root right_root left right split room =
     omega (
       arith,
       count_after w bounds next right_set middle all right_root right,
@@ -92,7 +92,7 @@ read_leaf w bounds next set first old is_first all_but_first b none =
 
 pub some_of_all : (n : ℕ) → 0 < n → 0 < full_set n
 some_of_all zero some = absurd (omega arith)
-some_of_all (suc n) some = omega (arith, twice n, pow_pos n)
+some_of_all (suc n) some = omega (arith, power_of_next n, pow_pos n)
 
 pub least_cost_from : (bounds table : List ℕ) (n least : ℕ) → 1 < n → length bounds ≡ 2 ^ n → HasLeastWeights weight.Greatest bounds table (length bounds)
     → least ≡ get_or table (length bounds - 1) 0 → IsLeastCost bounds n least
@@ -110,23 +110,23 @@ least_cost_from bounds table n least more size is_table is =
 
 -- weights saturate at 2^128 - 1, and a sum of bounds that are at most 2^59 is far below it
 weighs_small : (bounds : List ℕ) (n least : ℕ) (tree : PlanTree) → n ≤ greatest_entries → least ≤ 2 ^ 59 → IsTreeOver (full_set n) tree → inner_greatest bounds tree ≤ least
-    → (weight_of (weight.SumOfBoundsUpTo least) bounds tree ≡ inner_sum bounds tree) × (inner_sum bounds tree < 2 ^ 63)
+    → (weight_of (weight.SumIfBoundsAtMost least) bounds tree ≡ inner_sum bounds tree) × (inner_sum bounds tree < 2 ^ 63)
 weighs_small bounds n least tree few small is_tree low =
-    let sum_is_small : inner_sum bounds tree < 2 ^ 63 = omega (arith, sum_small bounds tree (omega arith), count_of_all n tree is_tree) in
+    let sum_is_small : inner_sum bounds tree < 2 ^ 63 = omega (arith, sum_at_most bounds tree (omega arith), count_of_all n tree is_tree) in
     (omega (arith, weighs_sum least bounds tree low, sum_is_small), sum_is_small)
 
 found_is_light : (bounds : List ℕ) (n least : ℕ) → n ≤ greatest_entries → least ≤ 2 ^ 59 → (found : IsLeastCost bounds n least)
-    → (weight_of (weight.SumOfBoundsUpTo least) bounds found.tree ≡ inner_sum bounds found.tree) × (inner_sum bounds found.tree < 2 ^ 63)
+    → (weight_of (weight.SumIfBoundsAtMost least) bounds found.tree ≡ inner_sum bounds found.tree) × (inner_sum bounds found.tree < 2 ^ 63)
 found_is_light bounds n least few small found =
     weighs_small bounds n least found.tree few small found.is_tree (omega (arith, greatest_at_most_cost bounds found.tree, found.costs))
 
 pub sum_is_light : (bounds table : List ℕ) (n least : ℕ) → 0 < n → n ≤ greatest_entries → least ≤ 2 ^ 59 → IsLeastCost bounds n least → length bounds ≡ 2 ^ n
-    → HasLeastWeights (weight.SumOfBoundsUpTo least) bounds table (length bounds) → get_or table (length bounds - 1) 0 < 2 ^ 128 - 1
+    → HasLeastWeights (weight.SumIfBoundsAtMost least) bounds table (length bounds) → get_or table (length bounds - 1) 0 < 2 ^ 128 - 1
 sum_is_light bounds table n least some few small found size is_table =
     let last : length bounds - 1 ≡ full_set n = omega arith in
-    let weighs : (weight_of (weight.SumOfBoundsUpTo least) bounds found.tree ≡ inner_sum bounds found.tree) × (inner_sum bounds found.tree < 2 ^ 63) =
+    let weighs : (weight_of (weight.SumIfBoundsAtMost least) bounds found.tree ≡ inner_sum bounds found.tree) × (inner_sum bounds found.tree < 2 ^ 63) =
     found_is_light bounds n least few small found in
-    let lightest : IsLeastWeight (weight.SumOfBoundsUpTo least) bounds (length bounds - 1) (get_or table (length bounds - 1) 0) =
+    let lightest : IsLeastWeight (weight.SumIfBoundsAtMost least) bounds (length bounds - 1) (get_or table (length bounds - 1) 0) =
     is_table (length bounds - 1) (omega (arith, last, some_of_all n some)) (omega (arith, pow_pos n)) in
     omega (arith, lightest.none_lighter found.tree (subst (λ (k : ℕ). IsTreeOver k found.tree) (sym last) found.is_tree), weighs.0, weighs.1)
 
@@ -151,12 +151,12 @@ best_if_one_entry bounds tree is_tree = record {
     not_before (node left right) over before = absurd (no_split_of_one 0 (leaf_set left) (leaf_set right) over.0)
 
 best_if_more_entries : (bounds : List ℕ) (n least : ℕ) (tree : PlanTree) → 1 < n → n ≤ greatest_entries → least ≤ 2 ^ 59 → IsLeastCost bounds n least
-    → IsFirstLightest (weight.SumOfBoundsUpTo least) bounds (full_set n) tree → IsBest bounds n tree × (cost bounds tree ≡ least)
+    → IsFirstLightest (weight.SumIfBoundsAtMost least) bounds (full_set n) tree → IsBest bounds n tree × (cost bounds tree ≡ least)
 best_if_more_entries bounds n least tree more few small found first = (best, costs)
   where
     within : inner_greatest bounds tree ≤ least
     within = elim (cases_lt least (inner_greatest bounds tree)) [
-      | inl above ↦ (let weighs : (weight_of (weight.SumOfBoundsUpTo least) bounds found.tree ≡ inner_sum bounds found.tree) × (inner_sum bounds found.tree < 2 ^ 63) =
+      | inl above ↦ (let weighs : (weight_of (weight.SumIfBoundsAtMost least) bounds found.tree ≡ inner_sum bounds found.tree) × (inner_sum bounds found.tree < 2 ^ 63) =
           found_is_light bounds n least few small found in
           absurd (omega (arith, first.none_lighter found.tree found.is_tree, weighs.0, weighs.1, weighs_most least bounds tree above)))
       | inr below ↦ below
@@ -165,10 +165,10 @@ best_if_more_entries bounds n least tree more few small found first = (best, cos
     costs : cost bounds tree ≡ least
     costs = omega (arith, cost_inside bounds n tree more first.is_tree, within, found.none_cheaper tree first.is_tree)
 
-    own : weight_of (weight.SumOfBoundsUpTo least) bounds tree ≡ total bounds tree
+    own : weight_of (weight.SumIfBoundsAtMost least) bounds tree ≡ total bounds tree
     own = omega (arith, (weighs_small bounds n least tree few small first.is_tree within).0, total_inside bounds n tree more first.is_tree)
 
-    theirs : (other : PlanTree) → IsTreeOver (full_set n) other → cost bounds other ≡ cost bounds tree → weight_of (weight.SumOfBoundsUpTo least) bounds other ≡ total bounds other
+    theirs : (other : PlanTree) → IsTreeOver (full_set n) other → cost bounds other ≡ cost bounds tree → weight_of (weight.SumIfBoundsAtMost least) bounds other ≡ total bounds other
     theirs other is_tree same =
         omega (arith, (weighs_small bounds n least other few small is_tree (omega (arith, costs, same, cost_inside bounds n other more is_tree))).0, total_inside bounds n other more is_tree)
 
@@ -181,7 +181,7 @@ best_if_more_entries bounds n least tree more few small found first = (best, cos
     }
 
 best_of_first : (bounds : List ℕ) (n least : ℕ) (tree : PlanTree) → 0 < n → n ≤ greatest_entries → least ≤ 2 ^ 59 → IsLeastCost bounds n least
-    → IsFirstLightest (weight.SumOfBoundsUpTo least) bounds (full_set n) tree → IsBest bounds n tree × (cost bounds tree ≡ least)
+    → IsFirstLightest (weight.SumIfBoundsAtMost least) bounds (full_set n) tree → IsBest bounds n tree × (cost bounds tree ≡ least)
 best_of_first bounds zero least tree some few small found first = absurd (omega arith)
 best_of_first bounds (suc zero) least tree some few small found first =
     let best : IsBest bounds 1 tree = best_if_one_entry bounds tree first.is_tree in
@@ -189,11 +189,11 @@ best_of_first bounds (suc zero) least tree some few small found first =
 best_of_first bounds (suc (suc n)) least tree some few small found first = best_if_more_entries bounds (suc (suc n)) least tree (omega arith) few small found first
 
 pub joins_of_best : (bounds : List ℕ) (n least root : ℕ) (joins : List Join) → 0 < n → n ≤ greatest_entries → least ≤ 2 ^ 59 → IsLeastCost bounds n least → length bounds ≡ 2 ^ n
-    → AppendsFirstLightest (weight.SumOfBoundsUpTo least) bounds n (length bounds - 1) [] joins root → AreOfBest bounds n least joins
+    → AppendsFirstLightest (weight.SumIfBoundsAtMost least) bounds n (length bounds - 1) [] joins root → AreOfBest bounds n least joins
 joins_of_best bounds n least root joins some few small found size read =
     let last : length bounds - 1 ≡ full_set n = omega arith in
     let best : IsBest bounds n read.tree × (cost bounds read.tree ≡ least) =
-    best_of_first bounds n least read.tree some few small found (subst (λ k. IsFirstLightest (weight.SumOfBoundsUpTo least) bounds k read.tree) last read.is_first) in
+    best_of_first bounds n least read.tree some few small found (subst (λ k. IsFirstLightest (weight.SumIfBoundsAtMost least) bounds k read.tree) last read.is_first) in
     let none_before : n + 0 ≡ n = omega arith in
     record {
       tree = read.tree;

@@ -54,14 +54,14 @@ split_with_first set left right a b apart some_left some_right first_a first_b h
 
 -- a tree with one more entry joined to it. `grown` has its sides swapped where needed, so that the set's first entry is on the left. Swapping sides
 -- doesn't change the bounds
-record Grown (bounds : List ℕ) (set : ℕ) (tree : PlanTree) : Type 0 where
+record TreeWithEntry (bounds : List ℕ) (set : ℕ) (tree : PlanTree) : Type 0 where
   grown : PlanTree
   is_tree : IsTreeOver set grown
   greatest_of : inner_greatest bounds grown ≡ max (get_or bounds set 0) (inner_greatest bounds tree)
   cost_of : cost bounds grown ≡ inner_greatest bounds grown
 
-grow : (bounds : List ℕ) (placed x : ℕ) (tree : PlanTree) → IsTreeOver placed tree → bit_at placed x ≡ 0 → Grown bounds (placed + 2 ^ x) tree
-grow bounds placed x tree is_tree out = elim (cases_order first.0 x) [
+tree_with_entry : (bounds : List ℕ) (placed x : ℕ) (tree : PlanTree) → IsTreeOver placed tree → bit_at placed x ≡ 0 → TreeWithEntry bounds (placed + 2 ^ x) tree
+tree_with_entry bounds placed x tree is_tree out = elim (cases_order first.0 x) [
   | inl same ↦ absurd (omega (arith, first.1.is_in, ap (bit_at placed) same, out))
   | inr apart ↦ elim apart [
     | inl below ↦ record {
@@ -104,27 +104,27 @@ grow bounds placed x tree is_tree out = elim (cases_order first.0 x) [
     turned : 2 ^ x + leaf_set tree ≡ placed + 2 ^ x
     turned = omega (arith, set_is)
 
-record Cheap (bounds : List ℕ) (set most : ℕ) : Type 0 where
+record TreeWithinCost (bounds : List ℕ) (set most : ℕ) : Type 0 where
   tree : PlanTree
   is_tree : IsTreeOver set tree
-  cheap : cost bounds tree ≤ most
+  within_cost : cost bounds tree ≤ most
 
-along : (bounds : List ℕ) (all placed left most : ℕ) (entries : List ℕ) (tree : PlanTree) → IsTreeOver placed tree → cost bounds tree ≤ most → inner_greatest bounds tree ≤ most
-    → placed + left ≡ all → ((entry : ℕ) → bit_at placed entry + bit_at left entry ≤ 1) → IsWay left entries → greatest (levels_after bounds placed entries) ≤ most → Cheap bounds all most
-along bounds all placed left most [] tree is_tree cheap low whole apart way levels = record {
+tree_along_way : (bounds : List ℕ) (all placed left most : ℕ) (entries : List ℕ) (tree : PlanTree) → IsTreeOver placed tree → cost bounds tree ≤ most → inner_greatest bounds tree ≤ most
+    → placed + left ≡ all → ((entry : ℕ) → bit_at placed entry + bit_at left entry ≤ 1) → IsWay left entries → greatest (levels_after bounds placed entries) ≤ most → TreeWithinCost bounds all most
+tree_along_way bounds all placed left most [] tree is_tree within_cost low whole apart way levels = record {
   tree = tree;
   is_tree = subst (λ (k : ℕ). IsTreeOver k tree) (omega (arith, whole, way)) is_tree;
-  cheap = cheap;
+  within_cost = within_cost;
 }
-along bounds all placed left most (x ∷ entries) tree is_tree cheap low whole apart way levels =
-    along bounds all (placed + 2 ^ x) (left - 2 ^ x) most entries more.grown more.is_tree (omega (arith, more.cost_of, more.greatest_of)) (omega (arith, more.greatest_of))
+tree_along_way bounds all placed left most (x ∷ entries) tree is_tree within_cost low whole apart way levels =
+    tree_along_way bounds all (placed + 2 ^ x) (left - 2 ^ x) most entries more.grown more.is_tree (omega (arith, more.cost_of, more.greatest_of)) (omega (arith, more.greatest_of))
     (omega (arith, whole, power_within x left way.0)) still_apart way.1 (omega arith)
   where
     out : bit_at placed x ≡ 0
     out = omega (arith, apart x, way.0)
 
-    more : Grown bounds (placed + 2 ^ x) tree
-    more = grow bounds placed x tree is_tree out
+    more : TreeWithEntry bounds (placed + 2 ^ x) tree
+    more = tree_with_entry bounds placed x tree is_tree out
 
     still_apart : (entry : ℕ) → bit_at (placed + 2 ^ x) entry + bit_at (left - 2 ^ x) entry ≤ 1
     still_apart entry = elim (cases_eq entry x) [
@@ -132,10 +132,10 @@ along bounds all placed left most (x ∷ entries) tree is_tree cheap low whole a
       | inr other ↦ omega (arith, bit_with placed x entry out, bit_at-pow_other x entry other, bit_without_other x left entry way.0 other, apart entry)
     ]
 
-of_way : (bounds : List ℕ) (all most : ℕ) (order : List ℕ) → 0 < all → IsWay all order → greatest (levels_after bounds 0 order) ≤ most → Cheap bounds all most
-of_way bounds all most [] some way levels = absurd (omega arith)
-of_way bounds all most (x ∷ entries) some way levels =
-    along bounds all (2 ^ x) (all - 2 ^ x) most entries (leaf x) refl (omega (arith, ap (λ k. get_or bounds k 0) none)) (omega arith) (omega (arith, power_within x all way.0)) apart way.1 (omega (arith, ap (λ k. greatest (levels_after bounds k entries)) none))
+tree_of_way : (bounds : List ℕ) (all most : ℕ) (order : List ℕ) → 0 < all → IsWay all order → greatest (levels_after bounds 0 order) ≤ most → TreeWithinCost bounds all most
+tree_of_way bounds all most [] some way levels = absurd (omega arith)
+tree_of_way bounds all most (x ∷ entries) some way levels =
+    tree_along_way bounds all (2 ^ x) (all - 2 ^ x) most entries (leaf x) refl (omega (arith, ap (λ k. get_or bounds k 0) none)) (omega arith) (omega (arith, power_within x all way.0)) apart way.1 (omega (arith, ap (λ k. greatest (levels_after bounds k entries)) none))
   where
     none : 0 + 2 ^ x ≡ 2 ^ x
     none = omega arith
@@ -149,6 +149,6 @@ of_way bounds all most (x ∷ entries) some way levels =
 pub no_dearer : (bounds : List ℕ) (n least : ℕ) → 0 < full_set n → ((other : PlanTree) → IsTreeOver (full_set n) other → least ≤ cost bounds other)
     → (order : List ℕ) → IsOrder n order → least ≤ left_deep_cost bounds order
 no_dearer bounds n least some none_cheaper order is_order =
-    let cheap : Cheap bounds (full_set n) (left_deep_cost bounds order) =
-    of_way bounds (full_set n) (left_deep_cost bounds order) order some (way_from_order n order is_order) (omega (arith, cost_is bounds order)) in
-    omega (arith, none_cheaper cheap.tree cheap.is_tree, cheap.cheap)
+    let within_cost : TreeWithinCost bounds (full_set n) (left_deep_cost bounds order) =
+    tree_of_way bounds (full_set n) (left_deep_cost bounds order) order some (way_from_order n order is_order) (omega (arith, cost_is bounds order)) in
+    omega (arith, none_cheaper within_cost.tree within_cost.is_tree, within_cost.within_cost)

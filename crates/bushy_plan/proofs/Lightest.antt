@@ -6,37 +6,37 @@ use Rattle.bushy_plan.specs.declared.weight.Weighing.{Weighing}
 use Rattle.bushy_plan.specs.declared.weight.Weighing.TheVariants as weight
 use Rattle.bushy_plan.specs.PlanTrees.{IsFirstEntry, IsSplit, IsTreeOver, PlanTree, leaf, node, leaf_set}
 use Rattle.bushy_plan.specs.Splits.{IsLeastWeight, HasLeastWeights, combined, weight_of, weight_through}
-use Rattle.bushy_plan.proofs.Parts.{IsPart, itself, common_part, none_between, part_le}
+use Rattle.bushy_plan.proofs.Parts.{IsPart, is_part_of_itself, common_part, none_between, part_le}
 use Rattle.bushy_plan.proofs.Splitting.{no_leaf, only_leaf, part_of_split, some_entries, split_of_part, split_right_le, tree_set}
 
-pub combined-within : (most bound left right : ℕ) → bound ≤ most → combined (weight.SumOfBoundsUpTo most) bound left right ≡ min (bound + left + right) (2 ^ 128 - 1)
+pub combined-within : (most bound left right : ℕ) → bound ≤ most → combined (weight.SumIfBoundsAtMost most) bound left right ≡ min (bound + left + right) (2 ^ 128 - 1)
 combined-within most bound left right h = rw (le-leb bound most h) refl
 
-pub combined-beyond : (most bound left right : ℕ) → most < bound → combined (weight.SumOfBoundsUpTo most) bound left right ≡ 2 ^ 128 - 1
+pub combined-beyond : (most bound left right : ℕ) → most < bound → combined (weight.SumIfBoundsAtMost most) bound left right ≡ 2 ^ 128 - 1
 combined-beyond most bound left right h = rw (lt-leb bound most h) refl
 
 pub combined-mono : (w : Weighing) (bound a b c d : ℕ) → a ≤ c → b ≤ d → combined w bound a b ≤ combined w bound c d
 combined-mono weight.Greatest bound a b c d h k = omega arith
-combined-mono (weight.SumOfBoundsUpTo most) bound a b c d h k = elim (cases_lt most bound) [
+combined-mono (weight.SumIfBoundsAtMost most) bound a b c d h k = elim (cases_lt most bound) [
   | inl beyond ↦ omega (arith, combined-beyond most bound a b beyond, combined-beyond most bound c d beyond)
   | inr within ↦ omega (arith, combined-within most bound a b within, combined-within most bound c d within)
 ]
 
--- the right sets above `right` were tried. `least` is the least weight of a tree with one of them, or 2^128 - 1 if no right set was tried
-pub record Tried (w : Weighing) (bounds table : List ℕ) (set all_but_first right least : ℕ) : Type 0 where
+-- the right sets above `right` were tried. `least` is the least weight of a tree with one of these right sets, or 2^128 - 1 if none was tried
+pub record LeastOfTried (w : Weighing) (bounds table : List ℕ) (set all_but_first right least : ℕ) : Type 0 where
   pub is_part : IsPart right all_but_first
   pub above : (other : ℕ) → IsPart other all_but_first → right < other → (least ≤ weight_through w bounds table set other) × (weight_through w bounds table set other < 2 ^ 128)
   pub found : (least ≡ 2 ^ 128 - 1) ⊎ ((other : ℕ) × IsPart other all_but_first × (0 < other) × (weight_through w bounds table set other ≡ least))
 
-pub tried_none : (w : Weighing) (bounds table : List ℕ) (set all_but_first : ℕ) → Tried w bounds table set all_but_first all_but_first (2 ^ 128 - 1)
+pub tried_none : (w : Weighing) (bounds table : List ℕ) (set all_but_first : ℕ) → LeastOfTried w bounds table set all_but_first all_but_first (2 ^ 128 - 1)
 tried_none w bounds table set all_but_first = record {
-  is_part = itself all_but_first;
+  is_part = is_part_of_itself all_but_first;
   above = λ other is_other h. absurd (omega (arith, part_le other all_but_first is_other));
   found = inl refl;
 }
 
-pub tried_more : (w : Weighing) (bounds table : List ℕ) (set all_but_first right least through : ℕ) → Tried w bounds table set all_but_first right least → 0 < right
-    → through ≡ weight_through w bounds table set right → through < 2 ^ 128 → Tried w bounds table set all_but_first (bit_and (right - 1) all_but_first) (min least through)
+pub tried_more : (w : Weighing) (bounds table : List ℕ) (set all_but_first right least through : ℕ) → LeastOfTried w bounds table set all_but_first right least → 0 < right
+    → through ≡ weight_through w bounds table set right → through < 2 ^ 128 → LeastOfTried w bounds table set all_but_first (bit_and (right - 1) all_but_first) (min least through)
 tried_more w bounds table set all_but_first right least through tried some is fits = record {
   is_part = common_part (right - 1) all_but_first;
   above = λ other is_other h. elim (cases_order other right) [
@@ -64,13 +64,13 @@ least_of_one w bounds set first is_first none = record {
 }
 
 -- a tree over `set` that has this right set and the weight in the array
-pub record Through (w : Weighing) (bounds table : List ℕ) (set right : ℕ) : Type 0 where
+pub record TreeWithRightSet (w : Weighing) (bounds table : List ℕ) (set right : ℕ) : Type 0 where
   pub tree : PlanTree
   pub is_tree : IsTreeOver set tree
   pub weighs : weight_of w bounds tree ≡ weight_through w bounds table set right
 
 pub tree_through : (w : Weighing) (bounds table : List ℕ) (set right : ℕ) → IsSplit set (set - right) right
-    → IsLeastWeight w bounds (set - right) (get_or table (set - right) 0) → IsLeastWeight w bounds right (get_or table right 0) → Through w bounds table set right
+    → IsLeastWeight w bounds (set - right) (get_or table (set - right) 0) → IsLeastWeight w bounds right (get_or table right 0) → TreeWithRightSet w bounds table set right
 tree_through w bounds table set right split left_side right_side =
     let left_set : leaf_set left_side.tree ≡ set - right = tree_set (set - right) left_side.tree left_side.is_tree in
     let right_set : leaf_set right_side.tree ≡ right = tree_set right right_side.tree right_side.is_tree in
@@ -114,11 +114,11 @@ right_in_table w bounds table set end right h is_table split =
     is_table right split.some_right (omega (arith, split.some_left, split.some_right))
 
 pub least_of_tried : (w : Weighing) (bounds table : List ℕ) (set first least : ℕ) → IsFirstEntry set first → 0 < set - 2 ^ first → HasLeastWeights w bounds table set
-    → Tried w bounds table set (set - 2 ^ first) 0 least → IsLeastWeight w bounds set least
+    → LeastOfTried w bounds table set (set - 2 ^ first) 0 least → IsLeastWeight w bounds set least
 least_of_tried w bounds table set first least is_first more is_table tried = elim tried.found [
   | inl heaviest ↦ (let its : (least ≤ weight_through w bounds table set (set - 2 ^ first)) × (weight_through w bounds table set (set - 2 ^ first) < 2 ^ 128) =
-      tried.above (set - 2 ^ first) (itself (set - 2 ^ first)) more in
-      made (set - 2 ^ first) (itself (set - 2 ^ first)) more (omega (arith, its.0, its.1, heaviest)))
+      tried.above (set - 2 ^ first) (is_part_of_itself (set - 2 ^ first)) more in
+      made (set - 2 ^ first) (is_part_of_itself (set - 2 ^ first)) more (omega (arith, its.0, its.1, heaviest)))
   | inr one ↦ made one.0 one.1 one.2 one.3
 ]
   where
@@ -134,7 +134,7 @@ least_of_tried w bounds table set first least is_first more is_table tried = eli
     made : (right : ℕ) → IsPart right (set - 2 ^ first) → 0 < right → weight_through w bounds table set right ≡ least → IsLeastWeight w bounds set least
     made right is_part some is =
         let split : IsSplit set (set - right) right = split_of_part set first right is_first is_part some in
-        let through : Through w bounds table set right =
+        let through : TreeWithRightSet w bounds table set right =
         tree_through w bounds table set right split (left_in_table w bounds table set set right (omega arith) is_table split) (right_in_table w bounds table set set right (omega arith) is_table split) in
         record {
           tree = through.tree;

@@ -11,8 +11,8 @@ use Rattle.std.proofs.lemmas.Nat.{pow_pos}
 use Rattle.std.proofs.lemmas.Nat.Bits.{bit_at-pow_same, bit_at-pow_other, bit_at_ones, bit_at_ones_above}
 use Rattle.entry_sets.proofs.Bits.{entry_below}
 use Rattle.order_search.proofs.Bits.{size_below, size-none, size-whole, size-without}
-use Rattle.tree_plans.specs.TreePlans.{HaveHigherNumbers, joined_nodes}
-use Rattle.tree_plans.specs.declared.bushy.Join.{Join}
+use Rattle.plans.specs.TreePlans.{HaveHigherNumbers, joined_nodes}
+use Rattle.plans.specs.declared.bushy.Join.{Join}
 use Rattle.bushy_plan.specs.BestTree.{full_set, inner_greatest}
 use Rattle.bushy_plan.specs.PlanTrees.{IsSplit, IsTreeOver, PlanTree, leaf, node, leaf_set, inner_count, joins_from, root_number}
 use Rattle.bushy_plan.proofs.Splitting.{split_sum}
@@ -61,9 +61,9 @@ count_of_all n tree is_tree = inner_count_by_size n (full_set n) tree (omega (ar
 
 -- ---- each join has a higher number than the two nodes that it joins
 
-all_but_first-append : (own next : ℕ) (xs ys : List Join) → HaveHigherNumbers own xs → own + length xs ≡ next → HaveHigherNumbers next ys → HaveHigherNumbers own (xs ++ ys)
-all_but_first-append own next [] ys p is q = let same : next ≡ own = omega arith in subst (λ (k : ℕ). HaveHigherNumbers k ys) same q
-all_but_first-append own next (x ∷ xs) ys p is q = (p.0, p.1, all_but_first-append (own + 1) next xs ys p.2 (omega arith) q)
+higher_numbers-append : (own next : ℕ) (xs ys : List Join) → HaveHigherNumbers own xs → own + length xs ≡ next → HaveHigherNumbers next ys → HaveHigherNumbers own (xs ++ ys)
+higher_numbers-append own next [] ys p is q = let same : next ≡ own = omega arith in subst (λ (k : ℕ). HaveHigherNumbers k ys) same q
+higher_numbers-append own next (x ∷ xs) ys p is q = (p.0, p.1, higher_numbers-append (own + 1) next xs ys p.2 (omega arith) q)
 
 root_below : (n set next : ℕ) (tree : PlanTree) → set < 2 ^ n → n ≤ next → IsTreeOver set tree → root_number next tree < next + inner_count tree
 root_below n set next (leaf entry) fits h is_tree =
@@ -78,8 +78,8 @@ have_higher_numbers bounds n set next (node left right) fits h is_tree =
     let left_root : root_number next left < next + inner_count left = root_below n (leaf_set left) next left (omega arith) h is_tree.1 in
     let right_root : root_number (next + inner_count left) right < next + inner_count left + inner_count right =
     root_below n (leaf_set right) (next + inner_count left) right (omega arith) (omega arith) is_tree.2 in
-    all_but_first-append next (next + inner_count left + inner_count right) (joins_from bounds next left ++ joins_from bounds (next + inner_count left) right) _
-    (all_but_first-append next (next + inner_count left) (joins_from bounds next left) (joins_from bounds (next + inner_count left) right)
+    higher_numbers-append next (next + inner_count left + inner_count right) (joins_from bounds next left ++ joins_from bounds (next + inner_count left) right) _
+    (higher_numbers-append next (next + inner_count left) (joins_from bounds next left) (joins_from bounds (next + inner_count left) right)
     (have_higher_numbers bounds n (leaf_set left) next left (omega arith) h is_tree.1)
     (omega (arith, length-joins_from bounds next left))
     (have_higher_numbers bounds n (leaf_set right) (next + inner_count left) right (omega arith) (omega arith) is_tree.2))
@@ -91,41 +91,41 @@ have_higher_numbers bounds n set next (node left right) fits h is_tree =
     ))
     (omega arith, right_root, tt)
 
--- ---- each node but the root is named exactly once
+-- ---- each node except the root is joined exactly once
 
 abbrev occurrences : ℕ → List ℕ → ℕ
 occurrences k xs = count_by (λ other. eqb other k) xs
 
 -- 1 if the numbers are equal, otherwise 0
-abbrev if_equal : ℕ → ℕ → ℕ
-if_equal a b = cond (eqb a b) 1 0
+abbrev one_if_equal : ℕ → ℕ → ℕ
+one_if_equal a b = cond (eqb a b) 1 0
 
 -- 1 if first <= k < first + count, otherwise 0
-abbrev inside : ℕ → ℕ → ℕ → ℕ
-inside first count k = cond (leb first k) (cond (ltb k (first + count)) 1 0) 0
+abbrev one_if_inside : ℕ → ℕ → ℕ → ℕ
+one_if_inside first count k = cond (leb first k) (cond (ltb k (first + count)) 1 0) 0
 
-one_same : (a b : ℕ) → a ≡ b → if_equal a b ≡ 1
-one_same a b same = grind (arith, nat_tests)
+one_if_same : (a b : ℕ) → a ≡ b → one_if_equal a b ≡ 1
+one_if_same a b same = grind (arith, nat_tests)
 
-one_other : (a b : ℕ) → (a ≡ b → ⊥) → if_equal a b ≡ 0
+one_other : (a b : ℕ) → (a ≡ b → ⊥) → one_if_equal a b ≡ 0
 one_other a b apart = grind (arith, nat_tests)
 
-inside_below : (first count k : ℕ) → k < first → inside first count k ≡ 0
+inside_below : (first count k : ℕ) → k < first → one_if_inside first count k ≡ 0
 inside_below first count k h = grind (arith, nat_tests)
 
-inside_yes : (first count k : ℕ) → first ≤ k → k < first + count → inside first count k ≡ 1
+inside_yes : (first count k : ℕ) → first ≤ k → k < first + count → one_if_inside first count k ≡ 1
 inside_yes first count k h g = grind (arith, nat_tests)
 
-inside_above : (first count k : ℕ) → first + count ≤ k → inside first count k ≡ 0
+inside_above : (first count k : ℕ) → first + count ≤ k → one_if_inside first count k ≡ 0
 inside_above first count k h = grind (arith, nat_tests)
 
-inside_parts : (first a b k : ℕ) → inside first a k + inside (first + a) b k + if_equal (first + a + b) k ≡ inside first (a + b + 1) k
+inside_parts : (first a b k : ℕ) → one_if_inside first a k + one_if_inside (first + a) b k + one_if_equal (first + a + b) k ≡ one_if_inside first (a + b + 1) k
 inside_parts first a b k = elim (cases_lt k first) [
   | inl below ↦ omega (arith, inside_below first a k below, inside_below (first + a) b k (omega arith), one_other (first + a + b) k (λ same. absurd (omega arith)), inside_below first (a + b + 1) k below)
   | inr from ↦ elim (cases_lt k (first + a)) [
     | inl in_a ↦ omega (arith, inside_yes first a k from in_a, inside_below (first + a) b k in_a, one_other (first + a + b) k (λ same. absurd (omega arith)), inside_yes first (a + b + 1) k from (omega arith))
     | inr past_a ↦ elim (cases_order k (first + a + b)) [
-      | inl last ↦ omega (arith, inside_above first a k past_a, inside_above (first + a) b k (omega arith), one_same (first + a + b) k (sym last), inside_yes first (a + b + 1) k from (omega arith))
+      | inl last ↦ omega (arith, inside_above first a k past_a, inside_above (first + a) b k (omega arith), one_if_same (first + a + b) k (sym last), inside_yes first (a + b + 1) k from (omega arith))
       | inr apart ↦ elim apart [
         | inl in_b ↦ omega (arith, inside_above first a k past_a, inside_yes (first + a) b k past_a in_b, one_other (first + a + b) k (λ same. absurd (omega arith)), inside_yes first (a + b + 1) k from (omega arith))
         | inr past ↦ omega (arith, inside_above first a k past_a, inside_above (first + a) b k (omega arith), one_other (first + a + b) k (λ same. absurd (omega arith)), inside_above first (a + b + 1) k (omega arith))
@@ -141,14 +141,14 @@ nodes-append (x ∷ xs) ys = ap (λ (s : List ℕ). x.left ∷ (x.right ∷ s)) 
 occurrences-append : (k : ℕ) (xs ys : List ℕ) → occurrences k (xs ++ ys) ≡ occurrences k xs + occurrences k ys
 occurrences-append k xs ys = sum_by-append (λ (x : ℕ). cond (eqb x k) 1 0) xs ys
 
-occurrences-two : (k a b : ℕ) → occurrences k (a ∷ (b ∷ [])) ≡ if_equal a k + if_equal b k
+occurrences-two : (k a b : ℕ) → occurrences k (a ∷ (b ∷ [])) ≡ one_if_equal a k + one_if_equal b k
 occurrences-two k a b = omega (arith, sum_by-cons (λ (x : ℕ). cond (eqb x k) 1 0) a (b ∷ []), sum_by-cons (λ (x : ℕ). cond (eqb x k) 1 0) b [], none)
   where
     none : occurrences k [] ≡ 0
     none = refl
 
 times_in_node : (bounds : List ℕ) (next k : ℕ) (left right : PlanTree) → occurrences k (joined_nodes (joins_from bounds next (node left right)))
-    ≡ occurrences k (joined_nodes (joins_from bounds next left)) + occurrences k (joined_nodes (joins_from bounds (next + inner_count left) right)) + (if_equal (root_number next left) k + if_equal (root_number (next + inner_count left) right) k)
+    ≡ occurrences k (joined_nodes (joins_from bounds next left)) + occurrences k (joined_nodes (joins_from bounds (next + inner_count left) right)) + (one_if_equal (root_number next left) k + one_if_equal (root_number (next + inner_count left) right) k)
 times_in_node bounds next k left right =
     ap (occurrences k) (nodes-append (joins_from bounds next left ++ joins_from bounds (next + inner_count left) right) _)
     ∙ occurrences-append k (joined_nodes (joins_from bounds next left ++ joins_from bounds (next + inner_count left) right)) (root_number next left ∷ (root_number (next + inner_count left) right ∷ []))
@@ -159,16 +159,16 @@ times_in_node bounds next k left right =
       occurrences-two k (root_number next left) (root_number (next + inner_count left) right),
     )
 
--- the number k is equally often in two lists. The first list has the nodes that joins name, and the root. The second has the leaves and the inner
--- nodes
+-- the number k occurs equally often in two lists. The first list has the nodes that joins name, and the root. The second list has the leaves and the
+-- inner nodes
 named_with_root : (bounds : List ℕ) (set next k : ℕ) (tree : PlanTree) → IsTreeOver set tree
-    → occurrences k (joined_nodes (joins_from bounds next tree)) + if_equal (root_number next tree) k ≡ bit_at set k + inside next (inner_count tree) k
+    → occurrences k (joined_nodes (joins_from bounds next tree)) + one_if_equal (root_number next tree) k ≡ bit_at set k + one_if_inside next (inner_count tree) k
 named_with_root bounds set next k (leaf entry) is_tree = elim (cases_eq k entry) [
-  | inl same ↦ omega (arith, one_same entry k (sym same), bit_at-pow_same entry, ap (bit_at (2 ^ entry)) same, ap (λ s. bit_at s k) is_tree, empty, none)
+  | inl same ↦ omega (arith, one_if_same entry k (sym same), bit_at-pow_same entry, ap (bit_at (2 ^ entry)) same, ap (λ s. bit_at s k) is_tree, empty, none)
   | inr apart ↦ omega (arith, one_other entry k (λ same. apart (sym same)), bit_at-pow_other entry k apart, ap (λ s. bit_at s k) is_tree, empty, none)
 ]
   where
-    empty : inside next 0 k ≡ 0
+    empty : one_if_inside next 0 k ≡ 0
     empty = elim (cases_lt k next) [
       | inl below ↦ inside_below next 0 k below
       | inr from ↦ inside_above next 0 k (omega arith)
@@ -194,9 +194,9 @@ pub named_once : (bounds : List ℕ) (n k : ℕ) (tree : PlanTree) → IsTreeOve
 named_once bounds n k tree is_tree below =
     let count : inner_count tree + 1 ≡ n = count_of_all n tree is_tree in
     let root : root_number n tree ≡ 2 * n - 2 = root_of_all n tree is_tree (omega arith) in
-    let all : occurrences k (joined_nodes (joins_from bounds n tree)) + if_equal (root_number n tree) k ≡ bit_at (full_set n) k + inside n (inner_count tree) k =
+    let all : occurrences k (joined_nodes (joins_from bounds n tree)) + one_if_equal (root_number n tree) k ≡ bit_at (full_set n) k + one_if_inside n (inner_count tree) k =
     named_with_root bounds (full_set n) n k tree is_tree in
-    let other : if_equal (root_number n tree) k ≡ 0 = one_other (root_number n tree) k (λ same. absurd (omega arith)) in
+    let other : one_if_equal (root_number n tree) k ≡ 0 = one_other (root_number n tree) k (λ same. absurd (omega arith)) in
     elim (cases_lt k n) [
       | inl is_leaf ↦ omega (arith, all, other, bit_at_ones n k is_leaf, inside_below n (inner_count tree) k is_leaf)
       | inr is_inner ↦ omega (arith, all, other, bit_at_ones_above n k is_inner, inside_yes n (inner_count tree) k is_inner (omega arith))
@@ -208,10 +208,10 @@ all-append : (P : Join → Type 0) (xs ys : List Join) → AllByRecursion P xs �
 all-append P [] ys p q = q
 all-append P (x ∷ xs) ys p q = (p.0, all-append P xs ys p.1 q)
 
-pub bounds_small : (bounds : List ℕ) (next most : ℕ) (tree : PlanTree) → inner_greatest bounds tree ≤ most → AllByRecursion (λ join. join.bound ≤ most) (joins_from bounds next tree)
-bounds_small bounds next most (leaf entry) low = tt
-bounds_small bounds next most (node left right) low =
+pub bounds_at_most : (bounds : List ℕ) (next most : ℕ) (tree : PlanTree) → inner_greatest bounds tree ≤ most → AllByRecursion (λ join. join.bound ≤ most) (joins_from bounds next tree)
+bounds_at_most bounds next most (leaf entry) low = tt
+bounds_at_most bounds next most (node left right) low =
     all-append (λ (join : Join). join.bound ≤ most) (joins_from bounds next left ++ joins_from bounds (next + inner_count left) right) _
     (all-append (λ (join : Join). join.bound ≤ most) (joins_from bounds next left) (joins_from bounds (next + inner_count left) right)
-    (bounds_small bounds next most left (omega arith)) (bounds_small bounds (next + inner_count left) most right (omega arith)))
+    (bounds_at_most bounds next most left (omega arith)) (bounds_at_most bounds (next + inner_count left) most right (omega arith)))
     (omega arith, tt)

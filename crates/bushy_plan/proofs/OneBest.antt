@@ -10,22 +10,22 @@ use Rattle.bushy_plan.specs.Causes.{IsCause}
 use Rattle.bushy_plan.specs.PlanTrees.{IsSplit, IsTreeOver, PlanTree, leaf, node, leaf_set}
 use Rattle.bushy_plan.proofs.Splitting.{no_split_of_one, same_power, tree_set}
 
-ordered : (set : ℕ) (a b : PlanTree) → IsTreeOver set a → IsTreeOver set b → (a ≡ b) ⊎ (IsTreeBefore a b ⊎ IsTreeBefore b a)
-ordered set (leaf x) (leaf y) p q = inl (ap leaf (same_power x y (sym p ∙ q)))
-ordered set (leaf x) (node l r) p q = absurd (no_split_of_one x (leaf_set l) (leaf_set r) (subst (λ (k : ℕ). IsSplit k (leaf_set l) (leaf_set r)) p q.0))
-ordered set (node l r) (leaf y) p q = absurd (no_split_of_one y (leaf_set l) (leaf_set r) (subst (λ (k : ℕ). IsSplit k (leaf_set l) (leaf_set r)) q p.0))
-ordered set (node l r) (node l' r') p q = elim (cases_order (leaf_set l) (leaf_set l')) [
+trees_are_comparable : (set : ℕ) (a b : PlanTree) → IsTreeOver set a → IsTreeOver set b → (a ≡ b) ⊎ (IsTreeBefore a b ⊎ IsTreeBefore b a)
+trees_are_comparable set (leaf x) (leaf y) p q = inl (ap leaf (same_power x y (sym p ∙ q)))
+trees_are_comparable set (leaf x) (node l r) p q = absurd (no_split_of_one x (leaf_set l) (leaf_set r) (subst (λ (k : ℕ). IsSplit k (leaf_set l) (leaf_set r)) p q.0))
+trees_are_comparable set (node l r) (leaf y) p q = absurd (no_split_of_one y (leaf_set l) (leaf_set r) (subst (λ (k : ℕ). IsSplit k (leaf_set l) (leaf_set r)) q p.0))
+trees_are_comparable set (node l r) (node l' r') p q = elim (cases_order (leaf_set l) (leaf_set l')) [
   | inr apart ↦ elim apart [
     | inl below ↦ inr (inl (inl below))
     | inr above ↦ inr (inr (inl above))
   ]
   | inl same ↦ (let right_same : leaf_set r' ≡ leaf_set r = omega (arith, tree_set set (node l r) p, tree_set set (node l' r') q, same) in
-      elim (ordered (leaf_set l) l l' p.1 (subst (λ (k : ℕ). IsTreeOver k l') (sym same) q.1)) [
+      elim (trees_are_comparable (leaf_set l) l l' p.1 (subst (λ (k : ℕ). IsTreeOver k l') (sym same) q.1)) [
         | inr left_apart ↦ elim left_apart [
           | inl before ↦ inr (inl (inr (same, inl before)))
           | inr all_but_first ↦ inr (inr (inr (sym same, inl all_but_first)))
         ]
-        | inl left_same ↦ elim (ordered (leaf_set r) r r' p.2 (subst (λ (k : ℕ). IsTreeOver k r') right_same q.2)) [
+        | inl left_same ↦ elim (trees_are_comparable (leaf_set r) r r' p.2 (subst (λ (k : ℕ). IsTreeOver k r') right_same q.2)) [
           | inr right_apart ↦ elim right_apart [
             | inl before ↦ inr (inl (inr (same, inr (left_same, before))))
             | inr all_but_first ↦ inr (inr (inr (sym same, inr (sym left_same, all_but_first))))
@@ -39,7 +39,7 @@ pub one_best : (bounds : List ℕ) (n : ℕ) (a b : PlanTree) → IsBest bounds 
 one_best bounds n a b p q =
     let costs : cost bounds b ≡ cost bounds a = omega (arith, p.none_cheaper b q.is_tree, q.none_cheaper a p.is_tree) in
     let totals : total bounds b ≡ total bounds a = omega (arith, p.none_smaller b q.is_tree costs, q.none_smaller a p.is_tree (sym costs)) in
-    elim (ordered (2 ^ n - 1) a b p.is_tree q.is_tree) [
+    elim (trees_are_comparable (2 ^ n - 1) a b p.is_tree q.is_tree) [
       | inl same ↦ same
       | inr apart ↦ elim apart [
         | inl before ↦ absurd (q.none_earlier a p.is_tree (sym costs) (sym totals) before)

@@ -9,8 +9,8 @@ use Rattle.std.proofs.lemmas.Bool.{cases_eq}
 pub record IsPart (part set : ℕ) : Type 0 where
   pub has : (entry : ℕ) → bit_at part entry ≤ bit_at set entry
 
-pub itself : (set : ℕ) → IsPart set set
-itself set = record { has = λ entry. omega arith }
+pub is_part_of_itself : (set : ℕ) → IsPart set set
+is_part_of_itself set = record { has = λ entry. omega arith }
 
 half : (part set : ℕ) → IsPart part set → IsPart (part / 2) (set / 2)
 half part set is_part = record { has = λ entry. omega (arith, is_part.has (suc entry), bit_at-suc part entry, bit_at-suc set entry) }

@@ -6,7 +6,7 @@ use Rattle.std.proofs.lemmas.Bool.{cases_eq, cases_lt, cases_order}
 use Rattle.std.proofs.lemmas.List.{length-append}
 use Rattle.std.proofs.lemmas.Nat.{pow_pos}
 use Rattle.std.proofs.lemmas.Nat.Bits.{bit_at-lt, bit_at-pow_other, bit_at_above}
-use Rattle.entry_sets.proofs.Bits.{twice}
+use Rattle.entry_sets.proofs.Bits.{power_of_next}
 use Rattle.order_search.specs.Orders.{IsNotAfter}
 use Rattle.order_search.proofs.NoWorse.{lexical_total, lexical_transitive}
 use Rattle.bushy_plan.specs.BestTree.{IsTreeBefore, IsBest, full_set, cost, total}
@@ -110,44 +110,44 @@ with_over set last (node left right) tree fits is_tree is_with = elim is_with [
     first : (first : ℕ) × IsFirstEntry set first
     first = tree_first set (node left right) is_tree
 
--- ---- if an order can compare every two trees, some tree is least in it
+-- ---- in a total preorder of trees, some tree is least
 
 record IsTotalPreorder (R : PlanTree → PlanTree → Type 0) : Type 0 where
   either : (a b : PlanTree) → R a b ⊎ R b a
   both : (a b c : PlanTree) → R a b → R b c → R a c
 
-through : (R : PlanTree → PlanTree → Type 0) (f : PlanTree → PlanTree) → IsTotalPreorder R → IsTotalPreorder (λ a b. R (f a) (f b))
-through R f order = record { either = λ a b. order.either (f a) (f b); both = λ a b c. order.both (f a) (f b) (f c) }
+preorder_of_images : (R : PlanTree → PlanTree → Type 0) (f : PlanTree → PlanTree) → IsTotalPreorder R → IsTotalPreorder (λ a b. R (f a) (f b))
+preorder_of_images R f order = record { either = λ a b. order.either (f a) (f b); both = λ a b c. order.both (f a) (f b) (f c) }
 
-itself : (R : PlanTree → PlanTree → Type 0) → IsTotalPreorder R → (a : PlanTree) → R a a
-itself R order a = elim (order.either a a) [
+preorder_is_reflexive : (R : PlanTree → PlanTree → Type 0) → IsTotalPreorder R → (a : PlanTree) → R a a
+preorder_is_reflexive R order a = elim (order.either a a) [
   | inl p ↦ p
   | inr q ↦ q
 ]
 
-record LeastWith (R : PlanTree → PlanTree → Type 0) (last : ℕ) (rest : PlanTree) : Type 0 where
+record LeastJoinedWith (R : PlanTree → PlanTree → Type 0) (last : ℕ) (rest : PlanTree) : Type 0 where
   tree : PlanTree
   is_with : IsWith last rest tree
   least : (other : PlanTree) → IsWith last rest other → R tree other
 
--- in the least tree the last entry is joined to the root, or at its best place in one of the two subtrees
-least_of_three : (R : PlanTree → PlanTree → Type 0) → IsTotalPreorder R → (last : ℕ) (left right : PlanTree) → LeastWith (λ a b. R (node a right) (node b right)) last left
-    → LeastWith (λ a b. R (node left a) (node left b)) last right → LeastWith R last (node left right)
+-- the least tree joins the last entry to the root, or at its best place in the left or the right subtree
+least_of_three : (R : PlanTree → PlanTree → Type 0) → IsTotalPreorder R → (last : ℕ) (left right : PlanTree) → LeastJoinedWith (λ a b. R (node a right) (node b right)) last left
+    → LeastJoinedWith (λ a b. R (node left a) (node left b)) last right → LeastJoinedWith R last (node left right)
 least_of_three R order last left right l r = elim (order.either (node l.tree right) (node left r.tree)) [
   | inl left_first ↦ elim (order.either root (node l.tree right)) [
-    | inl p ↦ made root (inl refl) (itself R order root) p (order.both root (node l.tree right) (node left r.tree) p left_first)
-    | inr q ↦ made (node l.tree right) (inr (inl (l.tree, l.is_with, refl))) q (itself R order (node l.tree right)) left_first
+    | inl p ↦ made root (inl refl) (preorder_is_reflexive R order root) p (order.both root (node l.tree right) (node left r.tree) p left_first)
+    | inr q ↦ made (node l.tree right) (inr (inl (l.tree, l.is_with, refl))) q (preorder_is_reflexive R order (node l.tree right)) left_first
   ]
   | inr right_first ↦ elim (order.either root (node left r.tree)) [
-    | inl p ↦ made root (inl refl) (itself R order root) (order.both root (node left r.tree) (node l.tree right) p right_first) p
-    | inr q ↦ made (node left r.tree) (inr (inr (r.tree, r.is_with, refl))) q right_first (itself R order (node left r.tree))
+    | inl p ↦ made root (inl refl) (preorder_is_reflexive R order root) (order.both root (node left r.tree) (node l.tree right) p right_first) p
+    | inr q ↦ made (node left r.tree) (inr (inr (r.tree, r.is_with, refl))) q right_first (preorder_is_reflexive R order (node left r.tree))
   ]
 ]
   where
     root : PlanTree
     root = node (node left right) (leaf last)
 
-    made : (tree : PlanTree) → IsWith last (node left right) tree → R tree root → R tree (node l.tree right) → R tree (node left r.tree) → LeastWith R last (node left right)
+    made : (tree : PlanTree) → IsWith last (node left right) tree → R tree root → R tree (node l.tree right) → R tree (node left r.tree) → LeastJoinedWith R last (node left right)
     made tree is_with than_root than_left than_right = record {
       tree = tree;
       is_with = is_with;
@@ -160,48 +160,48 @@ least_of_three R order last left right l r = elim (order.either (node l.tree rig
       ];
     }
 
-least_with : (R : PlanTree → PlanTree → Type 0) → IsTotalPreorder R → (last : ℕ) (rest : PlanTree) → LeastWith R last rest
+least_with : (R : PlanTree → PlanTree → Type 0) → IsTotalPreorder R → (last : ℕ) (rest : PlanTree) → LeastJoinedWith R last rest
 least_with R order last (leaf entry) = record {
   tree = node (leaf entry) (leaf last);
   is_with = refl;
-  least = λ other is_with. subst (λ (t : PlanTree). R (node (leaf entry) (leaf last)) t) (sym is_with) (itself R order (node (leaf entry) (leaf last)));
+  least = λ other is_with. subst (λ (t : PlanTree). R (node (leaf entry) (leaf last)) t) (sym is_with) (preorder_is_reflexive R order (node (leaf entry) (leaf last)));
 }
 least_with R order last (node left right) =
     least_of_three R order last left right
-    (least_with (λ a b. R (node a right) (node b right)) (through R (λ t. node t right) order) last left)
-    (least_with (λ a b. R (node left a) (node left b)) (through R (λ t. node left t) order) last right)
+    (least_with (λ a b. R (node a right) (node b right)) (preorder_of_images R (λ t. node t right) order) last left)
+    (least_with (λ a b. R (node left a) (node left b)) (preorder_of_images R (λ t. node left t) order) last right)
 
-record Least (R : PlanTree → PlanTree → Type 0) (n : ℕ) : Type 0 where
+record LeastTree (R : PlanTree → PlanTree → Type 0) (n : ℕ) : Type 0 where
   tree : PlanTree
   is_tree : IsTreeOver (full_set n) tree
   least : (other : PlanTree) → IsTreeOver (full_set n) other → R tree other
 
-grown : (R : PlanTree → PlanTree → Type 0) → IsTotalPreorder R → ℕ → PlanTree → PlanTree
-grown R order last t = (least_with R order last t).tree
+least_with_next : (R : PlanTree → PlanTree → Type 0) → IsTotalPreorder R → ℕ → PlanTree → PlanTree
+least_with_next R order last t = (least_with R order last t).tree
 
-least_next : (R : PlanTree → PlanTree → Type 0) (order : IsTotalPreorder R) (n : ℕ) → Least (λ a b. R (grown R order (suc n) a) (grown R order (suc n) b)) (suc n) → Least R (suc (suc n))
-unfolding grown
+least_next : (R : PlanTree → PlanTree → Type 0) (order : IsTotalPreorder R) (n : ℕ) → LeastTree (λ a b. R (least_with_next R order (suc n) a) (least_with_next R order (suc n) b)) (suc n) → LeastTree R (suc (suc n))
+unfolding least_with_next
 least_next R order n best = record {
-  tree = grown R order (suc n) best.tree;
-  is_tree = subst (λ (k : ℕ). IsTreeOver k (grown R order (suc n) best.tree)) whole
-      (with_over (full_set (suc n)) (suc n) best.tree (grown R order (suc n) best.tree) (omega (arith, pow_pos (suc n))) best.is_tree (least_with R order (suc n) best.tree).is_with);
+  tree = least_with_next R order (suc n) best.tree;
+  is_tree = subst (λ (k : ℕ). IsTreeOver k (least_with_next R order (suc n) best.tree)) whole
+      (with_over (full_set (suc n)) (suc n) best.tree (least_with_next R order (suc n) best.tree) (omega (arith, pow_pos (suc n))) best.is_tree (least_with R order (suc n) best.tree).is_with);
   least = λ other is_tree. (let rest : (rest : PlanTree) × IsTreeOver (full_set (suc n)) rest × IsWith (suc n) rest other = without_last n other is_tree in
-      order.both (grown R order (suc n) best.tree) (grown R order (suc n) rest.0) other (best.least rest.0 rest.1) ((least_with R order (suc n) rest.0).least other rest.2));
+      order.both (least_with_next R order (suc n) best.tree) (least_with_next R order (suc n) rest.0) other (best.least rest.0 rest.1) ((least_with R order (suc n) rest.0).least other rest.2));
 }
   where
     whole : 2 ^ suc n - 1 + 2 ^ suc n ≡ 2 ^ suc (suc n) - 1
-    whole = omega (arith, twice (suc n), pow_pos (suc n))
+    whole = omega (arith, power_of_next (suc n), pow_pos (suc n))
 
-least_of_all : (R : PlanTree → PlanTree → Type 0) → IsTotalPreorder R → (n : ℕ) → 0 < n → Least R n
+least_of_all : (R : PlanTree → PlanTree → Type 0) → IsTotalPreorder R → (n : ℕ) → 0 < n → LeastTree R n
 least_of_all R order zero some = absurd (omega arith)
 least_of_all R order (suc zero) some = record {
   tree = leaf 0;
   is_tree = refl;
-  least = λ other is_tree. subst (λ (t : PlanTree). R (leaf 0) t) (sym (only_last 0 other is_tree)) (itself R order (leaf 0));
+  least = λ other is_tree. subst (λ (t : PlanTree). R (leaf 0) t) (sym (only_last 0 other is_tree)) (preorder_is_reflexive R order (leaf 0));
 }
 least_of_all R order (suc (suc n)) some =
     least_next R order n
-    (least_of_all (λ a b. R (grown R order (suc n) a) (grown R order (suc n) b)) (through R (λ t. grown R order (suc n) t) order) (suc n) (omega arith))
+    (least_of_all (λ a b. R (least_with_next R order (suc n) a) (least_with_next R order (suc n) b)) (preorder_of_images R (λ t. least_with_next R order (suc n) t) order) (suc n) (omega arith))
 
 -- ---- the order of trees by cost, then by sum, then by the left sets, read from the root down
 
@@ -209,11 +209,11 @@ abbrev left_sets : PlanTree → List ℕ
 left_sets (leaf entry) = []
 left_sets (node left right) = leaf_set left ∷ (left_sets left ++ left_sets right)
 
-abbrev First : (PlanTree → ℕ) → (PlanTree → PlanTree → Type 0) → PlanTree → PlanTree → Type 0
-First f Then a b = (f a < f b) ⊎ ((f a ≡ f b) × Then a b)
+abbrev LowerThen : (PlanTree → ℕ) → (PlanTree → PlanTree → Type 0) → PlanTree → PlanTree → Type 0
+LowerThen f Then a b = (f a < f b) ⊎ ((f a ≡ f b) × Then a b)
 
-first_order : (f : PlanTree → ℕ) (Then : PlanTree → PlanTree → Type 0) → IsTotalPreorder Then → IsTotalPreorder (First f Then)
-first_order f Then order = record {
+lower_then_preorder : (f : PlanTree → ℕ) (Then : PlanTree → PlanTree → Type 0) → IsTotalPreorder Then → IsTotalPreorder (LowerThen f Then)
+lower_then_preorder f Then order = record {
   either = λ a b. elim (cases_order (f a) (f b)) [
     | inl same ↦ elim (order.either a b) [
       | inl p ↦ inl (inr (same, p))
@@ -239,8 +239,8 @@ first_order f Then order = record {
 abbrev HasLesserLeftSets : PlanTree → PlanTree → Type 0
 HasLesserLeftSets a b = IsNotAfter (left_sets a) (left_sets b)
 
-placed_order : IsTotalPreorder HasLesserLeftSets
-placed_order = record {
+left_sets_preorder : IsTotalPreorder HasLesserLeftSets
+left_sets_preorder = record {
   either = λ a b. lexical_total (left_sets a) (left_sets b);
   both = λ a b c. lexical_transitive (left_sets a) (left_sets b) (left_sets c);
 }
@@ -317,10 +317,10 @@ some_best bounds n some = (
   },
 )
   where
-    found : Least (First (cost bounds) (First (total bounds) HasLesserLeftSets)) n
-    found = least_of_all (First (cost bounds) (First (total bounds) HasLesserLeftSets)) (first_order (cost bounds) (First (total bounds) HasLesserLeftSets) (first_order (total bounds) HasLesserLeftSets placed_order)) n some
+    found : LeastTree (LowerThen (cost bounds) (LowerThen (total bounds) HasLesserLeftSets)) n
+    found = least_of_all (LowerThen (cost bounds) (LowerThen (total bounds) HasLesserLeftSets)) (lower_then_preorder (cost bounds) (LowerThen (total bounds) HasLesserLeftSets) (lower_then_preorder (total bounds) HasLesserLeftSets left_sets_preorder)) n some
 
-    then_total : (other : PlanTree) → IsTreeOver (full_set n) other → cost bounds other ≡ cost bounds found.tree → First (total bounds) HasLesserLeftSets found.tree other
+    then_total : (other : PlanTree) → IsTreeOver (full_set n) other → cost bounds other ≡ cost bounds found.tree → LowerThen (total bounds) HasLesserLeftSets found.tree other
     then_total other over same = elim (found.least other over) [
       | inl below ↦ absurd (omega (arith, below, same))
       | inr here ↦ here.1

@@ -25,10 +25,10 @@ not_before (node left right) (leaf b) = true
 not_before (node left right) (node left' right') =
     first_test (leaf_set left') (leaf_set left) (cond (not_before left left') (cond (same_tree left left') (not_before right right') true) false)
 
-refuted : (a b : PlanTree) → not_before a b ≡ true → ¬ IsTreeBefore a b
-refuted (leaf x) b h before = before
-refuted (node left right) (leaf y) h before = before
-refuted (node left right) (node left' right') h before = elim (first_from_test (leaf_set left') (leaf_set left) _ h) [
+not_before_from_test : (a b : PlanTree) → not_before a b ≡ true → ¬ IsTreeBefore a b
+not_before_from_test (leaf x) b h before = before
+not_before_from_test (node left right) (leaf y) h before = before
+not_before_from_test (node left right) (node left' right') h before = elim (first_from_test (leaf_set left') (leaf_set left) _ h) [
   | inl less ↦ elim before [
     | inl above ↦ omega (arith, less, above)
     | inr here ↦ omega (arith, less, here.0)
@@ -38,8 +38,8 @@ refuted (node left right) (node left' right') h before = elim (first_from_test (
       elim before [
         | inl above ↦ omega (arith, same.0, above)
         | inr here ↦ elim here.1 [
-          | inl left_before ↦ refuted left left' parts.0 left_before
-          | inr right_here ↦ refuted right right' (behind_same left left' (not_before right right') right_here.0 parts.1) right_here.1
+          | inl left_before ↦ not_before_from_test left left' parts.0 left_before
+          | inr right_here ↦ not_before_from_test right right' (behind_same left left' (not_before right right') right_here.0 parts.1) right_here.1
         ]
       ])
 ]
@@ -65,7 +65,7 @@ best_by_test bounds n best some is_tree tested = record {
   ];
   none_earlier = λ other over same equal. elim (then_total other over same) [
     | inl below ↦ absurd (omega (arith, below, equal))
-    | inr also ↦ refuted other best also.1
+    | inr also ↦ not_before_from_test other best also.1
   ];
 }
   where

@@ -5,16 +5,16 @@ use Rattle.std.specs.List.{AllByRecursion, count_by}
 use Rattle.std.specs.Prelude.{◌==◌}
 use Rattle.std.proofs.lemmas.Nat.{pow_pos}
 use Rattle.limits.specs.Profile.{most_entries}
-use Rattle.tree_plans.specs.TreePlans.{HaveHigherNumbers, IsTreePlan, joined_nodes}
-use Rattle.tree_plans.specs.declared.bushy.BushyPlan.{BushyPlan}
-use Rattle.tree_plans.specs.declared.bushy.Join.{Join}
+use Rattle.plans.specs.TreePlans.{HaveHigherNumbers, IsTreePlan, joined_nodes}
+use Rattle.plans.specs.declared.bushy.BushyPlan.{BushyPlan}
+use Rattle.plans.specs.declared.bushy.Join.{Join}
 use Rattle.order_search.specs.Orders.{cost as left_deep_cost}
 use Rattle.plans.specs.LeftDeep.{IsOrder}
 use Rattle.bushy_plan.specs.BestTree.{AreOfBest, full_set}
 use Rattle.bushy_plan.proofs.Costs.{greatest_at_most_cost}
 use Rattle.bushy_plan.proofs.Found.{some_of_all}
 use Rattle.bushy_plan.proofs.LeftDeep.{no_dearer}
-use Rattle.bushy_plan.proofs.Numbering.{have_higher_numbers, bounds_small, count_of_all, length-joins_from, named_once}
+use Rattle.bushy_plan.proofs.Numbering.{have_higher_numbers, bounds_at_most, count_of_all, length-joins_from, named_once}
 
 -- a tree has one inner node fewer than entries
 pub joins_counted : (bounds : List ℕ) (n cheapest : ℕ) (joins : List Join) → AreOfBest bounds n cheapest joins → length joins + 1 ≡ n
@@ -37,7 +37,7 @@ pub joins_within : (bounds : List ℕ) (n cheapest most : ℕ) (joins : List Joi
     → AllByRecursion (λ join. join.bound ≤ most) joins
 joins_within bounds n cheapest most joins best within =
     subst (λ (joins : List Join). AllByRecursion (λ join. join.bound ≤ most) joins) (sym best.are_its)
-    (bounds_small bounds n most best.tree (omega (arith, greatest_at_most_cost bounds best.tree, best.is_its)))
+    (bounds_at_most bounds n most best.tree (omega (arith, greatest_at_most_cost bounds best.tree, best.is_its)))
 
 pub best_not_dearer : (bounds : List ℕ) (n cheapest : ℕ) (joins : List Join) → 0 < n → AreOfBest bounds n cheapest joins → (order : List ℕ) → IsOrder n order → cheapest ≤ left_deep_cost bounds order
 best_not_dearer bounds n cheapest joins some best order is_order =

@@ -1,7 +1,7 @@
 -- The best join tree. Every set of entries has a bound, at the number whose bits are the set's entries.
 use Rattle.std.specs.Prelude.{◌≡◌, ℕ, ◌+◌, ◌-◌, ◌^◌, ◌<◌, ◌≤◌, ◌⊎◌, max, List, slice_index}
-use Rattle.tree_plans.specs.declared.bushy.BushyPlan.{BushyPlan}
-use Rattle.tree_plans.specs.declared.bushy.Join.{Join}
+use Rattle.plans.specs.declared.bushy.BushyPlan.{BushyPlan}
+use Rattle.plans.specs.declared.bushy.Join.{Join}
 use Rattle.bushy_plan.specs.PlanTrees.{PlanTree, leaf, node, IsTreeOver, leaf_set, joins_from}
 
 -- the greatest bound of an inner node

@@ -1,7 +1,7 @@
 -- Join trees. A set of entries is a number: entry x is in the set if bit x is 1.
 use Rattle.std.specs.Prelude.{◌≡◌, ℕ, ◌+◌, ◌^◌, ◌<◌, List, [], ◌∷◌, ◌++◌, slice_index}
 use Rattle.std.specs.Int.{bit_at}
-use Rattle.tree_plans.specs.declared.bushy.Join.{Join}
+use Rattle.plans.specs.declared.bushy.Join.{Join}
 
 -- a leaf is an entry; an inner node joins its left and its right subtree
 pub data PlanTree : Type 0 where
@@ -18,14 +18,15 @@ pub record IsFirstEntry (set first : ℕ) : Type 0 where
   pub is_in : bit_at set first ≡ 1
   pub none_before : (entry : ℕ) → entry < first → bit_at set entry ≡ 0
 
--- a split of the set. Each entry of the set is in exactly one of the two sets. Neither is empty, and the left one has the set's first entry
+-- a split of the set into a left and a right set. Each entry of the set is in exactly one of these two sets. Neither of them is empty, and the left
+-- set has the set's first entry
 pub record IsSplit (set left right : ℕ) : Type 0 where
   pub apart : (entry : ℕ) → bit_at left entry + bit_at right entry ≡ bit_at set entry
   pub some_left : 0 < left
   pub some_right : 0 < right
   pub first_left : (first : ℕ) → IsFirstEntry set first → bit_at left first ≡ 1
 
--- the trees over a set: for one entry its leaf, and for several entries a split with a tree over each side
+-- the tree is a tree over the set: the leaf of its only entry, or a split of the set with a tree over each side
 abbrev pub IsTreeOver : ℕ → PlanTree → Type 0
 IsTreeOver set (leaf entry) = set ≡ 2 ^ entry
 IsTreeOver set (node left right) = IsSplit set (leaf_set left) (leaf_set right) × IsTreeOver (leaf_set left) left

@@ -1,7 +1,7 @@
 -- The weight of a tree, by the splits of its sets. Only the search uses these definitions; no public contract cites them.
 use Rattle.std.specs.Prelude.{◌≡◌, ◌≢◌, ℕ, ◌+◌, ◌-◌, ◌^◌, ◌<◌, ◌≤◌, max, min, List, ◌++◌, length, slice_index, nat_le, if◌then◌else◌}
 use Rattle.limits.specs.Profile.{top_bound}
-use Rattle.tree_plans.specs.declared.bushy.Join.{Join}
+use Rattle.plans.specs.declared.bushy.Join.{Join}
 use Rattle.bushy_plan.specs.BestTree.{IsTreeBefore}
 use Rattle.bushy_plan.specs.PlanTrees.{PlanTree, leaf, node, IsFirstEntry, IsSplit, IsTreeOver, leaf_set, joins_from, root_number}
 use Rattle.bushy_plan.specs.declared.weight.Weighing.{Weighing}
@@ -13,10 +13,10 @@ pub record IsWithoutFirst (set all_but_first : ℕ) : Type 0 where
   pub is_first : IsFirstEntry set first
   pub others : all_but_first ≡ set - 2 ^ first
 
--- the weight of a node, from its bound and the weights of its two sides. With `SumOfBoundsUpTo`, a bound above `most` gives the greatest weight
+-- the weight of a node, from its bound and the weights of its two sides. With `SumIfBoundsAtMost`, a bound above `most` gives the greatest weight
 abbrev pub combined : Weighing → ℕ → ℕ → ℕ → ℕ
 combined weight.Greatest bound left right = max bound (max left right)
-combined (weight.SumOfBoundsUpTo most) bound left right = if nat_le bound most then (min (bound + left + right) top_bound) else top_bound
+combined (weight.SumIfBoundsAtMost most) bound left right = if nat_le bound most then (min (bound + left + right) top_bound) else top_bound
 
 -- the weight of a tree, from the bounds of its inner nodes; a leaf weighs nothing
 abbrev pub weight_of : Weighing → List ℕ → PlanTree → ℕ
@@ -39,7 +39,8 @@ HasLeastWeights w bounds table end = (set : ℕ) → 0 < set → set < end → I
 abbrev pub weight_through : Weighing → List ℕ → List ℕ → ℕ → ℕ → ℕ
 weight_through w bounds table set right = combined w (slice_index bounds set) (slice_index table (set - right)) (slice_index table right)
 
--- `right` is the right set of a lightest split, and no lightest split has a right set with a greater number. So its left set has the least number
+-- `right` is the right set of a lightest split, and no lightest split has a right set with a greater number. So the left set of this split has the
+-- least number
 pub record IsFirstLightestSplit (w : Weighing) (bounds table : List ℕ) (set right : ℕ) : Type 0 where
   pub is_split : IsSplit set (set - right) right
   pub lightest : weight_through w bounds table set right ≡ slice_index table set

@@ -8,10 +8,10 @@ use crate::splits::{first_entry, without_first};
 use crate::table::weight_through;
 use crate::weight::Weighing;
 use base_io::NoMemory;
-use tree_plans::Join;
+use plans::Join;
 
-// The right set of a lightest split of `set`. Of several lightest splits, the split whose left set has the least number is taken. `all_but_first` has the
-// entries of `set` except its first entry.
+// The right set of a lightest split of `set`. Among the lightest splits, the one whose left set has the least number is taken. `all_but_first` has
+// the entries of `set` except its first entry.
 fn first_right(
     weight: Weighing,
     bounds: &[u128],
@@ -19,7 +19,7 @@ fn first_right(
     set: usize,
     all_but_first: usize,
 ) -> usize
-    requires some { 0 < set }
+    requires not_empty { 0 < set }
     requires more { 0 < all_but_first }
     requires set { set < length bounds.now }
     requires filled { length table.now ≡ length bounds.now }
@@ -46,20 +46,20 @@ pub(crate) fn push_joins(
 ) -> Result<u8, NoMemory>
     requires count { count ≤ greatest_entries }
     requires small { most ≤ greatest_budget }
-    requires some { 0 < set }
+    requires not_empty { 0 < set }
     requires set { set < length bounds.now }
     requires filled { length table.now ≡ length bounds.now }
-    requires table { HasLeastWeights (Weighing.SumOfBoundsUpTo most) bounds.now table.now (length bounds.now) }
+    requires table { HasLeastWeights (Weighing.SumIfBoundsAtMost most) bounds.now table.now (length bounds.now) }
     requires light { slice_index table.now set < top_bound }
     requires numbers { (tree : PlanTree) → IsTreeOver set tree → length joins.old.items + inner_count tree < greatest_entries }
-    ensures { IfOk result (λ root. AppendsFirstLightest (Weighing.SumOfBoundsUpTo most) bounds.now count set joins.old.items joins.new.items root) }
+    ensures { IfOk result (λ root. AppendsFirstLightest (Weighing.SumIfBoundsAtMost most) bounds.now count set joins.old.items joins.new.items root) }
 {
     let all_but_first = without_first(set);
     if all_but_first == 0 {
         return Ok(first_entry(set));
     }
     let right_set = first_right(
-        Weighing::SumOfBoundsUpTo(most),
+        Weighing::SumIfBoundsAtMost(most),
         bounds,
         table,
         set,

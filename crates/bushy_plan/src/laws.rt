@@ -1,7 +1,7 @@
 //! Laws of the definitions. Each call does nothing.
 ghost use Rattle.std.specs.Prelude.{◌≡◌, ◌≤◌, ◌⊎◌, [], ◌∷◌, ℕ, List};
 ghost use Rattle.limits.specs.Profile.{greatest_budget};
-ghost use Rattle.tree_plans.specs.Examples.{join};
+ghost use Rattle.plans.specs.TreeExamples.{join};
 ghost use Rattle.bushy_plan.specs.BestTree.{IsTreeBefore, IsBest, cost, total};
 ghost use Rattle.bushy_plan.specs.Causes.{IsCause};
 ghost use Rattle.bushy_plan.specs.Examples.{one_pair, triangle};
@@ -11,8 +11,8 @@ ghost use Rattle.order_search.specs.declared.refusal.PlanError.TheVariants as er
 
 /// For one or more entries, and for any bounds, exactly one tree is best.
 pub fn one_best_tree()
-    ensures some { (bounds : List ℕ) (n : ℕ) → 1 ≤ n → (best : PlanTree) × IsBest bounds n best }
-    ensures one { (bounds : List ℕ) (n : ℕ) (a b : PlanTree) → IsBest bounds n a → IsBest bounds n b → a ≡ b }
+    ensures exists { (bounds : List ℕ) (n : ℕ) → 1 ≤ n → (best : PlanTree) × IsBest bounds n best }
+    ensures unique { (bounds : List ℕ) (n : ℕ) (a b : PlanTree) → IsBest bounds n a → IsBest bounds n b → a ≡ b }
 {}
 
 /// If the best tree costs at most the budget, only `NoMemory` is a possible refusal. In any case, at most one refusal other than `NoMemory` has a
@@ -28,7 +28,7 @@ pub fn one_answer()
 /// The definitions, computed for one, two and three entries.
 pub fn examples()
     ensures entries { leaf_set (node (leaf 0) (leaf 2)) ≡ 5 }
-    ensures alone { cost one_pair (leaf 0) ≡ 6 }
+    ensures one_entry { cost one_pair (leaf 0) ≡ 6 }
     ensures pair { joins_from one_pair 2 (node (leaf 0) (leaf 1)) ≡ join 0 1 12 ∷ [] }
     ensures triangle { joins_from triangle 3 (node (leaf 0) (node (leaf 1) (leaf 2))) ≡ join 1 2 5 ∷ join 0 3 9 ∷ [] }
     ensures cost { cost triangle (node (leaf 0) (node (leaf 1) (leaf 2))) ≡ 9 }

@@ -4,7 +4,7 @@
 //! binary. The cost of a tree is the greatest bound among its inner nodes. Out: the tree of least cost, as a plan. If the least cost is above the
 //! budget, the result is a refusal with the least cost. If the least cost doesn't fit into 128 bits, the refusal says this.
 //!
-//! In contracts `IsBestPlan` and `IsBest` describe the tree, `IsTreePlan` of tree_plans its shape, and `IsCause` a refusal. The refusals are those of
+//! In contracts `IsBestPlan` and `IsBest` describe the tree, `IsTreePlan` of plans its shape, and `IsCause` a refusal. The refusals are those of
 //! order_search.
 //!
 //! ```text

@@ -4,7 +4,7 @@ ghost use Rattle.std.specs.List.{AllByRecursion};
 ghost use Rattle.limits.specs.Profile.{greatest_budget, greatest_entries, most_entries, top_bound};
 ghost use Rattle.order_search.specs.Orders.{cost as left_deep_cost};
 ghost use Rattle.plans.specs.LeftDeep.{IsOrder};
-ghost use Rattle.tree_plans.specs.TreePlans.{IsTreePlan};
+ghost use Rattle.plans.specs.TreePlans.{IsTreePlan};
 ghost use Rattle.bushy_plan.specs.BestTree.{IsBestPlan, IsLeastCost, AreOfBest};
 ghost use Rattle.bushy_plan.specs.Causes.{IsCause};
 
@@ -14,17 +14,16 @@ use crate::weight::Weighing;
 use base_io::{NoMemory, Seq};
 use limits::TOP_BOUND;
 use order_search::PlanError;
+use plans::{BushyPlan, Join};
 use std::alloc::Global;
-use tree_plans::{BushyPlan, Join};
 
 /// The best join tree of n entries, n from 1 to `GREATEST_ENTRIES`, from a bound for each of the 2^n sets. The cost of a tree is the greatest bound
-/// of its inner nodes. The best tree has the least cost, and among the trees of that cost the least sum of these bounds. Of several trees with this
-/// cost and sum the first is best. Trees are ordered by the number of the left set at the root, then by the left tree, then by the right tree.
+/// of its inner nodes. The best tree has the least cost, and among the trees of that cost the least sum of these bounds. Among the trees with this
+/// cost and sum, the first is best. Trees are ordered by the number of the left set at the root, then by the left tree, then by the right tree.
 ///
 /// All bounds and the budget are in rows. A bound of 2^128 - 1 means that number or more. The search fills two arrays of 2^n numbers, in at most 3^n
-/// steps each. Only one of them is in memory at a time. The first array has the least cost for each set. The second has the least sum for each set,
-/// over trees whose bounds are at most the least cost of a tree over all entries. The left part of a split has the set's first entry, so each split
-/// is looked at once.
+/// steps each. Only one array is in memory at a time. The first array has the least cost for each set. The second array has each set's least sum,
+/// over trees without a bound above the best tree's cost. The left set of a split has the set's first entry, so the search looks at each split once.
 ///
 /// The error is `Budget` or `PastBits` exactly if `IsCause` says so, and `NoMemory` if there is too little memory.
 pub fn choose_bushy(
@@ -33,8 +32,8 @@ pub fn choose_bushy(
     scans: &Seq<u64>,
     budget: u64,
 ) -> Result<BushyPlan, PlanError>
-    requires some { 1 ≤ length scans.now }
-    requires few { length scans.now ≤ greatest_entries }
+    requires not_empty { 1 ≤ length scans.now }
+    requires within_limit { length scans.now ≤ greatest_entries }
     requires bounds { length bounds.now ≡ 2 ^ length scans.now }
     requires budget { budget ≤ greatest_budget }
 
@@ -67,7 +66,7 @@ pub fn choose_bushy(
 
 // The least cost of a tree. With one entry there is no inner node, and the entry's own bound is the cost.
 fn least_cost(alloc: Global, count: u8, bounds: &[u128]) -> Result<u128, NoMemory>
-    requires some { 1 ≤ count }
+    requires not_empty { 1 ≤ count }
     requires count { count ≤ greatest_entries }
     requires bounds { length bounds.now ≡ 2 ^ count }
     ensures { IfOk result (λ least. IsLeastCost bounds.now count least) }
@@ -79,16 +78,16 @@ fn least_cost(alloc: Global, count: u8, bounds: &[u128]) -> Result<u128, NoMemor
     Ok(costs[bounds.len() - 1])
 }
 
-// The joins of the best tree: among the trees of least cost and least sum, the first.
+// The joins of the best tree: among the trees of least cost and least sum, the first tree.
 fn best_joins(alloc: Global, count: u8, bounds: &[u128], least: u128) -> Result<Vec<Join>, NoMemory>
-    requires some { 1 ≤ count }
+    requires not_empty { 1 ≤ count }
     requires count { count ≤ greatest_entries }
     requires bounds { length bounds.now ≡ 2 ^ count }
     requires least { IsLeastCost bounds.now count least }
     requires small { least ≤ greatest_budget }
     ensures { IfOk result (λ joins. AreOfBest bounds.now count least joins.items) }
 {
-    let sums = least_weights(alloc, Weighing::SumOfBoundsUpTo(least), bounds)?;
+    let sums = least_weights(alloc, Weighing::SumIfBoundsAtMost(least), bounds)?;
     let mut joins = Vec::new(alloc);
     let _root = push_joins(
         least,

@@ -12,7 +12,7 @@ pub(crate) fn first_entry(set: usize) -> u8
     set.trailing_zeros() as u8
 }
 
-// The set without its first entry. The right set of a split is any nonempty subset of it.
+// The set without its first entry. The right set of a split is any nonempty subset of this result.
 pub(crate) fn without_first(set: usize) -> usize
     requires { 0 < set }
     ensures { IsWithoutFirst set result }

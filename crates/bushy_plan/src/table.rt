@@ -1,5 +1,5 @@
-//! Finds the least weight of a tree over each set of entries. A set is the number whose bits are its entries. Sets are done in the order of their
-//! numbers. All subsets of a set have smaller numbers, so their weights are found before.
+//! Finds the least weight of a tree over each set of entries. A set is the number whose bits are its entries. The loop goes through sets in the order
+//! of their numbers. All subsets of a set have smaller numbers, so their weights are found earlier.
 ghost use Rattle.std.specs.Prelude.{◌≡◌, ◌<◌, ◌≤◌, length, IfOk};
 ghost use Rattle.bushy_plan.specs.Splits.{IsLeastWeight, HasLeastWeights, weight_through as weight_through_of};
 
@@ -8,7 +8,7 @@ use crate::weight::Weighing;
 use base_io::NoMemory;
 use std::alloc::Global;
 
-// The least weight of the trees over `set` whose root has the entries of `right` on its right side. Its left side has the other entries.
+// The least weight of the trees over `set` whose root has the entries of `right` on its right side, and the other entries on its left side.
 pub(crate) fn weight_through(
     weight: Weighing,
     bounds: &[u128],
@@ -16,7 +16,7 @@ pub(crate) fn weight_through(
     set: usize,
     right: usize,
 ) -> u128
-    requires some { 0 < right }
+    requires not_empty { 0 < right }
     requires part { right < set }
     requires set { set < length bounds.now }
     requires filled { set ≤ length table.now }
@@ -28,7 +28,7 @@ pub(crate) fn weight_through(
 // The least weight of a tree over the set, from the weights of its subsets. The left side of the root has the set's first entry, so `right` goes down
 // through all subsets of the other entries.
 fn least_weight(weight: Weighing, bounds: &[u128], table: &[u128], set: usize) -> u128
-    requires some { 0 < set }
+    requires not_empty { 0 < set }
     requires set { set < length bounds.now }
     requires filled { length table.now ≡ set }
     requires table { HasLeastWeights weight bounds.now table.now set }
@@ -53,7 +53,7 @@ pub(crate) fn least_weights(
     weight: Weighing,
     bounds: &[u128],
 ) -> Result<Vec<u128>, NoMemory>
-    requires some { 0 < length bounds.now }
+    requires not_empty { 0 < length bounds.now }
     ensures filled { IfOk result (λ table. length table.items ≡ length bounds.now) }
     ensures table { IfOk result (λ table. HasLeastWeights weight bounds.now table.items (length bounds.now)) }
 {

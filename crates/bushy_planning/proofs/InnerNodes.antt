@@ -7,22 +7,22 @@ use Rattle.limits.specs.Profile.{greatest_entries}
 use Rattle.entry_sets.specs.Sets.{entries_of_set, set_of}
 use Rattle.level_bounds.specs.Orders.{IsOrderOfSet}
 use Rattle.level_bounds.proofs.SetNumbers.{order_of_set}
-use Rattle.join_steps.proofs.WholeScans.{weaker}
-use Rattle.tree_plans.specs.declared.bushy.BushyPlan.{BushyPlan}
-use Rattle.tree_plans.specs.declared.bushy.Join.{Join}
-use Rattle.tree_plans.specs.TreePlans.{IsTreePlan}
+use Rattle.join_steps.proofs.WholeScans.{weaken_each}
+use Rattle.plans.specs.declared.bushy.BushyPlan.{BushyPlan}
+use Rattle.plans.specs.declared.bushy.Join.{Join}
+use Rattle.plans.specs.TreePlans.{IsTreePlan}
 use Rattle.tree_rows.specs.Rooms.{bound_at, bound_in}
 use Rattle.tree_rows.specs.Trees.{entries_at, node_entries, singles, with_joins}
 use Rattle.tree_rows.proofs.Once.{plan_once, singles_at, singles_length}
 use Rattle.bushy_plan.specs.BestTree.{full_set, IsBestPlan}
 use Rattle.bushy_plan.specs.PlanTrees.{IsTreeOver, PlanTree, leaf, leaf_set}
-use Rattle.bushy_planning.proofs.Subtrees.{all_whole, bound_of, bounds_are, joins_are, leaves, set_of_leaves, subtrees, with_tree, HaveLeaves, IsWhole}
+use Rattle.bushy_planning.proofs.Subtrees.{all_trees_over_leaves, bound_of, bounds_are, joins_are, leaves, set_of_leaves, subtrees, with_tree, HaveLeaves, IsTreeOverLeaves}
 
 all_at : (P : PlanTree → Type 0) (trees : List PlanTree) (k : ℕ) (d : PlanTree) → AllByRecursion P trees → k < length trees
     → P (get_or trees k d)
-all_at P [] k d all low = absurd (omega arith)
-all_at P (tree ∷ trees) zero d all low = all.0
-all_at P (tree ∷ trees) (suc k) d all low = all_at P trees k d all.1 (omega arith)
+all_at P [] k d all k_in_range = absurd (omega arith)
+all_at P (tree ∷ trees) zero d all k_in_range = all.0
+all_at P (tree ∷ trees) (suc k) d all k_in_range = all_at P trees k d all.1 (omega arith)
 
 module _ (n : ℕ) (sets : List ℕ) (plan : BushyPlan) (is : IsTreePlan n plan) (best : IsBestPlan sets n plan) where
   all_fits : full_set n < 2 ^ n
@@ -38,25 +38,25 @@ module _ (n : ℕ) (sets : List ℕ) (plan : BushyPlan) (is : IsTreePlan n plan)
       ∙ joins_are sets n (full_set n) n (singles n) best.tree (singles_length n) have all_fits is_tree
     where
       have : HaveLeaves n (singles n)
-      have entry low = (omega (arith, low, singles_length n), singles_at n entry low)
+      have entry entry_in_range = (omega (arith, entry_in_range, singles_length n), singles_at n entry entry_in_range)
 
   all_bounds : map (λ (join : Join). join.bound) plan.joins ≡ map (bound_of sets) (subtrees best.tree)
   all_bounds = ap (λ (s : List Join). map (λ (join : Join). join.bound) s) best.are_its ∙ bounds_are sets n best.tree
 
-  as_many : length plan.joins ≡ length (subtrees best.tree)
-  as_many =
+  one_join_for_each_subtree : length plan.joins ≡ length (subtrees best.tree)
+  one_join_for_each_subtree =
       sym (length-map plan.joins (λ (join : Join). join.bound)) ∙ ap (λ (s : List ℕ). length s) all_bounds
       ∙ length-map (subtrees best.tree) (bound_of sets)
 
-  module _ (k : ℕ) (low : k < length plan.joins) where
+  module _ (k : ℕ) (k_in_range : k < length plan.joins) where
     subtree : PlanTree
     subtree = get_or (subtrees best.tree) k (leaf 0)
 
-    whole : IsWhole n subtree
+    is_tree_over_leaves : IsTreeOverLeaves n subtree
     unfolding subtree
-    whole =
-        all_at (IsWhole n) (subtrees best.tree) k (leaf 0)
-        (all_whole n (full_set n) best.tree all_fits is_tree) (omega (arith, low, as_many))
+    is_tree_over_leaves =
+        all_at (IsTreeOverLeaves n) (subtrees best.tree) k (leaf 0)
+        (all_trees_over_leaves n (full_set n) best.tree all_fits is_tree) (omega (arith, k_in_range, one_join_for_each_subtree))
 
     its_entries : entries_at plan (n + k) ≡ leaves subtree
     unfolding subtree
@@ -65,7 +65,7 @@ module _ (n : ℕ) (sets : List ℕ) (plan : BushyPlan) (is : IsTreePlan n plan)
         ap (λ (s : List (List ℕ)). get_or s (n + k) []) all_entries
         ∙ ap (λ (i : ℕ). get_or (with_tree (singles n) best.tree) i []) place
         ∙ get_or-append-add (singles n) (map leaves (subtrees best.tree)) k []
-        ∙ get_or-map leaves (subtrees best.tree) k (leaf 0) [] (omega (arith, low, as_many))
+        ∙ get_or-map leaves (subtrees best.tree) k (leaf 0) [] (omega (arith, k_in_range, one_join_for_each_subtree))
 
     pub join_bound : bound_at plan (n + k) ≡ bound_in [] plan.joins k
     join_bound =
@@ -77,7 +77,7 @@ module _ (n : ℕ) (sets : List ℕ) (plan : BushyPlan) (is : IsTreePlan n plan)
     tree_bound =
         join_bound
         ∙ ap (λ (s : List ℕ). get_or s k 0) all_bounds
-        ∙ get_or-map (bound_of sets) (subtrees best.tree) k (leaf 0) 0 (omega (arith, low, as_many))
+        ∙ get_or-map (bound_of sets) (subtrees best.tree) k (leaf 0) 0 (omega (arith, k_in_range, one_join_for_each_subtree))
 
     its_set : set_of (entries_at plan (n + k)) ≡ leaf_set subtree
     its_set = ap set_of its_entries ∙ set_of_leaves subtree
@@ -85,7 +85,7 @@ module _ (n : ℕ) (sets : List ℕ) (plan : BushyPlan) (is : IsTreePlan n plan)
     -- ---- the set of the node's entries, and the node's bound
 
     pub node_set_fits : set_of (entries_at plan (n + k)) < 2 ^ n
-    node_set_fits = subst (λ (s : ℕ). s < 2 ^ n) (sym its_set) whole.fits
+    node_set_fits = subst (λ (s : ℕ). s < 2 ^ n) (sym its_set) is_tree_over_leaves.fits
 
     pub node_bound : bound_at plan (n + k) ≡ get_or sets (set_of (entries_at plan (n + k))) 0
     node_bound = tree_bound ∙ ap (λ (s : ℕ). get_or sets s 0) (sym its_set)
@@ -93,6 +93,6 @@ module _ (n : ℕ) (sets : List ℕ) (plan : BushyPlan) (is : IsTreePlan n plan)
     pub node_order : IsOrderOfSet (entries_of_set (set_of (entries_at plan (n + k)))) (entries_at plan (n + k))
     node_order =
         let different : IsDistinct eqb (entries_at plan (n + k)) × AllByRecursion (λ e. e < n) (entries_at plan (n + k)) =
-        plan_once n plan (n + k) is (omega (arith, low, is.scans)) in
+        plan_once n plan (n + k) is (omega (arith, k_in_range, is.scans)) in
         order_of_set (entries_at plan (n + k))
-        (weaker (λ e. e < n) (λ e. e < greatest_entries) (λ e h. omega (arith, h, is.few)) (entries_at plan (n + k)) different.1) different.0
+        (weaken_each (λ e. e < n) (λ e. e < greatest_entries) (λ e h. omega (arith, h, is.few)) (entries_at plan (n + k)) different.1) different.0

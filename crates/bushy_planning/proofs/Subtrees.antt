@@ -6,7 +6,7 @@ use Rattle.std.proofs.lemmas.Nat.Bits.{bit_at-pow_same}
 use Rattle.entry_sets.specs.Sets.{set_of}
 use Rattle.entry_sets.proofs.Bits.{entry_below}
 use Rattle.berge_tree.proofs.Separate.{all_append}
-use Rattle.tree_plans.specs.declared.bushy.Join.{Join}
+use Rattle.plans.specs.declared.bushy.Join.{Join}
 use Rattle.bushy_plan.specs.PlanTrees.{IsTreeOver, PlanTree, leaf, node, leaf_set, inner_count, joins_from, root_number}
 use Rattle.bushy_plan.proofs.Splitting.{split_sum}
 use Rattle.tree_rows.specs.Trees.{with_joins}
@@ -57,17 +57,17 @@ bounds_are bounds next (node left right) =
 
 -- ---- the sets of the nodes' entries
 
-pub record IsWhole (n : ℕ) (tree : PlanTree) : Type 0 where
+pub record IsTreeOverLeaves (n : ℕ) (tree : PlanTree) : Type 0 where
   pub over : IsTreeOver (leaf_set tree) tree
   pub fits : leaf_set tree < 2 ^ n
 
-pub all_whole : (n set : ℕ) (tree : PlanTree) → set < 2 ^ n → IsTreeOver set tree → AllByRecursion (IsWhole n) (subtrees tree)
-all_whole n set (leaf entry) fits is_tree = tt
-all_whole n set (node left right) fits is_tree =
+pub all_trees_over_leaves : (n set : ℕ) (tree : PlanTree) → set < 2 ^ n → IsTreeOver set tree → AllByRecursion (IsTreeOverLeaves n) (subtrees tree)
+all_trees_over_leaves n set (leaf entry) fits is_tree = tt
+all_trees_over_leaves n set (node left right) fits is_tree =
     let whole : leaf_set left + leaf_set right ≡ set = split_sum set (leaf_set left) (leaf_set right) is_tree.0 in
-    all_append (IsWhole n) (subtrees left ++ subtrees right) (node left right ∷ [])
-    (all_append (IsWhole n) (subtrees left) (subtrees right) (all_whole n (leaf_set left) left (omega arith) is_tree.1)
-    (all_whole n (leaf_set right) right (omega arith) is_tree.2))
+    all_append (IsTreeOverLeaves n) (subtrees left ++ subtrees right) (node left right ∷ [])
+    (all_append (IsTreeOverLeaves n) (subtrees left) (subtrees right) (all_trees_over_leaves n (leaf_set left) left (omega arith) is_tree.1)
+    (all_trees_over_leaves n (leaf_set right) right (omega arith) is_tree.2))
     (record { over = subst (λ (s : ℕ). IsTreeOver s (node left right)) (sym whole) is_tree; fits = omega arith }, tt)
 
 set_of_both : (xs ys : List ℕ) → set_of (xs ++ ys) ≡ set_of xs + set_of ys
@@ -88,8 +88,8 @@ abbrev pub HaveLeaves : ℕ → List (List ℕ) → Type 0
 HaveLeaves n nodes = (entry : ℕ) → entry < n → (entry < length nodes) × (at nodes entry ≡ entry ∷ [])
 
 more_leaves : (n : ℕ) (nodes others : List (List ℕ)) → HaveLeaves n nodes → HaveLeaves n (nodes ++ others)
-more_leaves n nodes others have entry low =
-    let here = have entry low in (
+more_leaves n nodes others have entry entry_in_range =
+    let here = have entry entry_in_range in (
       omega (arith, here.0, length-append nodes others),
       get_or_append_left nodes others [] entry here.0 ∙ here.1,
     )
@@ -101,9 +101,9 @@ length-with_tree : (nodes : List (List ℕ)) (tree : PlanTree) → length (with_
 length-with_tree nodes tree =
     omega (arith, length-append nodes (map leaves (subtrees tree)), length-map (subtrees tree) leaves, length-subtrees tree)
 
-last_stands : (nodes : List (List ℕ)) (left right : PlanTree)
+last_node_is_root : (nodes : List (List ℕ)) (left right : PlanTree)
     → with_tree (with_tree nodes left) right ++ leaves (node left right) ∷ [] ≡ with_tree nodes (node left right)
-last_stands nodes left right =
+last_node_is_root nodes left right =
     ap (λ (s : List (List ℕ)). s ++ leaves (node left right) ∷ [])
     (append_assoc nodes (map leaves (subtrees left)) (map leaves (subtrees right))
     ∙ ap (λ (s : List (List ℕ)). nodes ++ s) (sym (map-append leaves (subtrees left) (subtrees right))))
@@ -116,17 +116,17 @@ record RootStands (nodes : List (List ℕ)) (next : ℕ) (tree : PlanTree) : Typ
 
 root_stands : (n set next : ℕ) (nodes : List (List ℕ)) (tree : PlanTree) → length nodes ≡ next → HaveLeaves n nodes
     → set < 2 ^ n → IsTreeOver set tree → RootStands nodes next tree
-root_stands n set next nodes (leaf entry) long have fits is_tree =
+root_stands n set next nodes (leaf entry) has_length have fits is_tree =
     let below : entry < n = entry_below n (2 ^ entry) entry (omega arith) (bit_at-pow_same entry) in
     let here = more_leaves n nodes [] have entry below in
     record { is_there = here.0; entries = here.1 }
-root_stands n set next nodes (node left right) long have fits is_tree =
+root_stands n set next nodes (node left right) has_length have fits is_tree =
     let front : List (List ℕ) = with_tree (with_tree nodes left) right in
     let place : length front ≡ next + inner_count left + inner_count right =
-    omega (arith, long, length-with_tree (with_tree nodes left) right, length-with_tree nodes left) in
+    omega (arith, has_length, length-with_tree (with_tree nodes left) right, length-with_tree nodes left) in
     record {
-      is_there = omega (arith, long, length-with_tree nodes (node left right));
-      entries = ap (λ (s : List (List ℕ)). at s (root_number next (node left right))) (sym (last_stands nodes left right))
+      is_there = omega (arith, has_length, length-with_tree nodes (node left right));
+      entries = ap (λ (s : List (List ℕ)). at s (root_number next (node left right))) (sym (last_node_is_root nodes left right))
           ∙ get_or_push front (leaves (node left right)) [] (root_number next (node left right)) place;
     }
 
@@ -137,8 +137,8 @@ root_later nodes others next tree stands =
 
 pub joins_are : (bounds : List ℕ) (n set next : ℕ) (nodes : List (List ℕ)) (tree : PlanTree) → length nodes ≡ next → HaveLeaves n nodes
     → set < 2 ^ n → IsTreeOver set tree → with_joins nodes (joins_from bounds next tree) ≡ with_tree nodes tree
-joins_are bounds n set next nodes (leaf entry) long have fits is_tree = sym (append-nil nodes)
-joins_are bounds n set next nodes (node left right) long have fits is_tree =
+joins_are bounds n set next nodes (leaf entry) has_length have fits is_tree = sym (append-nil nodes)
+joins_are bounds n set next nodes (node left right) has_length have fits is_tree =
     let whole : leaf_set left + leaf_set right ≡ set = split_sum set (leaf_set left) (leaf_set right) is_tree.0 in
     let of_left = joins_from bounds next left in
     let of_right = joins_from bounds (next + inner_count left) right in
@@ -149,20 +149,20 @@ joins_are bounds n set next nodes (node left right) long have fits is_tree =
     } in
     let second : List (List ℕ) = with_tree nodes left in
     let third : List (List ℕ) = with_tree second right in
-    let long_second : length second ≡ next + inner_count left = omega (arith, long, length-with_tree nodes left) in
+    let second_has_length : length second ≡ next + inner_count left = omega (arith, has_length, length-with_tree nodes left) in
     let have_second : HaveLeaves n second = more_leaves n nodes (map leaves (subtrees left)) have in
     let both : with_joins nodes (of_left ++ of_right) ≡ third =
     joins_both nodes of_left of_right
     ∙ ap (λ (s : List (List ℕ)). with_joins s of_right)
-    (joins_are bounds n (leaf_set left) next nodes left long have (omega arith) is_tree.1)
-    ∙ joins_are bounds n (leaf_set right) (next + inner_count left) second right long_second have_second (omega arith) is_tree.2 in
+    (joins_are bounds n (leaf_set left) next nodes left has_length have (omega arith) is_tree.1)
+    ∙ joins_are bounds n (leaf_set right) (next + inner_count left) second right second_has_length have_second (omega arith) is_tree.2 in
     let left_side : at third own.left ≡ leaves left =
     root_later nodes (map leaves (subtrees right)) next left
-    (root_stands n (leaf_set left) next nodes left long have (omega arith) is_tree.1) in
+    (root_stands n (leaf_set left) next nodes left has_length have (omega arith) is_tree.1) in
     let right_side : at third own.right ≡ leaves right =
-    (root_stands n (leaf_set right) (next + inner_count left) second right long_second have_second (omega arith) is_tree.2).entries in
+    (root_stands n (leaf_set right) (next + inner_count left) second right second_has_length have_second (omega arith) is_tree.2).entries in
     joins_more nodes (of_left ++ of_right) own
     ∙ ap (λ (s : List (List ℕ)). s ++ sides s own ∷ []) both
     ∙ ap (λ (s : List ℕ). third ++ (s ++ at third own.right) ∷ []) left_side
     ∙ ap (λ (s : List ℕ). third ++ (leaves left ++ s) ∷ []) right_side
-    ∙ last_stands nodes left right
+    ∙ last_node_is_root nodes left right

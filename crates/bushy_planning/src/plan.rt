@@ -2,13 +2,13 @@
 ghost use Rattle.std.specs.Prelude.{◌≡◌, ◌⊎◌, ◌^◌, ◌≤◌, Err, length};
 ghost use Rattle.limits.specs.Profile.{greatest_budget, most_entries};
 ghost use Rattle.order_search.specs.declared.refusal.PlanError.TheVariants as error;
-ghost use Rattle.tree_answers.specs.TreeAnswer.{tree_answer};
+ghost use Rattle.plan_answers.specs.TreeAnswer.{tree_answer};
 
 use bushy_plan::choose_bushy;
 use order_search::PlanError;
 use planning::QueryBounds;
+use plans::BushyPlan;
 use std::alloc::Global;
-use tree_plans::BushyPlan;
 
 /// Finds the join tree that is best by the bounds in `known`. The plan has a bound in rows for each scan and each inner node.
 ///

@@ -1,4 +1,4 @@
--- The code reads the columns of a pair from cells. It reads the kind and the cells of each column, so it makes the statistics of these columns.
+-- The kinds and cells that the code reads are those of the pair's columns, so it makes their statistics.
 use Rattle.std.proofs.Common.{◌≡◌, ℕ, List, [], length, Some, refl, ap, sym, ◌∙◌, subst, arith}
 use Rattle.std.specs.Prelude.{slice_get}
 use Rattle.std.specs.List.{All, zip}
@@ -18,18 +18,18 @@ use Rattle.column_stats.specs.Nodes.{node_lists}
 use Rattle.column_stats.specs.Stats.{frequent_lists, stats_of}
 use Rattle.column_stats.specs.Pairs.{HasColumn, cells_of_column, kind_of_column, rows_of_pair}
 
-module _ (texts : List (List ℕ)) (cells : Cells) (column : ℕ) (has : HasColumn texts cells column) where
+module _ (texts : List (List ℕ)) (cells : Cells) (column : ℕ) (column_exists : HasColumn texts cells column) where
   pub kind_read : (k : Kind) → slice_get cells.kinds column ≡ Some k → kind_of_column cells column ≡ k
   kind_read k at = get_or_from_slice_get cells.kinds column k kind.Int at
 
   pub cells_read : (items read : List ℕ) → slice_get cells.columns column ≡ Some items → read ≡ items → read ≡ cells_of_column cells column
   cells_read items read there same = same ∙ sym (get_or_from_slice_get cells.columns column items [] there)
 
-  pub height_read : (read : List ℕ) → read ≡ cells_of_column cells column → length read ≡ cells.rows
-  height_read read is = ap (λ (s : List ℕ). length s) is ∙ has.are_cells.height
+  pub length_read : (read : List ℕ) → read ≡ cells_of_column cells column → length read ≡ cells.rows
+  length_read read is = ap (λ (s : List ℕ). length s) is ∙ column_exists.are_cells.height
 
   pub are_read : (k : Kind) (read : List ℕ) → kind_of_column cells column ≡ k → read ≡ cells_of_column cells column → All (IsCell texts k) read
-  are_read k read kind_is is = subst (λ (s : List ℕ). All (IsCell texts k) s) (sym is) (subst (λ (x : Kind). All (IsCell texts x) (cells_of_column cells column)) kind_is has.are_cells.cells)
+  are_read k read kind_is is = subst (λ (s : List ℕ). All (IsCell texts k) s) (sym is) (subst (λ (x : Kind). All (IsCell texts x) (cells_of_column cells column)) kind_is column_exists.are_cells.cells)
 
 module _ (texts : List (List ℕ)) (cells : Cells) (filter joined : ℕ) (has_filter : HasColumn texts cells filter) (has_joined : HasColumn texts cells joined) where
   pub rows_are : length (rows_of_pair cells filter joined) ≡ cells.rows

@@ -1,5 +1,5 @@
--- The statistics keep one list for each frequent value, and these values are different. For any value they give the list that cond_stats makes on
--- demand.
+-- The statistics keep one list for each frequent value, and these values are different. For any value the statistics give the list that cond_stats
+-- makes on demand.
 use Rattle.std.proofs.Common.{◌≡◌, ℕ, ◌≤◌, Bool, true, false, eqb, List, [], ◌∷◌, map, length, take, Option, None, Some, refl, ap, sym, ◌∙◌, inl, inr}
 use Rattle.std.specs.Prelude.{find}
 use Rattle.std.specs.List.{AllByRecursion, IsDistinct, list_any, zip}
@@ -17,7 +17,7 @@ use Rattle.cond_stats.specs.Frequency.{by_frequency, comes_before, frequent}
 use Rattle.cond_stats.specs.Leaves.{put_in_order, in_order}
 use Rattle.cond_stats.specs.Lists.{compressed_degrees, is_frequent, keys_with, list_of_value, rest}
 use Rattle.cond_stats.specs.Rows.{filter_values}
-use Rattle.cond_stats.proofs.ValueLists.{of_frequent, of_none, of_others}
+use Rattle.cond_stats.proofs.ValueLists.{list_of_frequent_value, list_without_cell, list_of_other_value}
 use Rattle.cond_stats.proofs.Sorting.{all-put, all-in_order}
 use Rattle.column_stats.specs.declared.stats.FrequentList.{FrequentList}
 use Rattle.column_stats.specs.Stats.{frequent_list, frequent_lists, list_for_value, stats_of}
@@ -51,25 +51,25 @@ module _ (k : ℕ) (rows : List (ℕ × ℕ)) (v : ℕ) (other : List ℕ) where
   abbrev answer_of : List ℕ → List ℕ
   answer_of values = option_map_or (λ (found : FrequentList). found.list) (find (λ (found : FrequentList). eqb found.cell v) (map (frequent_list k rows) values)) other
 
-  among : (values : List ℕ) → list_any (λ w. eqb w v) values ≡ true → answer_of values ≡ compressed_degrees k (keys_with v rows)
-  among [] h = absurd (false≢true h)
-  among (w ∷ ws) h = elim (cases_Bool (eqb w v)) [
+  found_list : (values : List ℕ) → list_any (λ w. eqb w v) values ≡ true → answer_of values ≡ compressed_degrees k (keys_with v rows)
+  found_list [] h = absurd (false≢true h)
+  found_list (w ∷ ws) h = elim (cases_Bool (eqb w v)) [
     | inl e ↦ rw e (ap (λ x. compressed_degrees k (keys_with x rows)) (eqb-true w v e))
-    | inr e ↦ (let there : list_any (λ x. eqb x v) ws ≡ true = rw e at h in rw e (among ws there))
+    | inr e ↦ (let there : list_any (λ x. eqb x v) ws ≡ true = rw e at h in rw e (found_list ws there))
   ]
 
-  missing : (values : List ℕ) → list_any (λ w. eqb w v) values ≡ false → answer_of values ≡ other
-  missing [] h = refl
-  missing (w ∷ ws) h = elim (cases_Bool (eqb w v)) [
+  rest_if_missing : (values : List ℕ) → list_any (λ w. eqb w v) values ≡ false → answer_of values ≡ other
+  rest_if_missing [] h = refl
+  rest_if_missing (w ∷ ws) h = elim (cases_Bool (eqb w v)) [
     | inl e ↦ absurd (false≢true (sym (rw e at h)))
-    | inr e ↦ (let there : list_any (λ x. eqb x v) ws ≡ false = rw e at h in rw e (missing ws there))
+    | inr e ↦ (let there : list_any (λ x. eqb x v) ws ≡ false = rw e at h in rw e (rest_if_missing ws there))
   ]
 
 pub value_is : (texts : List (List ℕ)) (kind : Kind) (k : ℕ) (rows : List (ℕ × ℕ)) (cell : Option ℕ) → list_for_value (stats_of texts kind k rows) cell ≡ list_of_value k rows cell
-value_is texts kind k rows None = sym (of_none k rows)
+value_is texts kind k rows None = sym (list_without_cell k rows)
 value_is texts kind k rows (Some v) = elim (cases_Bool (is_frequent rows v)) [
-  | inl e ↦ among k rows v (rest k rows) (frequent (filter_values rows)) e ∙ sym (of_frequent k rows v e)
-  | inr e ↦ missing k rows v (rest k rows) (frequent (filter_values rows)) e ∙ sym (of_others k rows v e)
+  | inl e ↦ found_list k rows v (rest k rows) (frequent (filter_values rows)) e ∙ sym (list_of_frequent_value k rows v e)
+  | inr e ↦ rest_if_missing k rows v (rest k rows) (frequent (filter_values rows)) e ∙ sym (list_of_other_value k rows v e)
 ]
 
 -- ---- how the lists are gathered
@@ -80,10 +80,10 @@ on_demand k rows v = record { cell = v; list = list_of_value k rows (Some v) }
 same_lists : (k : ℕ) (rows : List (ℕ × ℕ)) (values : List ℕ) → AllByRecursion (λ v. is_frequent rows v ≡ true) values
     → map (on_demand k rows) values ≡ map (frequent_list k rows) values
 same_lists k rows [] h = refl
-same_lists k rows (v ∷ vs) h = rw (of_frequent k rows v h.0, same_lists k rows vs h.1) refl
+same_lists k rows (v ∷ vs) h = rw (list_of_frequent_value k rows v h.0, same_lists k rows vs h.1) refl
 
-all_any : (values : List ℕ) → AllByRecursion (λ w. list_any (λ x. eqb x w) values ≡ true) values
-all_any values = each values (λ w h. h)
+each_is_among : (values : List ℕ) → AllByRecursion (λ w. list_any (λ x. eqb x w) values ≡ true) values
+each_is_among values = each values (λ w h. h)
   where
     each : (vs : List ℕ) → ((w : ℕ) → list_any (λ x. eqb x w) vs ≡ true → list_any (λ x. eqb x w) values ≡ true) → AllByRecursion (λ w. list_any (λ x. eqb x w) values ≡ true) vs
     each [] inside = tt
@@ -91,7 +91,7 @@ all_any values = each values (λ w h. h)
 
 pub gathered_lists : (k : ℕ) (rows : List (ℕ × ℕ))
     → map (on_demand k rows) (frequent (filter_values rows)) ≡ frequent_lists k rows
-gathered_lists k rows = same_lists k rows (frequent (filter_values rows)) (all_any (frequent (filter_values rows)))
+gathered_lists k rows = same_lists k rows (frequent (filter_values rows)) (each_is_among (frequent (filter_values rows)))
 
 pub all_lists : (k : ℕ) (column joined items : List ℕ) (i : ℕ) → length joined ≡ length column → length items ≤ i → items ≡ frequent column
     → map (on_demand k (zip column joined)) (take i items) ≡ frequent_lists k (zip column joined)

@@ -1,4 +1,4 @@
--- These lemmas say which lists the statistics give for values and ranges, and which keys these lists dominate.
+-- Which lists the statistics give for values and ranges, and which keys these lists dominate.
 use Rattle.std.proofs.Common.{◌≡◌, ℕ, ◌<◌, ◌≤◌, Bool, eqb, leb, List, [], ◌∷◌, length, Option, None, Some, refl, ap, sym, subst, arith, inl, inr}
 use Rattle.std.specs.Prelude.{◌&&◌, IfSome, unwrap_or}
 use Rattle.std.specs.List.{IsDistinct}
@@ -18,31 +18,31 @@ use Rattle.cond_stats.proofs.Ranges.{leaves_dominate}
 use Rattle.column_stats.specs.declared.stats.ColumnStats.{ColumnStats}
 use Rattle.column_stats.specs.Stats.{AreOfNoRows, AreOfRows, IsValid, leaf_by_cuts, list_for_node, list_for_range, list_for_value, stats_of}
 use Rattle.column_stats.proofs.FrequentLists.{IsDistinct-frequent, value_is, values-of_lists}
-use Rattle.column_stats.proofs.NodeLists.{node_is, node_size-is, nodes_many}
+use Rattle.column_stats.proofs.NodeLists.{node_is, node_size-is, node_count}
 
 pub leaf_below : (texts : List (List ℕ)) (stats : ColumnStats) (value : Value) → IsValid stats → leaf_by_cuts texts stats value < 32
 leaf_below texts stats value valid =
-    let few : length stats.cuts ≤ 32 = elim valid.parts [ inl none ↦ omega (arith, ap (λ (s : List ℕ). length s) none.cuts_are) | inr some ↦ omega (arith, some.cuts_many) ] in
+    let few : length stats.cuts ≤ 32 = elim valid.parts [ inl none ↦ omega (arith, ap (λ (s : List ℕ). length s) none.cuts_are) | inr some ↦ omega (arith, some.cut_count) ] in
     omega (arith, last_place-within (λ cut. value_le (value_of_cell texts stats.kind cut) value) stats.cuts 31 few)
 
 module _ (texts : List (List ℕ)) (kind : Kind) (k : ℕ) where
   abbrev at_most : ℕ → ℕ → Bool
   at_most = cell_le texts kind
 
-  -- `of_none` is about statistics of no rows, and `of_some` about statistics of one or more rows
-  of_none : AreOfNoRows (stats_of texts kind k [])
+  -- `valid_without_rows` is about statistics of no rows, and `valid_with_rows` about statistics of one or more rows
+  valid_without_rows : AreOfNoRows (stats_of texts kind k [])
   unfolding rest cuts
-  of_none = record { no_rows = refl; whole_is = refl; rest_is = refl; frequent_are = λ i x h. absurd (omega arith); cuts_are = refl; nodes_are = refl }
+  valid_without_rows = record { no_rows = refl; whole_is = refl; rest_is = refl; frequent_are = λ i x h. absurd (omega arith); cuts_are = refl; nodes_are = refl }
 
-  of_some : (row : ℕ × ℕ) (rows : List (ℕ × ℕ)) → AreOfRows (stats_of texts kind k (row ∷ rows))
+  valid_with_rows : (row : ℕ × ℕ) (rows : List (ℕ × ℕ)) → AreOfRows (stats_of texts kind k (row ∷ rows))
   unfolding cuts
-  of_some row rows = record { some_rows = omega arith; cuts_many = refl; nodes_many = nodes_many at_most k row rows }
+  valid_with_rows row rows = record { some_rows = omega arith; cut_count = refl; node_count = node_count at_most k row rows }
 
   pub valid : (rows : List (ℕ × ℕ)) → IsValid (stats_of texts kind k rows)
-  valid [] = record { different = subst (IsDistinct eqb) (sym (values-of_lists k [] (frequent []))) (IsDistinct-frequent []); parts = inl of_none }
+  valid [] = record { different = subst (IsDistinct eqb) (sym (values-of_lists k [] (frequent []))) (IsDistinct-frequent []); parts = inl valid_without_rows }
   valid (row ∷ rows) = record {
     different = subst (IsDistinct eqb) (sym (values-of_lists k (row ∷ rows) (frequent (filter_values (row ∷ rows))))) (IsDistinct-frequent (filter_values (row ∷ rows)));
-    parts = inr (of_some row rows);
+    parts = inr (valid_with_rows row rows);
   }
 
   -- the list that the statistics give for a range is the list that cond_stats makes for it on demand

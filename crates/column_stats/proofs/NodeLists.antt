@@ -1,5 +1,5 @@
--- The lists of all nodes are in one list. First come the lists of the 32 nodes of one leaf, then those of the 16 nodes of two leaves, and so on.
--- The lemmas say at which index the list of a node is.
+-- At which index the list of a node is among the lists of all nodes. First come the lists of the 32 nodes of one leaf, then the lists of the 16 nodes
+-- of two leaves, and so on.
 use Rattle.std.proofs.Common.{◌≡◌, ℕ, zero, suc, ◌+◌, ◌*◌, ◌/◌, ◌<◌, ◌≤◌, Bool, false, cond, eqb, List, [], ◌∷◌, ◌++◌, map, length, length-append, append_assoc, take, get_or, None, Some, refl, ap, sym, ◌∙◌, subst, arith}
 use Rattle.std.specs.Prelude.{find, unwrap_or}
 use Rattle.std.specs.List.{flat_map, range_with_len, zip}
@@ -37,28 +37,28 @@ node_size-is low high = sizes (λ size. eqb (low / size) (high / size))
         (λ e. (3, omega arith, refl))
         (λ e. cond_both (p 16) (Some 16) None (λ o. IsNodeSize (unwrap_or o 32)) (λ e. (4, omega arith, refl)) (λ e. (5, omega arith, refl))))))
 
-module _ (F : ℕ → List (List ℕ)) (many : (size : ℕ) → length (F size) ≡ 32 / size) where
+module _ (F : ℕ → List (List ℕ)) (size_counts : (size : ℕ) → length (F size) ≡ 32 / size) where
   at : (i before j : ℕ) → i < 6 → length (flat_map F (take i node_sizes)) ≡ before → j < length (F (get_or node_sizes i 0))
       → get_or (flat_map F node_sizes) (before + j) [] ≡ get_or (F (get_or node_sizes i 0)) j []
   at i before j h is low = ap (λ n. get_or (flat_map F node_sizes) (n + j) []) (sym is) ∙ get_or-flat_map F node_sizes i j 0 [] h low
 
-  pub pieces_many : length (flat_map F node_sizes) ≡ 63
-  pieces_many = simp length-append (omega (arith, many 1, many 2, many 4, many 8, many 16, many 32))
+  pub node_list_count : length (flat_map F node_sizes) ≡ 63
+  node_list_count = simp length-append (omega (arith, size_counts 1, size_counts 2, size_counts 4, size_counts 8, size_counts 16, size_counts 32))
 
-  pub piece_at : (leaf : ℕ) → leaf < 32 → (size : ℕ) → IsNodeSize size → get_or (flat_map F node_sizes) (node_place size leaf) [] ≡ get_or (F size) (leaf / size) []
-  piece_at leaf low = each_size (λ size. get_or (flat_map F node_sizes) (node_place size leaf) [] ≡ get_or (F size) (leaf / size) [])
-      (at 0 0 (leaf / 1) (omega arith) refl (omega (arith, many 1)))
-      (at 1 32 (leaf / 2) (omega arith) (simp length-append (omega (arith, many 1))) (omega (arith, many 2)))
-      (at 2 48 (leaf / 4) (omega arith) (simp length-append (omega (arith, many 1, many 2))) (omega (arith, many 4)))
-      (at 3 56 (leaf / 8) (omega arith) (simp length-append (omega (arith, many 1, many 2, many 4))) (omega (arith, many 8)))
-      (at 4 60 (leaf / 16) (omega arith) (simp length-append (omega (arith, many 1, many 2, many 4, many 8))) (omega (arith, many 16)))
-      (at 5 62 (leaf / 32) (omega arith) (simp length-append (omega (arith, many 1, many 2, many 4, many 8, many 16))) (omega (arith, many 32)))
+  pub node_list_at : (leaf : ℕ) → leaf < 32 → (size : ℕ) → IsNodeSize size → get_or (flat_map F node_sizes) (node_place size leaf) [] ≡ get_or (F size) (leaf / size) []
+  node_list_at leaf low = each_size (λ size. get_or (flat_map F node_sizes) (node_place size leaf) [] ≡ get_or (F size) (leaf / size) [])
+      (at 0 0 (leaf / 1) (omega arith) refl (omega (arith, size_counts 1)))
+      (at 1 32 (leaf / 2) (omega arith) (simp length-append (omega (arith, size_counts 1))) (omega (arith, size_counts 2)))
+      (at 2 48 (leaf / 4) (omega arith) (simp length-append (omega (arith, size_counts 1, size_counts 2))) (omega (arith, size_counts 4)))
+      (at 3 56 (leaf / 8) (omega arith) (simp length-append (omega (arith, size_counts 1, size_counts 2, size_counts 4))) (omega (arith, size_counts 8)))
+      (at 4 60 (leaf / 16) (omega arith) (simp length-append (omega (arith, size_counts 1, size_counts 2, size_counts 4, size_counts 8))) (omega (arith, size_counts 16)))
+      (at 5 62 (leaf / 32) (omega arith) (simp length-append (omega (arith, size_counts 1, size_counts 2, size_counts 4, size_counts 8, size_counts 16))) (omega (arith, size_counts 32)))
 
 module _ (at_most : ℕ → ℕ → Bool) (k : ℕ) where
   -- a node may be given by any of its leaves, so its first leaf gives the same list
-  pub by_first : (rows : List (ℕ × ℕ)) (size leaf : ℕ) → 0 < size → list_of_node at_most k rows size (size * (leaf / size)) ≡ list_of_node at_most k rows size leaf
+  pub by_first_leaf : (rows : List (ℕ × ℕ)) (size leaf : ℕ) → 0 < size → list_of_node at_most k rows size (size * (leaf / size)) ≡ list_of_node at_most k rows size leaf
   unfolding list_of_node
-  by_first rows size leaf some = ap (λ n. list_where k (λ value. eqb (leaf_of at_most (filter_values rows) value / size) n) rows) (mul-div_cancel_left (leaf / size) some)
+  by_first_leaf rows size leaf some = ap (λ n. list_where k (λ value. eqb (leaf_of at_most (filter_values rows) value / size) n) rows) (mul-div_cancel_left (leaf / size) some)
 
   pub list_of_no_rows : (size leaf : ℕ) → list_of_node at_most k [] size leaf ≡ []
   unfolding list_of_node
@@ -69,19 +69,19 @@ module _ (at_most : ℕ → ℕ → Bool) (k : ℕ) where
   node_is (row ∷ rows) size leaf is low =
       let some : 0 < size = each_size (λ s. 0 < s) (omega arith) (omega arith) (omega arith) (omega arith) (omega arith) (omega arith) size is in
       let within : leaf / size < 32 / size = each_size (λ s. leaf / s < 32 / s) (omega arith) (omega arith) (omega arith) (omega arith) (omega arith) (omega arith) size is in
-      piece_at (lists_of_size at_most k (row ∷ rows)) (λ s. length-map-range_with_len (λ i. list_of_node at_most k (row ∷ rows) s (s * i)) 0 (32 / s)) leaf low size is
+      node_list_at (lists_of_size at_most k (row ∷ rows)) (λ s. length-map-range_with_len (λ i. list_of_node at_most k (row ∷ rows) s (s * i)) 0 (32 / s)) leaf low size is
       ∙ get_or-map-range_with_len (λ i. list_of_node at_most k (row ∷ rows) size (size * i)) 0 (32 / size) (leaf / size) (leaf / size) [] within (omega arith)
-      ∙ by_first (row ∷ rows) size leaf some
+      ∙ by_first_leaf (row ∷ rows) size leaf some
 
-  pub nodes_many : (row : ℕ × ℕ) (rows : List (ℕ × ℕ)) → length (node_lists at_most k (row ∷ rows)) ≡ 63
-  nodes_many row rows = pieces_many (lists_of_size at_most k (row ∷ rows)) (λ s. length-map-range_with_len (λ i. list_of_node at_most k (row ∷ rows) s (s * i)) 0 (32 / s))
+  pub node_count : (row : ℕ × ℕ) (rows : List (ℕ × ℕ)) → length (node_lists at_most k (row ∷ rows)) ≡ 63
+  node_count row rows = node_list_count (lists_of_size at_most k (row ∷ rows)) (λ s. length-map-range_with_len (λ i. list_of_node at_most k (row ∷ rows) s (s * i)) 0 (32 / s))
 
-  pub some_nodes : (column joined : List ℕ) → length joined ≡ length column → eqb (length joined) 0 ≡ false
+  pub nodes_if_rows : (column joined : List ℕ) → length joined ≡ length column → eqb (length joined) 0 ≡ false
       → flat_map (lists_of_size at_most k (zip column joined)) node_sizes ≡ node_lists at_most k (zip column joined)
-  some_nodes [] [] same some = absurd (true≢false some)
-  some_nodes [] (key ∷ keys) same some = absurd (omega arith)
-  some_nodes (v ∷ vs) [] same some = absurd (omega arith)
-  some_nodes (v ∷ vs) (key ∷ keys) same some = refl
+  nodes_if_rows [] [] same some = absurd (true≢false some)
+  nodes_if_rows [] (key ∷ keys) same some = absurd (omega arith)
+  nodes_if_rows (v ∷ vs) [] same some = absurd (omega arith)
+  nodes_if_rows (v ∷ vs) (key ∷ keys) same some = refl
 
 -- ---- how the lists are gathered
 

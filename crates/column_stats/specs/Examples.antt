@@ -6,9 +6,9 @@ use Rattle.column_stats.specs.declared.stats.ColumnStats.{ColumnStats}
 use Rattle.column_stats.specs.Stats.{stats_of}
 
 -- the statistics of a column of numbers at accuracy 1, with itself as the joined column
-abbrev pub of_itself : List ℕ → ColumnStats
-of_itself column = stats_of [] kind.Int 1 (zip column column)
+abbrev pub stats_with_itself : List ℕ → ColumnStats
+stats_with_itself column = stats_of [] kind.Int 1 (zip column column)
 
 -- the statistics of the column 1, 1, 1, 2, 2, 3
-abbrev pub of_six : ColumnStats
-of_six = of_itself (1 ∷ 1 ∷ 1 ∷ 2 ∷ 2 ∷ 3 ∷ [])
+abbrev pub stats_of_six : ColumnStats
+stats_of_six = stats_with_itself (1 ∷ 1 ∷ 1 ∷ 2 ∷ 2 ∷ 3 ∷ [])

@@ -1,5 +1,5 @@
 -- What statistics of rows promise. They give the lists that cond_stats makes on demand. Each list dominates the joined keys of the
--- rows that it is a list of. A row is a filter value and a joined key. `at_most` says how values compare.
+-- rows that it is for. A row is a filter value and a joined key. `at_most` says how values compare.
 use Rattle.std.specs.Prelude.{ℕ, ◌≡◌, ◌<◌, ◌&&◌, nat_le, Bool, List, Option, Some, IfSome}
 use Rattle.degree_sequences.specs.Domination.{DominatesKeys}
 use Rattle.cond_stats.specs.Leaves.{IsNodeSize, in_node, leaf_of}

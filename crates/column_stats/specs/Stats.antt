@@ -65,8 +65,8 @@ pub record AreOfNoRows (stats : ColumnStats) : Type 0 where
 -- statistics of one or more rows: there are 32 cuts and 63 nodes
 pub record AreOfRows (stats : ColumnStats) : Type 0 where
   pub some_rows : 0 < stats.rows
-  pub cuts_many : length stats.cuts ≡ 32
-  pub nodes_many : length stats.nodes ≡ 63
+  pub cut_count : length stats.cuts ≡ 32
+  pub node_count : length stats.nodes ≡ 63
 
 -- The frequent values are different. The other parts satisfy `AreOfNoRows` or `AreOfRows`
 pub record IsValid (stats : ColumnStats) : Type 0 where

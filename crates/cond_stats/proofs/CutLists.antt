@@ -1,28 +1,28 @@
--- The code cuts a list in descending order element by element, so that it sums to at most a number (`cut_at`). It raises a list to another one rank
--- by rank (`rank_maximum`). The lemmas are about the steps of both loops.
+-- Steps of two loops. One caps the sum of a descending list, element by element (`capped_at`). The other raises a list to another list, rank by rank
+-- (`rank_maximum`).
 use Rattle.std.proofs.Common.{◌≡◌, ℕ, zero, suc, ◌+◌, ◌-◌, ◌<◌, ◌≤◌, max, min, List, [], ◌∷◌, ◌++◌, length, get_or, set, take, length-take, refl, ap, sym, ◌∙◌, arith, inl, inr}
 use Rattle.std.specs.List.{AllByRecursion}
 use Rattle.std.proofs.lemmas.Bool.{cases_lt}
 use Rattle.std.proofs.lemmas.List.{length_push, take_more}
 use Rattle.degree_sequences.specs.ByRank.{rank_maximum}
 use Rattle.degree_sequences.specs.Descending.{IsDescending}
-use Rattle.degree_sequences.specs.RunningSums.{running_sum, cut_at}
-use Rattle.degree_sequences.proofs.FallingLists.{same_by_sums, falls_to}
-use Rattle.degree_sequences.proofs.Minima.{running_sum-cut_at}
+use Rattle.degree_sequences.specs.RunningSums.{running_sum, capped_at}
+use Rattle.degree_sequences.proofs.FallingLists.{same_by_sums, descends_to}
+use Rattle.degree_sequences.proofs.Minima.{running_sum-capped_at}
 use Rattle.degree_sequences.proofs.RunningSums.{running_sum-mono, running_sum-past, running_sum-suc}
-use Rattle.piece_math.proofs.Cutting.{positive-cut_at}
+use Rattle.piece_math.proofs.Cutting.{positive-capped_at}
 
--- `list` has the first i elements of the cut list, and `left` is what is left of the number `most`
-pub record IsCutTo (falling : List ℕ) (most : ℕ) (i left : ℕ) (list : List ℕ) : Type 0 where
+-- `list` has the first i elements of the capped list, and `left` is what is left of the number `most`
+pub record IsCappedSoFar (falling : List ℕ) (most : ℕ) (i left : ℕ) (list : List ℕ) : Type 0 where
   pub long : length list ≡ i
   pub sums : (r : ℕ) → r ≤ i → running_sum list r ≡ min (running_sum falling r) most
   pub positive : AllByRecursion (λ x. 0 < x) list
   pub left_over : left + running_sum list i ≡ most
 
-pub cut_to_nothing : (falling : List ℕ) (most : ℕ) → IsCutTo falling most 0 most []
-cut_to_nothing falling most = record {
+pub capped_none_yet : (falling : List ℕ) (most : ℕ) → IsCappedSoFar falling most 0 most []
+capped_none_yet falling most = record {
   long = refl;
-  sums = λ r low. (let none : r ≡ 0 = omega arith in rw none (omega arith));
+  sums = λ r is_below. (let none : r ≡ 0 = omega arith in rw none (omega arith));
   positive = tt;
   left_over = omega arith;
 }
@@ -40,15 +40,15 @@ positive-push : (s : List ℕ) (x : ℕ) → AllByRecursion (λ y. 0 < y) s → 
 positive-push [] x all some = (some, tt)
 positive-push (y ∷ s) x all some = (all.0, positive-push s x all.1 some)
 
-pub cut_one_more : (falling : List ℕ) (most i left taken : ℕ) (list : List ℕ) → IsCutTo falling most i left list → taken ≡ min left (get_or falling i 0) → 0 < taken
-    → IsCutTo falling most (i + 1) (left - taken) (list ++ taken ∷ [])
-cut_one_more falling most i left taken list to is some =
+pub cap_step : (falling : List ℕ) (most i left taken : ℕ) (list : List ℕ) → IsCappedSoFar falling most i left list → taken ≡ min left (get_or falling i 0) → 0 < taken
+    → IsCappedSoFar falling most (i + 1) (left - taken) (list ++ taken ∷ [])
+cap_step falling most i left taken list to is some =
     let next : suc i ≡ i + 1 = omega arith in
     let last : running_sum (list ++ taken ∷ []) (i + 1) ≡ running_sum list i + taken =
     (let place : i + 1 ≡ suc (length list) = omega (arith, to.long) in ap (running_sum (list ++ taken ∷ [])) place) ∙ running_sum-push list taken ∙ ap (λ m. running_sum list m + taken) to.long in
     record {
       long = length_push list taken ∙ ap (λ n. n + 1) to.long;
-      sums = λ r low. elim (cases_lt i r) [
+      sums = λ r is_below. elim (cases_lt i r) [
         | inl h ↦ (let at : r ≡ i + 1 = omega arith in
             let up : running_sum falling (i + 1) ≡ running_sum falling i + get_or falling i 0 = ap (running_sum falling) (sym next) ∙ running_sum-suc falling i in
             rw at (omega (arith, last, up, to.sums i (omega arith), to.left_over, is)))
@@ -58,18 +58,18 @@ cut_one_more falling most i left taken list to is some =
       left_over = omega (arith, last, to.left_over, is);
     }
 
-pub cut_whole : (falling : List ℕ) (most i left : ℕ) (list : List ℕ) → IsDescending falling → IsCutTo falling most i left list → min left (get_or falling i 0) ≡ 0
-    → list ≡ cut_at falling most
-cut_whole falling most i left list falls to nothing =
-    same_by_sums list (cut_at falling most) to.positive (positive-cut_at falling most falls)
-    (λ r. whole r ∙ sym (running_sum-cut_at falling most r))
+pub cap_done : (falling : List ℕ) (most i left : ℕ) (list : List ℕ) → IsDescending falling → IsCappedSoFar falling most i left list → min left (get_or falling i 0) ≡ 0
+    → list ≡ capped_at falling most
+cap_done falling most i left list falls to nothing =
+    same_by_sums list (capped_at falling most) to.positive (positive-capped_at falling most falls)
+    (λ r. whole r ∙ sym (running_sum-capped_at falling most r))
   where
     flat : (n : ℕ) → get_or falling i 0 ≡ 0 → running_sum falling (i + n) ≡ running_sum falling i
     flat zero none = (let place : i + 0 ≡ i = omega arith in ap (running_sum falling) place)
     flat (suc n) none =
         let up : running_sum falling (i + suc n) ≡ running_sum falling (i + n) + get_or falling (i + n) 0 =
         (let place : i + suc n ≡ suc (i + n) = omega arith in ap (running_sum falling) place) ∙ running_sum-suc falling (i + n) in
-        omega (arith, up, flat n none, falls_to falling falls i (i + n) (omega arith), none)
+        omega (arith, up, flat n none, descends_to falling falls i (i + n) (omega arith), none)
 
     stays : (r : ℕ) → i ≤ r → min (running_sum falling i) most ≡ min (running_sum falling r) most
     stays r over = elim (cases_lt 0 left) [

@@ -6,11 +6,11 @@ use Rattle.std.proofs.lemmas.List.Sums.{count_by-le-length}
 use Rattle.degree_sequences.specs.Compression.{compressed}
 use Rattle.degree_sequences.specs.Degrees.{degree, degree_list}
 use Rattle.degree_sequences.specs.Domination.{DominatesKeys}
-use Rattle.degree_sequences.specs.RunningSums.{running_sum, cut_at}
+use Rattle.degree_sequences.specs.RunningSums.{running_sum, capped_at}
 use Rattle.degree_sequences.proofs.CompressedLists.{compressed_dominates, compressed-above}
 use Rattle.degree_sequences.proofs.Counting.{is_in}
 use Rattle.degree_sequences.proofs.DegreeLists.{degree_list_dominates, IsDescending-degree_list, sum-degree_list}
-use Rattle.degree_sequences.proofs.Minima.{running_sum-cut_at, IsDescending-cut_at}
+use Rattle.degree_sequences.proofs.Minima.{running_sum-capped_at, IsDescending-capped_at}
 use Rattle.degree_sequences.proofs.RunningSums.{running_sum-le-sum}
 use Rattle.cond_stats.specs.Frequency.{remaining}
 use Rattle.cond_stats.specs.Lists.{maxima, greatest, keys_with, is_frequent, rest, list_of_value, list_where, compressed_degrees}
@@ -19,7 +19,7 @@ use Rattle.cond_stats.proofs.Maxima.{above_by_rank, maxima-above, greatest-above
 use Rattle.cond_stats.proofs.Members.{frequent_or_remaining, length-keys_where, count_by-weaker}
 
 abbrev pub uncompressed_rest : List (ℕ × ℕ) → List ℕ
-uncompressed_rest rows = cut_at (maxima (map (λ value. degree_list (keys_with value rows)) (remaining (filter_values rows))))
+uncompressed_rest rows = capped_at (maxima (map (λ value. degree_list (keys_with value rows)) (remaining (filter_values rows))))
     (greatest (map (degree (filter_values rows)) (remaining (filter_values rows))))
 
 pub rest-is : (k : ℕ) (rows : List (ℕ × ℕ)) → rest k rows ≡ compressed k (uncompressed_rest rows)
@@ -37,7 +37,7 @@ uncompressed_above rows v inside r =
     let vs : List ℕ = remaining column in
     omega (
       arith,
-      running_sum-cut_at (maxima (map f vs)) (greatest (map (degree column) vs)) r,
+      running_sum-capped_at (maxima (map f vs)) (greatest (map (degree column) vs)) r,
       above_by_rank (maxima (map f vs)) (f v) (maxima-above f vs v inside) r,
       running_sum-le-sum (f v) r,
       sum-degree_list (keys_with v rows),
@@ -58,7 +58,7 @@ rest_dominates k rows v not_frequent A apart =
             degree_list_dominates keys A apart,
             uncompressed_above rows v inside (length A),
             compressed-above k (uncompressed_rest rows)
-                (IsDescending-cut_at (maxima (map f (remaining (filter_values rows)))) (greatest (map (degree (filter_values rows)) (remaining (filter_values rows))))
+                (IsDescending-capped_at (maxima (map f (remaining (filter_values rows)))) (greatest (map (degree (filter_values rows)) (remaining (filter_values rows))))
                 (IsDescending-maxima f (λ w. IsDescending-degree_list (keys_with w rows)) (remaining (filter_values rows)))) (length A),
           ))
       | inr none ↦ omega (arith, count_by-le-length (λ key. list_any (λ a. eqb key a) A) keys, keys_with-count rows v)

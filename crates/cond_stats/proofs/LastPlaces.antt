@@ -1,4 +1,4 @@
--- `last_place` finds the index of the last element of a list that passes a test. The leaf of a value is found so among the cuts.
+-- `last_place` finds the index of the last element that passes a test. So the leaf of a value is found among the cuts.
 use Rattle.std.proofs.Common.{◌≡◌, ℕ, zero, suc, ◌+◌, ◌<◌, ◌≤◌, Bool, true, false, cond, not, ltb, List, [], ◌∷◌, ◌++◌, length, get_or, take, length-take, refl, ap, sym, ◌∙◌, arith, inl, inr}
 use Rattle.std.specs.List.{list_any}
 use Rattle.std.proofs.lemmas.Bool.{cases_Bool, cases_lt, cond_both, false≢true, or_cases, lt-ltb, le-ltb, or_parts}
@@ -74,14 +74,14 @@ last_place-below p (x ∷ xs) (suc (suc a)) some within down = elim (cases_Bool 
   | inr e ↦ (let it : p (get_or xs (suc a) 0) ≡ false = none-place p xs (suc a) e (omega arith) in rw (e, it) (lt-ltb 0 (suc (suc a)) (omega arith)))
 ]
 
-pub one_more_cut : (p : ℕ → Bool) (xs : List ℕ) (i leaf next : ℕ) (passes : Bool) → i < length xs → leaf ≡ last_place p (take i xs) → passes ≡ p (get_or xs i 0)
+pub last_place_step : (p : ℕ → Bool) (xs : List ℕ) (i leaf next : ℕ) (passes : Bool) → i < length xs → leaf ≡ last_place p (take i xs) → passes ≡ p (get_or xs i 0)
     → next ≡ cond passes i leaf → next ≡ last_place p (take (i + 1) xs)
-one_more_cut p xs i leaf next passes within before is moved =
+last_place_step p xs i leaf next passes within before is moved =
     moved ∙ ap (λ b. cond b i leaf) is ∙ ap (λ n. cond (p (get_or xs i 0)) i n) before
     ∙ ap (λ n. cond (p (get_or xs i 0)) n (last_place p (take i xs))) (sym min-left) ∙ sym (last_place-push p (take i xs) (get_or xs i 0)) ∙ ap (last_place p) (sym (take_more xs i 0 within))
   where
     min-left : length (take i xs) ≡ i
     min-left = omega (arith, length-take i xs)
 
-pub at_all_cuts : (p : ℕ → Bool) (xs : List ℕ) (i leaf : ℕ) → length xs ≤ i → leaf ≡ last_place p (take i xs) → leaf ≡ last_place p xs
-at_all_cuts p xs i leaf end is = is ∙ ap (last_place p) (take_all i xs end)
+pub last_place_of_all : (p : ℕ → Bool) (xs : List ℕ) (i leaf : ℕ) → length xs ≤ i → leaf ≡ last_place p (take i xs) → leaf ≡ last_place p xs
+last_place_of_all p xs i leaf end is = is ∙ ap (last_place p) (take_all i xs end)

@@ -10,7 +10,7 @@ use Rattle.degree_sequences.proofs.Indices.{sum_by-places}
 use Rattle.cond_stats.specs.Leaves.{cuts, in_order, leaf_of}
 use Rattle.cond_stats.specs.Order.{AreInValueOrder}
 use Rattle.cond_stats.specs.Runs.{AreStarts, IsLeafStart}
-use Rattle.cond_stats.proofs.InOrderFacts.{value_at, as_many, there, number_at}
+use Rattle.cond_stats.proofs.InOrderFacts.{value_at, as_many_places, value_has_degree, number_at}
 use Rattle.cond_stats.proofs.LastPlaces.{last_place-below}
 use Rattle.cond_stats.proofs.Nodes.{div-mono}
 use Rattle.cond_stats.proofs.Ranges.{leaf-below}
@@ -71,7 +71,7 @@ module _ {at_most : ℕ → ℕ → Bool} {column numbers places : List ℕ} (or
       along zero a h = refl
       along (suc n) a h =
           let here : get_or (map (λ p. get_or column p 0) places) (cut_place (length column) a) 0 ≡ value_at column places (cut_place (length column) a) =
-          get_or-map (λ p. get_or column p 0) places (cut_place (length column) a) 0 0 (omega (arith, as_many order, cut_place-within (length column) a some (omega arith))) in
+          get_or-map (λ p. get_or column p 0) places (cut_place (length column) a) 0 0 (omega (arith, as_many_places order, cut_place-within (length column) a some (omega arith))) in
           rw (here, along n (a + 1) (omega arith)) refl
 
   pub cut_in_order : (i : ℕ) → i < 32 → 0 < length column → get_or (cuts at_most column) i 0 ≡ value_at column places (cut_place (length column) i)
@@ -85,24 +85,24 @@ module _ {at_most : ℕ → ℕ → Bool} {column numbers places : List ℕ} (or
       → ltb (leaf_of at_most column (value_at column places k)) leaf ≡ ltb (get_or numbers k 0) (get_or numbers (cut_place (length places) leaf) 0)
   leaf_by_number k leaf within some high =
       let n : ℕ = length column in
-      let many : 0 < n = omega (arith, as_many order) in
+      let many : 0 < n = omega (arith, as_many_places order) in
       let v : ℕ = value_at column places k in
       let p : ℕ → Bool = λ cut. at_most cut v in
       let at : (i : ℕ) → i < 32 → p (get_or (cuts at_most column) i 0) ≡ leb (get_or numbers (cut_place n i) 0) (get_or numbers k 0) = λ i h.
-      (let place : cut_place n i < length places = omega (arith, as_many order, cut_place-within n i many h) in
+      (let place : cut_place n i < length places = omega (arith, as_many_places order, cut_place-within n i many h) in
       ap p (cut_in_order i h many)
-      ∙ order.tells.order (value_at column places (cut_place n i)) v (there order (cut_place n i) place) (there order k within)
+      ∙ order.tells.order (value_at column places (cut_place n i)) v (value_has_degree order (cut_place n i) place) (value_has_degree order k within)
       ∙ ap (λ m. leb m (order.number v)) (sym (number_at order (cut_place n i) place)) ∙ ap (leb (get_or numbers (cut_place n i) 0)) (sym (number_at order k within))) in
       last_place-below p (cuts at_most column) leaf some (omega (arith, high, length-cuts_in_order many))
       (λ i from to passes.
       (let i_low : i < 32 = omega (arith, to, length-cuts_in_order many) in
       let upper : get_or numbers (cut_place n i) 0 ≤ get_or numbers k 0 = leb-true (get_or numbers (cut_place n i) 0) (get_or numbers k 0) (sym (at i i_low) ∙ passes) in
       let rise : get_or numbers (cut_place n leaf) 0 ≤ get_or numbers (cut_place n i) 0 =
-      order.ascend (cut_place n leaf) (cut_place n i) 0 (cut_place-mono n leaf i from) (long (cut_place n i) (omega (arith, as_many order, cut_place-within n i many i_low))) in
+      order.ascend (cut_place n leaf) (cut_place n i) 0 (cut_place-mono n leaf i from) (long (cut_place n i) (omega (arith, as_many_places order, cut_place-within n i many i_low))) in
       at leaf high ∙ le-leb (get_or numbers (cut_place n leaf) 0) (get_or numbers k 0) (omega (arith, upper, rise))))
       ∙ ap not (at leaf high)
       ∙ not_leb (get_or numbers (cut_place n leaf) 0) (get_or numbers k 0)
-      ∙ ap (λ m. ltb (get_or numbers k 0) (get_or numbers (cut_place m leaf) 0)) (sym (as_many order))
+      ∙ ap (λ m. ltb (get_or numbers k 0) (get_or numbers (cut_place m leaf) 0)) (sym (as_many_places order))
     where
       long : (j : ℕ) → j < length places → j < length numbers
       long j h = subst (λ s. j < length s) (sym order.numbers_are) (omega (arith, h, length-map places (λ place. order.number (get_or column place 0))))

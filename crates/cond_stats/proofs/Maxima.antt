@@ -1,4 +1,4 @@
--- These are laws of rank-wise maxima of lists, and of the greatest of some numbers.
+-- Laws of the rank-wise maximum of lists, and of the greatest of some numbers.
 use Rattle.std.proofs.Common.{◌≡◌, ℕ, zero, suc, ◌≤◌, true, eqb, max, List, [], ◌∷◌, ◌++◌, map, sum, get_or, refl, ap, ◌∙◌, arith, inl, inr}
 use Rattle.std.specs.List.{All}
 use Rattle.std.proofs.lemmas.Bool.{cases_Bool, eqb-true, false≢true}

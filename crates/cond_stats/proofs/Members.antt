@@ -1,4 +1,4 @@
--- These lemmas say which values are in a list, and which keys the rows with a value have.
+-- Which values are in a list, and which keys the rows with a value have.
 use Rattle.std.proofs.Common.{◌≡◌, ℕ, ◌<◌, ◌≤◌, Bool, true, false, cond, ◌||◌, eqb, List, [], ◌∷◌, ◌++◌, length, refl, ap, sym, ◌∙◌, arith, inl, inr}
 use Rattle.std.specs.List.{list_any, count_by}
 use Rattle.std.proofs.lemmas.Bool.{cases_Bool, cond_both, eqb-true, eq-eqb, ne_eqb, false≢true, or_cases, lt-ltb}

@@ -1,4 +1,4 @@
--- `node_size` gives the size of the least node that holds two leaves. The lemmas say that this node has both leaves and each leaf between them.
+-- The node whose size `node_size` gives for two leaves holds both of them, and each leaf between them.
 use Rattle.std.proofs.Common.{◌≡◌, ℕ, ◌/◌, ◌<◌, ◌≤◌, ◌⊎◌, Bool, true, cond, eqb, List, [], ◌∷◌, Some, None, refl, sym, ◌∙◌, arith, inl, inr}
 use Rattle.std.specs.Prelude.{find, unwrap_or}
 use Rattle.std.proofs.Math.Nat.{div-mul-le_self}
@@ -6,17 +6,17 @@ use Rattle.std.proofs.lemmas.Nat.{le-div}
 use Rattle.std.proofs.lemmas.Bool.{cases_Bool, cond_both, eqb-true, eq-eqb}
 use Rattle.cond_stats.specs.Leaves.{node_size, in_node}
 
--- if no smaller size fits, the size is 32, and all leaves lie in the one node of this size
-found : (low high : ℕ) (sizes : List ℕ) → (low / unwrap_or (find (λ size. eqb (low / size) (high / size)) sizes) 32 ≡ high / unwrap_or (find (λ size. eqb (low / size) (high / size)) sizes) 32)
+-- if no smaller size fits, the size is 32, and all leaves lie in the single node of this size
+node_size_shared : (low high : ℕ) (sizes : List ℕ) → (low / unwrap_or (find (λ size. eqb (low / size) (high / size)) sizes) 32 ≡ high / unwrap_or (find (λ size. eqb (low / size) (high / size)) sizes) 32)
     ⊎ (unwrap_or (find (λ size. eqb (low / size) (high / size)) sizes) 32 ≡ 32)
-found low high [] = inr refl
-found low high (size ∷ sizes) = elim (cases_Bool (eqb (low / size) (high / size))) [
+node_size_shared low high [] = inr refl
+node_size_shared low high (size ∷ sizes) = elim (cases_Bool (eqb (low / size) (high / size))) [
   | inl e ↦ rw e (inl (eqb-true (low / size) (high / size) e))
-  | inr e ↦ rw e (found low high sizes)
+  | inr e ↦ rw e (node_size_shared low high sizes)
 ]
 
 pub node_holds : (low high : ℕ) → low ≤ 31 → high ≤ 31 → low / node_size low high ≡ high / node_size low high
-node_holds low high small_low small_high = elim (found low high (1 ∷ 2 ∷ 4 ∷ 8 ∷ 16 ∷ [])) [
+node_holds low high small_low small_high = elim (node_size_shared low high (1 ∷ 2 ∷ 4 ∷ 8 ∷ 16 ∷ [])) [
   | inl same ↦ same
   | inr whole ↦ (let l : low / 32 ≡ 0 = omega arith in
       let h : high / 32 ≡ 0 = omega arith in

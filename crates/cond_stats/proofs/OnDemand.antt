@@ -12,14 +12,14 @@ use Rattle.std.proofs.lemmas.List.Sorted.{All-permutation, length_permutation}
 use Rattle.std.proofs.Math.Bool.{or-true}
 use Rattle.degree_sequences.specs.Compression.{compressed}
 use Rattle.degree_sequences.specs.Degrees.{degree, degree_list}
-use Rattle.degree_sequences.specs.RunningSums.{cut_at}
-use Rattle.cond_stats.specs.declared.groups.Group.{Group}
+use Rattle.degree_sequences.specs.RunningSums.{capped_at}
+use Rattle.cond_stats.specs.declared.groups.ValueRun.{ValueRun}
 use Rattle.cond_stats.specs.Frequency.{frequent, remaining}
 use Rattle.cond_stats.specs.Leaves.{leaf_of, in_node, IsNodeSize}
 use Rattle.cond_stats.specs.Lists.{maxima, greatest, keys_with, is_frequent, rest, list_of_node, compressed_degrees}
 use Rattle.cond_stats.specs.Rows.{filter_values, keys_where}
-use Rattle.cond_stats.specs.Runs.{value_of_group}
-use Rattle.cond_stats.specs.Sorted.{IsColumnByLeaves, keys_at, degrees_of_group}
+use Rattle.cond_stats.specs.Runs.{value_of_run}
+use Rattle.cond_stats.specs.Sorted.{IsColumnByLeaves, keys_at, degrees_of_run}
 use Rattle.cond_stats.specs.Windows.{IsWindow}
 use Rattle.cond_stats.proofs.WindowKeys.{window_degrees, window_count}
 
@@ -55,10 +55,10 @@ any_contained f [] x v (k, h, at) is = absurd (omega arith)
 any_contained f (y ∷ xs) x v (zero, h, at) is = (let here : eqb (f y) v ≡ true = eq-eqb (f y) v (ap f at ∙ is) in rw here refl)
 any_contained f (y ∷ xs) x v (suc k, h, at) is = (let rest : list_any (λ w. eqb w v) (map f xs) ≡ true = any_contained f xs x v (k, omega arith, at) is in rw rest (or-true (eqb (f y) v)))
 
-pub at_zero : (xs : List ℕ) (i d x : ℕ) → i < length xs → x ≡ get_or xs i d → x ≡ get_or xs i 0
-at_zero [] i d x h e = absurd (omega arith)
-at_zero (y ∷ xs) zero d x h e = e
-at_zero (y ∷ xs) (suc i) d x h e = at_zero xs i d x (omega arith) e
+pub default_is_zero : (xs : List ℕ) (i d x : ℕ) → i < length xs → x ≡ get_or xs i d → x ≡ get_or xs i 0
+default_is_zero [] i d x h e = absurd (omega arith)
+default_is_zero (y ∷ xs) zero d x h e = e
+default_is_zero (y ∷ xs) (suc i) d x h e = default_is_zero xs i d x (omega arith) e
 
 pub node_within : (size leaf : ℕ) → IsNodeSize size → leaf < 32 → (0 < size) × (leaf / size * size + size ≤ 32)
 node_within size leaf (zero, h, is) low = subst (λ s. (0 < s) × (leaf / s * s + s ≤ 32)) is (omega arith, omega arith)
@@ -78,16 +78,16 @@ node_inside size leaf other some from to =
       | inr h ↦ omega arith
     ]
 
-module _ {at_most : ℕ → ℕ → Bool} {column places : List ℕ} {groups : List Group} {cuts starts : List ℕ}
+module _ {at_most : ℕ → ℕ → Bool} {column places : List ℕ} {groups : List ValueRun} {cuts starts : List ℕ}
     (sorted : IsColumnByLeaves at_most column places groups cuts starts) (joined : List ℕ) (same : length joined ≡ length column) where
-  pub front_values : map (value_of_group column) (take (min (length groups) 32) groups) ≡ frequent column
-  front_values = ap (map (value_of_group column)) (sym (take-min 32 groups)) ∙ sym (take-map (value_of_group column) 32 groups) ∙ ap (take 32) sorted.groups_are.values
+  pub frequent_values : map (value_of_run column) (take (min (length groups) 32) groups) ≡ frequent column
+  frequent_values = ap (map (value_of_run column)) (sym (take-min 32 groups)) ∙ sym (take-map (value_of_run column) 32 groups) ∙ ap (take 32) sorted.groups_are.values
 
-  pub back_values : map (value_of_group column) (drop (min (length groups) 32) groups) ≡ remaining column
-  back_values = ap (map (value_of_group column)) (sym (drop-min 32 groups)) ∙ sym (drop-map (value_of_group column) 32 groups) ∙ ap (drop 32) sorted.groups_are.values
+  pub remaining_values : map (value_of_run column) (drop (min (length groups) 32) groups) ≡ remaining column
+  remaining_values = ap (map (value_of_run column)) (sym (drop-min 32 groups)) ∙ sym (drop-map (value_of_run column) 32 groups) ∙ ap (drop 32) sorted.groups_are.values
 
-  pub any_front : (cell : ℕ) → list_any (λ v. eqb v cell) (map (value_of_group column) (take (min (length groups) 32) groups)) ≡ is_frequent (zip column joined) cell
-  any_front cell = ap (list_any (λ v. eqb v cell)) (front_values ∙ ap frequent (sym (filter_values-zip column joined same)))
+  pub frequent_by_runs : (cell : ℕ) → list_any (λ v. eqb v cell) (map (value_of_run column) (take (min (length groups) 32) groups)) ≡ is_frequent (zip column joined) cell
+  frequent_by_runs cell = ap (list_any (λ v. eqb v cell)) (frequent_values ∙ ap frequent (sym (filter_values-zip column joined same)))
 
   slice_is : (from count : ℕ) → slice_range places from (from + count) ≡ take count (drop from places)
   slice_is from count = (let is : (from + count) - from ≡ count = omega arith in ap (λ m. take m (drop from places)) is)
@@ -96,41 +96,41 @@ module _ {at_most : ℕ → ℕ → Bool} {column places : List ℕ} {groups : L
       → degree_list (keys_at joined (slice_range places from (from + count))) ≡ degree_list (keys_where p (zip column joined))
   window_list p from count window = ap (λ s. degree_list (keys_at joined s)) (slice_is from count) ∙ window_degrees column joined places p from count same sorted.moved window
 
-  pub group_list : (k cell : ℕ) (group : Group) (n : ℕ) → Contains (take n groups) group → value_of_group column group ≡ cell
+  pub group_list : (k cell : ℕ) (group : ValueRun) (n : ℕ) → Contains (take n groups) group → value_of_run column group ≡ cell
       → compressed_degrees k (keys_at joined (slice_range places group.start (group.start + group.count))) ≡ compressed_degrees k (keys_with cell (zip column joined))
   group_list k cell group n there is =
-      let window : IsWindow column places (λ v. eqb v (value_of_group column group)) group.start group.count =
-      All-contains (λ g. IsWindow column places (λ v. eqb v (value_of_group column g)) g.start g.count) (take n groups) group
-      (All-take (λ g. IsWindow column places (λ v. eqb v (value_of_group column g)) g.start g.count) n groups sorted.groups_are.windows) there in
-      ap (compressed k) (window_list (λ v. eqb v (value_of_group column group)) group.start group.count window ∙ ap (λ v. degree_list (keys_with v (zip column joined))) is)
+      let window : IsWindow column places (λ v. eqb v (value_of_run column group)) group.start group.count =
+      All-contains (λ g. IsWindow column places (λ v. eqb v (value_of_run column g)) g.start g.count) (take n groups) group
+      (All-take (λ g. IsWindow column places (λ v. eqb v (value_of_run column g)) g.start g.count) n groups sorted.groups_are.windows) there in
+      ap (compressed k) (window_list (λ v. eqb v (value_of_run column group)) group.start group.count window ∙ ap (λ v. degree_list (keys_with v (zip column joined))) is)
 
-  lists_of_groups : (gs : List Group) → All (λ g. IsWindow column places (λ v. eqb v (value_of_group column g)) g.start g.count) gs
-      → map (degrees_of_group joined places) gs ≡ map (λ v. degree_list (keys_with v (zip column joined))) (map (value_of_group column) gs)
+  lists_of_groups : (gs : List ValueRun) → All (λ g. IsWindow column places (λ v. eqb v (value_of_run column g)) g.start g.count) gs
+      → map (degrees_of_run joined places) gs ≡ map (λ v. degree_list (keys_with v (zip column joined))) (map (value_of_run column) gs)
   lists_of_groups [] windows = refl
   lists_of_groups (g ∷ gs) windows =
-      let here : degrees_of_group joined places g ≡ degree_list (keys_with (value_of_group column g) (zip column joined)) =
-      window_list (λ v. eqb v (value_of_group column g)) g.start g.count (windows 0 g (omega arith)) in
+      let here : degrees_of_run joined places g ≡ degree_list (keys_with (value_of_run column g) (zip column joined)) =
+      window_list (λ v. eqb v (value_of_run column g)) g.start g.count (windows 0 g (omega arith)) in
       rw (here, lists_of_groups gs (λ k d h. windows (suc k) d (omega arith))) refl
 
-  counts_of_groups : (gs : List Group) → All (λ g. IsWindow column places (λ v. eqb v (value_of_group column g)) g.start g.count) gs
-      → map (λ g. g.count) gs ≡ map (degree column) (map (value_of_group column) gs)
+  counts_of_groups : (gs : List ValueRun) → All (λ g. IsWindow column places (λ v. eqb v (value_of_run column g)) g.start g.count) gs
+      → map (λ g. g.count) gs ≡ map (degree column) (map (value_of_run column) gs)
   counts_of_groups [] windows = refl
   counts_of_groups (g ∷ gs) windows =
-      let here : g.count ≡ degree column (value_of_group column g) =
-      window_count column places (λ v. eqb v (value_of_group column g)) g.start g.count sorted.moved (windows 0 g (omega arith)) in
+      let here : g.count ≡ degree column (value_of_run column g) =
+      window_count column places (λ v. eqb v (value_of_run column g)) g.start g.count sorted.moved (windows 0 g (omega arith)) in
       rw (here, counts_of_groups gs (λ k d h. windows (suc k) d (omega arith))) refl
 
-  pub rest_is : (k : ℕ) → compressed k (cut_at (maxima (map (degrees_of_group joined places) (drop (min (length groups) 32) groups))) (greatest (map (λ g. g.count) (drop (min (length groups) 32) groups))))
+  pub rest_is : (k : ℕ) → compressed k (capped_at (maxima (map (degrees_of_run joined places) (drop (min (length groups) 32) groups))) (greatest (map (λ g. g.count) (drop (min (length groups) 32) groups))))
       ≡ rest k (zip column joined)
   unfolding rest
   rest_is k =
-      let back : List Group = drop (min (length groups) 32) groups in
-      let windows : All (λ g. IsWindow column places (λ v. eqb v (value_of_group column g)) g.start g.count) back =
-      All-drop (λ g. IsWindow column places (λ v. eqb v (value_of_group column g)) g.start g.count) (min (length groups) 32) groups sorted.groups_are.windows in
-      let values : map (value_of_group column) back ≡ remaining column = back_values in
-      ap (λ ls. compressed k (cut_at (maxima ls) (greatest (map (λ g. g.count) back)))) (lists_of_groups back windows ∙ ap (map (λ v. degree_list (keys_with v (zip column joined)))) values)
-      ∙ ap (λ ns. compressed k (cut_at (maxima (map (λ v. degree_list (keys_with v (zip column joined))) (remaining column))) (greatest ns))) (counts_of_groups back windows ∙ ap (map (degree column)) values)
-      ∙ ap (λ c. compressed k (cut_at (maxima (map (λ v. degree_list (keys_with v (zip column joined))) (remaining c))) (greatest (map (degree c) (remaining c))))) (sym (filter_values-zip column joined same))
+      let back : List ValueRun = drop (min (length groups) 32) groups in
+      let windows : All (λ g. IsWindow column places (λ v. eqb v (value_of_run column g)) g.start g.count) back =
+      All-drop (λ g. IsWindow column places (λ v. eqb v (value_of_run column g)) g.start g.count) (min (length groups) 32) groups sorted.groups_are.windows in
+      let values : map (value_of_run column) back ≡ remaining column = remaining_values in
+      ap (λ ls. compressed k (capped_at (maxima ls) (greatest (map (λ g. g.count) back)))) (lists_of_groups back windows ∙ ap (map (λ v. degree_list (keys_with v (zip column joined)))) values)
+      ∙ ap (λ ns. compressed k (capped_at (maxima (map (λ v. degree_list (keys_with v (zip column joined))) (remaining column))) (greatest ns))) (counts_of_groups back windows ∙ ap (map (degree column)) values)
+      ∙ ap (λ c. compressed k (capped_at (maxima (map (λ v. degree_list (keys_with v (zip column joined))) (remaining c))) (greatest (map (degree c) (remaining c))))) (sym (filter_values-zip column joined same))
 
   -- ---- the lists of nodes
 
@@ -186,13 +186,13 @@ module _ {at_most : ℕ → ℕ → Bool} {column places : List ℕ} {groups : L
       ∙ ap (compressed k) (window_list (λ v. in_node size leaf (leaf_of at_most column v)) from count (node_window size leaf some high))
       ∙ ap (λ c. compressed_degrees k (keys_where (λ v. in_node size leaf (leaf_of at_most c v)) (zip column joined))) (sym (filter_values-zip column joined same))
 
-  pub places_fit : All (λ place. place < length joined) places
-  places_fit = All-permutation (λ place. place < length joined) (range_with_len 0 (length column)) places sorted.moved
+  pub places_are_rows : All (λ place. place < length joined) places
+  places_are_rows = All-permutation (λ place. place < length joined) (range_with_len 0 (length column)) places sorted.moved
       (All-from_get_or (λ place. place < length joined) (range_with_len 0 (length column)) 0
       (λ i within. omega (arith, same, get_or-range_with_len 0 (length column) i 0 (omega (arith, length-range_with_len 0 (length column))), length-range_with_len 0 (length column))))
 
-  pub places_many : length places ≡ length column
-  places_many = length_permutation (range_with_len 0 (length column)) places sorted.moved ∙ length-range_with_len 0 (length column)
+  pub places_as_long_as_column : length places ≡ length column
+  places_as_long_as_column = length_permutation (range_with_len 0 (length column)) places sorted.moved ∙ length-range_with_len 0 (length column)
 
-  pub any_found : (cell : ℕ) (group : Group) → Contains (take (min (length groups) 32) groups) group → value_of_group column group ≡ cell → is_frequent (zip column joined) cell ≡ true
-  any_found cell group there value = sym (any_front cell) ∙ any_contained (value_of_group column) (take (min (length groups) 32) groups) group cell there value
+  pub found_is_frequent : (cell : ℕ) (group : ValueRun) → Contains (take (min (length groups) 32) groups) group → value_of_run column group ≡ cell → is_frequent (zip column joined) cell ≡ true
+  found_is_frequent cell group there value = sym (frequent_by_runs cell) ∙ any_contained (value_of_run column) (take (min (length groups) 32) groups) group cell there value

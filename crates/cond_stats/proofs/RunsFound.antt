@@ -8,31 +8,31 @@ use Rattle.std.proofs.lemmas.List.Elements.{All-nil, All-push}
 use Rattle.degree_sequences.specs.Degrees.{degree, different}
 use Rattle.degree_lists.proofs.OneMoreKey.{different-run}
 use Rattle.degree_lists.proofs.RunLengths.{take-run, degree-above}
-use Rattle.cond_stats.specs.declared.groups.Group.{Group}
+use Rattle.cond_stats.specs.declared.groups.ValueRun.{ValueRun}
 use Rattle.cond_stats.specs.Runs.{IsRun, AreRunsOfNumbers, ends_run}
 
-abbrev pub number_of_run : List ℕ → Group → ℕ
+abbrev pub number_of_run : List ℕ → ValueRun → ℕ
 number_of_run numbers run = get_or numbers run.start 0
 
-abbrev pub StartsAscend : List Group → Type 0
-StartsAscend runs = (i j : ℕ) (none : Group) → i < j → j < length runs → (get_or runs i none).start < (get_or runs j none).start
+abbrev pub StartsAscend : List ValueRun → Type 0
+StartsAscend runs = (i j : ℕ) (none : ValueRun) → i < j → j < length runs → (get_or runs i none).start < (get_or runs j none).start
 
-starts_ascend-push : (runs : List Group) (run : Group) → StartsAscend runs → All (λ before. before.start < run.start) runs → StartsAscend (runs ++ run ∷ [])
+starts_ascend-push : (runs : List ValueRun) (run : ValueRun) → StartsAscend runs → All (λ before. before.start < run.start) runs → StartsAscend (runs ++ run ∷ [])
 starts_ascend-push runs run up earlier i j none low high =
     let first : (get_or (runs ++ run ∷ []) i none).start ≡ (get_or runs i none).start =
-    ap (λ (r : Group). r.start) (get_or_append_left runs (run ∷ []) none i (omega (arith, high, length_push runs run))) in
+    ap (λ (r : ValueRun). r.start) (get_or_append_left runs (run ∷ []) none i (omega (arith, high, length_push runs run))) in
     elim (cases_lt j (length runs)) [
-      | inl h ↦ omega (arith, first, ap (λ (r : Group). r.start) (get_or_append_left runs (run ∷ []) none j h), up i j none low h)
+      | inl h ↦ omega (arith, first, ap (λ (r : ValueRun). r.start) (get_or_append_left runs (run ∷ []) none j h), up i j none low h)
       | inr h ↦ omega (
         arith,
         first,
-        ap (λ (r : Group). r.start) (get_or_push runs run none j (omega (arith, h, high, length_push runs run))),
+        ap (λ (r : ValueRun). r.start) (get_or_push runs run none j (omega (arith, h, high, length_push runs run))),
         earlier i none (omega (arith, high, length_push runs run)),
       )
     ]
 
 -- the runs that end before index i were found. A run that isn't finished yet begins at `start`
-pub record RunsSoFar (numbers places : List ℕ) (runs : List Group) (start i : ℕ) : Type 0 where
+pub record RunsSoFar (numbers places : List ℕ) (runs : List ValueRun) (start i : ℕ) : Type 0 where
   pub within : start ≤ i
   pub more : start < i → i < length numbers
   pub alike : (k : ℕ) → start ≤ k → k < i → get_or numbers k 0 ≡ get_or numbers i 0
@@ -42,8 +42,8 @@ pub record RunsSoFar (numbers places : List ℕ) (runs : List Group) (start i : 
   pub ascend : StartsAscend runs
   pub earlier : All (λ run. run.start < start) runs
 
-pub no_runs : (numbers places : List ℕ) → RunsSoFar numbers places [] 0 0
-no_runs numbers places = record {
+pub no_runs_yet : (numbers places : List ℕ) → RunsSoFar numbers places [] 0 0
+no_runs_yet numbers places = record {
   within = omega arith;
   more = λ some. absurd (omega arith);
   alike = λ k low high. absurd (omega arith);
@@ -51,7 +51,7 @@ no_runs numbers places = record {
   each = All-nil (IsRun numbers places);
   all = refl;
   ascend = λ i j none low high. absurd (omega arith);
-  earlier = All-nil (λ (run : Group). run.start < 0);
+  earlier = All-nil (λ (run : ValueRun). run.start < 0);
 }
 
 next_is_same : (numbers : List ℕ) (i : ℕ) → i < length numbers → ends_run numbers i (get_or numbers i 0) ≡ false → (i + 1 < length numbers) × (get_or numbers (i + 1) 0 ≡ get_or numbers i 0)
@@ -69,14 +69,14 @@ next_is_same numbers i within same_run =
     right false true h = refl
     right false false h = absurd (false≢true (sym h))
 
-ends : (numbers : List ℕ) (i : ℕ) → ends_run numbers i (get_or numbers i 0) ≡ true → i + 1 < length numbers → get_or numbers (i + 1) 0 ≡ get_or numbers i 0 → ⊥
-ends numbers i end_here room same = elim (or_cases (eqb (i + 1) (length numbers)) (not (eqb (get_or numbers (i + 1) 0) (get_or numbers i 0))) end_here) [
+number_changes : (numbers : List ℕ) (i : ℕ) → ends_run numbers i (get_or numbers i 0) ≡ true → i + 1 < length numbers → get_or numbers (i + 1) 0 ≡ get_or numbers i 0 → ⊥
+number_changes numbers i end_here room same = elim (or_cases (eqb (i + 1) (length numbers)) (not (eqb (get_or numbers (i + 1) 0) (get_or numbers i 0))) end_here) [
   | inl last ↦ omega (arith, eqb-true (i + 1) (length numbers) last)
   | inr other ↦ (let equal : eqb (get_or numbers (i + 1) 0) (get_or numbers i 0) ≡ true = eq-eqb (get_or numbers (i + 1) 0) (get_or numbers i 0) same in
       false≢true (rw equal at other))
 ]
 
-pub run_goes_on : (numbers places : List ℕ) (runs : List Group) (start i : ℕ) → RunsSoFar numbers places runs start i → i < length numbers
+pub run_goes_on : (numbers places : List ℕ) (runs : List ValueRun) (start i : ℕ) → RunsSoFar numbers places runs start i → i < length numbers
     → ends_run numbers i (get_or numbers i 0) ≡ false → RunsSoFar numbers places runs start (i + 1)
 run_goes_on numbers places runs start i so within same_run =
     let next = next_is_same numbers i within same_run in
@@ -94,7 +94,7 @@ run_goes_on numbers places runs start i so within same_run =
       earlier = so.earlier;
     }
 
-pub run_ends : (numbers places : List ℕ) (runs : List Group) (start i : ℕ) (run : Group) → IsNonDecreasing numbers → RunsSoFar numbers places runs start i → i < length numbers
+pub run_ends : (numbers places : List ℕ) (runs : List ValueRun) (start i : ℕ) (run : ValueRun) → IsNonDecreasing numbers → RunsSoFar numbers places runs start i → i < length numbers
     → ends_run numbers i (get_or numbers i 0) ≡ true → run.first ≡ get_or places start 0 → run.start ≡ start → run.count ≡ (i + 1) - start
     → RunsSoFar numbers places (runs ++ run ∷ []) (i + 1) (i + 1)
 run_ends numbers places runs start i run up so within end_here first_is start_is count_is =
@@ -110,7 +110,7 @@ run_ends numbers places runs start i run up so within end_here first_is start_is
     let above : (k : ℕ) → i + 1 ≤ k → k < length numbers → x < get_or numbers k 0 = λ k low high.
     (let step : x ≤ get_or numbers (i + 1) 0 = up i (i + 1) 0 (omega arith) (omega arith) in
     let far : get_or numbers (i + 1) 0 ≤ get_or numbers k 0 = up (i + 1) k 0 low high in
-    strictly x (get_or numbers (i + 1) 0) (get_or numbers k 0) step far (λ same. ends numbers i end_here (omega arith) same)) in
+    strictly x (get_or numbers (i + 1) 0) (get_or numbers k 0) step far (λ same. number_changes numbers i end_here (omega arith) same)) in
     let whole : take (start + suc n) numbers ≡ take start numbers ++ replicate (suc n) x =
     take-run numbers x start (suc n) (omega (arith, so.within)) (λ k low high. alike k low (omega (arith, so.within))) in
     let fresh : degree (take start numbers) x ≡ 0 = degree-above (take start numbers) x
@@ -135,7 +135,7 @@ run_ends numbers places runs start i run up so within end_here first_is start_is
       });
       all = map_push (number_of_run numbers) runs run ∙ ap (λ y. map (number_of_run numbers) runs ++ y ∷ []) at_run ∙ ap (λ s. s ++ x ∷ []) so.all ∙ sym one_more;
       ascend = starts_ascend-push runs run so.ascend (λ k d h. omega (arith, so.earlier k d h, start_is));
-      earlier = All-push (λ (before : Group). before.start < i + 1) runs run (λ k d h. omega (arith, so.earlier k d h, so.within)) (omega (arith, start_is, so.within));
+      earlier = All-push (λ (before : ValueRun). before.start < i + 1) runs run (λ k d h. omega (arith, so.earlier k d h, so.within)) (omega (arith, start_is, so.within));
     }
   where
     strictly : (x y z : ℕ) → x ≤ y → y ≤ z → (y ≡ x → ⊥) → x < z
@@ -144,7 +144,7 @@ run_ends numbers places runs start i run up so within end_here first_is start_is
       | inr l ↦ absurd (differs (omega arith))
     ]
 
-pub all_runs : (numbers places : List ℕ) (runs : List Group) (start i : ℕ) → RunsSoFar numbers places runs start i → length numbers ≤ i → AreRunsOfNumbers numbers places runs
+pub all_runs : (numbers places : List ℕ) (runs : List ValueRun) (start i : ℕ) → RunsSoFar numbers places runs start i → length numbers ≤ i → AreRunsOfNumbers numbers places runs
 all_runs numbers places runs start i so end =
     let none : length numbers ≤ start = elim (cases_lt start i) [ inl h ↦ absurd (omega (arith, so.more h)) | inr h ↦ omega arith ] in
     record { each = so.each; all = so.all ∙ ap different (take_all start numbers none); ascend = so.ascend }

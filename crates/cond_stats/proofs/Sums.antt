@@ -1,13 +1,13 @@
--- These lemmas say what the lists for all rows, for a value, for the rest and for a node sum to.
+-- What the list of all rows, the list of a value, the rest list and the list of a node sum to.
 use Rattle.std.proofs.Common.{◌≡◌, ℕ, ◌+◌, min, Bool, true, false, cond, eqb, List, map, length, sum, Some, refl, ap, sym, ◌∙◌, arith}
 use Rattle.std.specs.List.{count_by}
 use Rattle.std.proofs.lemmas.List.{length-map}
 use Rattle.degree_sequences.specs.Degrees.{degree, degree_list}
 use Rattle.degree_sequences.specs.Descending.{IsDescending}
-use Rattle.degree_sequences.specs.RunningSums.{cut_at}
+use Rattle.degree_sequences.specs.RunningSums.{capped_at}
 use Rattle.degree_sequences.proofs.CompressedLists.{sum-compressed}
 use Rattle.degree_sequences.proofs.DegreeLists.{IsDescending-degree_list, sum-degree_list}
-use Rattle.degree_sequences.proofs.Minima.{running_sum-cut_at, IsDescending-cut_at}
+use Rattle.degree_sequences.proofs.Minima.{running_sum-capped_at, IsDescending-capped_at}
 use Rattle.degree_sequences.proofs.RunningSums.{running_sum-past}
 use Rattle.cond_stats.specs.Frequency.{remaining}
 use Rattle.cond_stats.specs.Leaves.{leaf_of, in_node}
@@ -23,14 +23,14 @@ sum-compressed_degrees k keys = sum-compressed k (degree_list keys) (IsDescendin
 pub sum-whole : (k : ℕ) (rows : List (ℕ × ℕ)) → sum (whole k rows) ≡ length rows
 sum-whole k rows = sum-compressed_degrees k (joined_keys rows) ∙ length-map rows (λ row. row.1)
 
-pub sum-cut_at : (s : List ℕ) (n : ℕ) → sum (cut_at s n) ≡ min (sum s) n
-sum-cut_at s n =
-    let r : ℕ = length s + length (cut_at s n) in
-    omega (arith, running_sum-past (cut_at s n) r (omega arith), running_sum-past s r (omega arith), running_sum-cut_at s n r)
+pub sum-capped_at : (s : List ℕ) (n : ℕ) → sum (capped_at s n) ≡ min (sum s) n
+sum-capped_at s n =
+    let r : ℕ = length s + length (capped_at s n) in
+    omega (arith, running_sum-past (capped_at s n) r (omega arith), running_sum-past s r (omega arith), running_sum-capped_at s n r)
 
 pub IsDescending-uncompressed_rest : (rows : List (ℕ × ℕ)) → IsDescending (uncompressed_rest rows)
 IsDescending-uncompressed_rest rows =
-    IsDescending-cut_at (maxima (map (λ value. degree_list (keys_with value rows)) (remaining (filter_values rows)))) (greatest (map (degree (filter_values rows)) (remaining (filter_values rows))))
+    IsDescending-capped_at (maxima (map (λ value. degree_list (keys_with value rows)) (remaining (filter_values rows)))) (greatest (map (degree (filter_values rows)) (remaining (filter_values rows))))
     (IsDescending-maxima (λ value. degree_list (keys_with value rows)) (λ w. IsDescending-degree_list (keys_with w rows)) (remaining (filter_values rows)))
 
 pub sum-uncompressed_rest : (rows : List (ℕ × ℕ)) → sum (uncompressed_rest rows) ≡ greatest (map (degree (filter_values rows)) (remaining (filter_values rows)))
@@ -40,7 +40,7 @@ sum-uncompressed_rest rows =
     let vs : List ℕ = remaining column in
     omega (
       arith,
-      sum-cut_at (maxima (map f vs)) (greatest (map (degree column) vs)),
+      sum-capped_at (maxima (map f vs)) (greatest (map (degree column) vs)),
       greatest-le-sum f (degree column) (λ v. sym (sum-degree_list (keys_with v rows) ∙ length-keys_where (λ other. eqb other v) rows)) vs,
     )
 

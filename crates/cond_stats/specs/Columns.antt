@@ -16,8 +16,8 @@ value_le a b = is_le (value_cmp a b)
 abbrev pub cell_le : List (List ℕ) → Kind → ℕ → ℕ → Bool
 cell_le texts kind cell other = value_le (value_of_cell texts kind cell) (value_of_cell texts kind other)
 
--- the leaf of a value: the last leaf whose cut is at most the value, or 0 if there is no such cut. Each cut is given by a number, of which `value_at`
--- tells the value
+-- the leaf of a value: the last leaf whose cut is at most the value, or 0 if there is no such cut. A cut is given by a number, such as a cell or
+-- a row number, and `value_at` gives its value
 abbrev pub leaf_among : (ℕ → Value) → List ℕ → Value → ℕ
 leaf_among value_at numbers value = last_place (λ cut. value_le (value_at cut) value) numbers
 

@@ -5,7 +5,7 @@ use Rattle.std.specs.List.{list_any}
 use Rattle.degree_sequences.specs.ByRank.{rank_maximum}
 use Rattle.degree_sequences.specs.Compression.{compressed}
 use Rattle.degree_sequences.specs.Degrees.{degree, degree_list}
-use Rattle.degree_sequences.specs.RunningSums.{cut_at}
+use Rattle.degree_sequences.specs.RunningSums.{capped_at}
 use Rattle.cond_stats.specs.Frequency.{frequent, remaining}
 use Rattle.cond_stats.specs.Leaves.{leaf_of, node_size, in_node}
 use Rattle.cond_stats.specs.Rows.{filter_values, joined_keys, keys_where}
@@ -36,12 +36,12 @@ abbrev pub greatest : List ℕ → ℕ
 greatest [] = 0
 greatest (n ∷ ns) = max n (greatest ns)
 
--- the rest list: the rank-wise maximum of the degree lists of all values that aren't frequent. This maximum is cut to as many rows as the most
--- frequent of these values has, and then compressed. The list is empty if each value is frequent
+-- The rest list: the rank-wise maximum of the degree lists of all values that aren't frequent, compressed. Before it is compressed, its sum is capped
+-- at the number of rows of the most frequent of these values. The list is empty if each value is frequent
 unfoldable pub rest : ℕ → List (ℕ × ℕ) → List ℕ
 rest accuracy rows =
     let values = remaining (filter_values rows) in
-    compressed accuracy (cut_at (maxima (map (λ value. degree_list (keys_with value rows)) values))
+    compressed accuracy (capped_at (maxima (map (λ value. degree_list (keys_with value rows)) values))
     (greatest (map (degree (filter_values rows)) values)))
 
 -- whether a value is frequent

@@ -3,16 +3,16 @@ use Rattle.std.specs.Prelude.{ℕ, ◌≡◌, ◌+◌, ◌<◌, ◌≤◌, ◌^�
 use Rattle.std.specs.List.{range_with_len}
 use Rattle.std.specs.List.Sorted.{IsPermutation}
 use Rattle.degree_sequences.specs.Degrees.{degree_list}
-use Rattle.cond_stats.specs.declared.groups.Group.{Group}
+use Rattle.cond_stats.specs.declared.groups.ValueRun.{ValueRun}
 use Rattle.cond_stats.specs.Leaves.{cuts}
-use Rattle.cond_stats.specs.Runs.{AreGroups, AreStarts}
+use Rattle.cond_stats.specs.Runs.{AreRunsByFrequency, AreStarts}
 
--- `places` lists the row numbers, each once. `groups` says where the rows of each value are: they are together. `starts` says where the rows of each
--- leaf begin: they come before the rows of the next leaf. `its_cuts` has the column's cuts
-pub record IsColumnByLeaves (at_most : ℕ → ℕ → Bool) (column places : List ℕ) (groups : List Group) (its_cuts starts : List ℕ) : Type 0 where
+-- `places` lists the row numbers, each once. In it the rows of each value are together, and `groups` says where. The rows of each leaf come before
+-- the rows of the next leaf, and `starts` says where they begin. `its_cuts` has the column's cuts
+pub record IsColumnByLeaves (at_most : ℕ → ℕ → Bool) (column places : List ℕ) (groups : List ValueRun) (its_cuts starts : List ℕ) : Type 0 where
   pub rows : length column < 2 ^ 32
   pub moved : IsPermutation (range_with_len 0 (length column)) places
-  pub groups_are : AreGroups column places groups
+  pub groups_are : AreRunsByFrequency column places groups
   pub cuts_are : its_cuts ≡ cuts at_most column
   pub starts_are : AreStarts at_most column places starts
 
@@ -20,10 +20,10 @@ pub record IsColumnByLeaves (at_most : ℕ → ℕ → Bool) (column places : Li
 abbrev pub keys_at : List ℕ → List ℕ → List ℕ
 keys_at joined places = map (λ place. slice_index joined place) places
 
--- the group's rows are among the first `rows` elements of `places`
-abbrev pub LiesWithin : ℕ → Group → Type 0
+-- the run's rows are among the first `rows` elements of `places`
+abbrev pub LiesWithin : ℕ → ValueRun → Type 0
 LiesWithin rows group = group.start + group.count ≤ rows
 
--- the degree list of the joined keys of a group's rows
-abbrev pub degrees_of_group : List ℕ → List ℕ → Group → List ℕ
-degrees_of_group joined places group = degree_list (keys_at joined (slice_range places group.start (group.start + group.count)))
+-- the degree list of the joined keys of a run's rows
+abbrev pub degrees_of_run : List ℕ → List ℕ → ValueRun → List ℕ
+degrees_of_run joined places group = degree_list (keys_at joined (slice_range places group.start (group.start + group.count)))

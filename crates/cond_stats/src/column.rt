@@ -10,8 +10,8 @@ ghost use Rattle.cond_stats.specs.Lists.{compressed_degrees, is_frequent, keys_w
 
 use crate::cut_leaves::{leaf_of_int, leaf_of_text};
 use crate::cuts::{cuts_of, leaf_starts};
-use crate::groups::{Group, by_frequency};
-use crate::lists::{group_of, list_at, places_between, rest_list, values_of};
+use crate::groups::{ValueRun, by_frequency};
+use crate::lists::{list_at, places_between, rest_list, run_of_cell, values_of};
 use crate::order::{InOrder, in_order};
 use base_io::{NoMemory, Seq};
 use csv_tables::{Pool, cell_of};
@@ -29,7 +29,7 @@ pub struct FilterColumn<'a> {
     kind: Kind,
     cells: &'a [u64],
     places: Vec<u32>,
-    groups: Vec<Group>,
+    groups: Vec<ValueRun>,
     cuts: Vec<u64>,
     starts: Vec<u32>,
 }
@@ -129,7 +129,7 @@ impl<'a> FilterColumn<'a> {
         leaf_of_text(self.kind, self.pool, self.cuts.as_slice(), text)
     }
 
-    /// The rest list: the one list for all values that aren't frequent.
+    /// The rest list: a single list for all values that aren't frequent.
     pub fn rest(&self, joined: &[u64], accuracy: Accuracy) -> Result<Pieces, NoMemory>
         requires joined { length joined.now ≡ length self.now.cells }
         ensures { IfOk result (λ list. list ≡ rest accuracy (zip self.now.cells joined.now)) }
@@ -199,7 +199,7 @@ impl<'a> FilterColumn<'a> {
             × (list ≡ compressed_degrees accuracy (keys_with cell (zip self.now.cells joined.now))))) }
     {
         let frequent = self.groups.len().min(32);
-        match group_of(self.cells, &self.groups[..frequent], cell) {
+        match run_of_cell(self.cells, &self.groups[..frequent], cell) {
             Some(group) => {
                 let start = group.start as usize;
                 let places = &self.places[start..start + group.count as usize];

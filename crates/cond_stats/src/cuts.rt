@@ -4,7 +4,7 @@ ghost use Rattle.cond_stats.specs.Leaves.{cuts as cuts_of_column};
 ghost use Rattle.cond_stats.specs.Order.{AreInValueOrder};
 ghost use Rattle.cond_stats.specs.Runs.{AreInRuns, AreRunsOfNumbers, AreStarts, IsLeafStart};
 
-use crate::groups::Group;
+use crate::groups::ValueRun;
 use base_io::NoMemory;
 use std::alloc::Global;
 
@@ -27,7 +27,7 @@ pub(crate) fn cuts_of(alloc: Global, cells: &[u64], places: &[u32]) -> Result<Ve
 }
 
 /// For each leaf from 0 to 32, how many rows have a lower leaf. `runs` are the runs of the rows, the least value first.
-pub(crate) fn leaf_starts(alloc: Global, runs: &[Group], rows: u32) -> Result<Vec<u32>, NoMemory>
+pub(crate) fn leaf_starts(alloc: Global, runs: &[ValueRun], rows: u32) -> Result<Vec<u32>, NoMemory>
     ensures { IfOk result (λ starts. (at_most : ℕ → ℕ → Bool) (column places : List ℕ) → length column ≡ rows → AreInRuns at_most column places runs.now
         → AreStarts at_most column places starts.items) }
 {
@@ -39,7 +39,7 @@ pub(crate) fn leaf_starts(alloc: Global, runs: &[Group], rows: u32) -> Result<Ve
 }
 
 // How many rows have a leaf below `leaf`: the rows before the run of this leaf's cut. For 32, the end of the last leaf, these are all rows.
-fn leaf_start(runs: &[Group], rows: u32, leaf: u32) -> u32
+fn leaf_start(runs: &[ValueRun], rows: u32, leaf: u32) -> u32
     requires leaf { leaf ≤ 32 }
     ensures { (numbers places : List ℕ) → length numbers ≡ rows → AreRunsOfNumbers numbers places runs.now → IsLeafStart numbers leaf result }
 {

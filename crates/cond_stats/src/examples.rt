@@ -16,8 +16,8 @@ pub fn values()
 {}
 
 /// 32 values have four rows each, all with one joined key. The value 100 has the keys 5, 6 and 7, and the value 200 has the key 8 twice. So 100 and
-/// 200 aren't frequent. Their degree lists are (1, 1, 1) and (2), with the rank-wise maximum (2, 1, 1). It is cut to three rows, as many as 100 has.
-/// So the rest list is (2, 1).
+/// 200 aren't frequent. Their degree lists are (1, 1, 1) and (2), with the rank-wise maximum (2, 1, 1). Its sum is capped at 3, the
+/// number of rows of the value 100. So the rest list is (2, 1).
 pub fn rest_list()
     ensures remain { let column = flat_map (λ v. replicate 4 v) (range_with_len 0 32)
         ++ (100 ∷ 100 ∷ 100 ∷ 200 ∷ 200 ∷ []) in remaining column ≡ 100 ∷ 200 ∷ [] }

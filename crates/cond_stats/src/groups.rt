@@ -1,23 +1,24 @@
-//! The runs of equal values, and their order by frequency.
+//! Runs of rows with equal values, and their order by frequency.
 ghost use Rattle.std.specs.Prelude.{◌≡◌, ℕ, ◌<◌, ◌^◌, Bool, List, length, IfOk};
 ghost use Rattle.std.specs.List.Sorted.{IsNonDecreasing};
-ghost use Rattle.cond_stats.specs.Runs.{AreGroups, AreInRuns, AreRunsOfNumbers, ends_run};
+ghost use Rattle.cond_stats.specs.Runs.{AreRunsByFrequency, AreInRuns, AreRunsOfNumbers, ends_run};
 
 use base_io::NoMemory;
 use std::alloc::Global;
 
-/// The rows of one value. `first` is the row number of the first of them. `start` and `count` say where they are among the rows sorted by value.
+/// A run: the rows of one value. `first` is the row number of the earliest of these rows. Among the rows sorted by value, the run begins at index
+/// `start` and has `count` rows.
 #[derive(Clone, Copy, Debug, PartialEq, Eq)]
-pub(crate) struct Group {
+pub(crate) struct ValueRun {
     pub first: u32,
     pub start: u32,
     pub count: u32,
 }
 
 /// Sorts runs by frequency, the most frequent value first. If two values are equally frequent, the value that occurs first comes first.
-pub(crate) fn by_frequency(runs: Vec<Group>) -> Vec<Group>
+pub(crate) fn by_frequency(runs: Vec<ValueRun>) -> Vec<ValueRun>
     ensures { (at_most : ℕ → ℕ → Bool) (column places : List ℕ) → length column < 2 ^ 32 → AreInRuns at_most column places runs.items
-        → AreGroups column places result.items }
+        → AreRunsByFrequency column places result.items }
 {
     let mut groups = runs;
     groups.sort_unstable_by_key(|group| (u32::MAX - group.count, group.first));
@@ -29,7 +30,7 @@ pub(crate) fn runs_of(
     alloc: Global,
     numbers: &[u64],
     places: &[u32],
-) -> Result<Vec<Group>, NoMemory>
+) -> Result<Vec<ValueRun>, NoMemory>
     requires lengths { length numbers.now ≡ length places.now }
     requires rows { length places.now < 2 ^ 32 }
     requires ascend { IsNonDecreasing numbers.now }
@@ -39,7 +40,7 @@ pub(crate) fn runs_of(
     let mut start: usize = 0;
     for (i, number) in numbers.iter().enumerate() {
         if ends_run(numbers, i, *number) {
-            runs.push(Group {
+            runs.push(ValueRun {
                 first: places[start],
                 start: start as u32,
                 count: (i + 1 - start) as u32,

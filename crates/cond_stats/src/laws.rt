@@ -11,7 +11,7 @@ ghost use Rattle.cond_stats.specs.Leaves.{leaf_of, in_node};
 ghost use Rattle.cond_stats.specs.Lists.{whole, rest, list_of_value, list_of_node, list_of_range, keys_with, greatest, is_frequent};
 ghost use Rattle.cond_stats.specs.Rows.{filter_values, joined_keys, keys_where};
 
-/// Each list dominates the joined keys of the rows that it is a list of (SafeBound, SIGMOD 2023).
+/// Each list dominates the joined keys of its rows (SafeBound, SIGMOD 2023).
 pub fn lists_dominate()
     ensures whole { (accuracy : ℕ) (rows : List (ℕ × ℕ)) → DominatesKeys (whole accuracy rows) (joined_keys rows) }
     // whether the value is frequent or not, and is in a row or not
@@ -33,7 +33,7 @@ pub fn lists_sum()
     ensures frequent { (accuracy : ℕ) (rows : List (ℕ × ℕ)) (value : ℕ)
         → sum (list_of_value accuracy rows (Some value)) ≡
         (if is_frequent rows value then degree (filter_values rows) value else sum (rest accuracy rows)) }
-    // the rest list sums to the number of rows of the most frequent value among those without a list of their own
+    // the rest list sums to the number of rows of the most frequent value that has no list of its own
     ensures rest { (accuracy : ℕ) (rows : List (ℕ × ℕ))
         → sum (rest accuracy rows) ≡ greatest (map (degree (filter_values rows)) (remaining (filter_values rows))) }
     ensures node { (at_most : ℕ → ℕ → Bool) (accuracy : ℕ) (rows : List (ℕ × ℕ)) (size leaf : ℕ)

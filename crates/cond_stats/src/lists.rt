@@ -1,15 +1,15 @@
-//! Makes the lists of rows that are given by their row numbers, which are called places here.
+//! Makes the lists of rows that are given by their row numbers (`places`).
 ghost use Rattle.std.specs.Prelude.{◌≡◌, ℕ, ◌+◌, ◌<◌, ◌≤◌, ◌==◌, ◌^◌, false, length, map, All, Contains, IfOk, MatchOption, slice_index, slice_range};
 ghost use Rattle.std.specs.List.{list_any};
 ghost use Rattle.degree_sequences.specs.Compression.{compressed};
 ghost use Rattle.degree_sequences.specs.Degrees.{degree_list};
-ghost use Rattle.degree_sequences.specs.RunningSums.{cut_at};
+ghost use Rattle.degree_sequences.specs.RunningSums.{capped_at};
 ghost use Rattle.cond_stats.specs.Lists.{compressed_degrees, maxima, greatest};
-ghost use Rattle.cond_stats.specs.Runs.{value_of_group};
-ghost use Rattle.cond_stats.specs.Sorted.{keys_at, LiesWithin, degrees_of_group};
+ghost use Rattle.cond_stats.specs.Runs.{value_of_run};
+ghost use Rattle.cond_stats.specs.Sorted.{keys_at, LiesWithin, degrees_of_run};
 
-use crate::groups::Group;
-use crate::rest::{cut, raise_maxima};
+use crate::groups::ValueRun;
+use crate::rest::{cap_sum, raise_maxima};
 use crate::whole::whole_list;
 use base_io::{NoMemory, Seq};
 use degree_lists::falling;
@@ -54,34 +54,35 @@ fn keys_at(alloc: Global, joined: &[u64], places: &[u32]) -> Result<Vec<u64>, No
     Ok(keys)
 }
 
-// The degree list of a group's rows.
+// The degree list of a run's rows.
 fn degrees_of(
     alloc: Global,
     joined: &[u64],
     places: &[u32],
-    group: Group,
+    group: ValueRun,
 ) -> Result<Seq<u64>, NoMemory>
     requires places { All (λ place. place < length joined.now) places.now }
     requires group { LiesWithin (length places.now) group }
-    ensures { IfOk result (λ degrees. degrees ≡ degrees_of_group joined.now places.now group) }
+    ensures { IfOk result (λ degrees. degrees ≡ degrees_of_run joined.now places.now group) }
 {
     let start = group.start as usize;
     let keys = keys_at(alloc, joined, &places[start..start + group.count as usize])?;
     falling(alloc, keys.as_slice())
 }
 
-/// The rest list of these groups. It is the rank-wise maximum of their degree lists, cut to as many rows as the largest group has, and compressed.
+/// The rest list of these runs: the rank-wise maximum of their degree lists, compressed. Before it is compressed, its sum is capped at the number
+/// of rows of the longest run.
 pub(crate) fn rest_list(
     alloc: Global,
     joined: &[u64],
     places: &[u32],
-    groups: &[Group],
+    groups: &[ValueRun],
     accuracy: Accuracy,
 ) -> Result<Pieces, NoMemory>
     requires places { All (λ place. place < length joined.now) places.now }
     requires groups { All (LiesWithin (length places.now)) groups.now }
     requires rows { length places.now < 2 ^ 32 }
-    ensures { IfOk result (λ list. list ≡ compressed accuracy (cut_at (maxima (map (degrees_of_group joined.now places.now) groups.now))
+    ensures { IfOk result (λ list. list ≡ compressed accuracy (capped_at (maxima (map (degrees_of_run joined.now places.now) groups.now))
         (greatest (map (λ group. group.count) groups.now)))) }
 {
     let mut maxima = Vec::new(alloc);
@@ -91,15 +92,15 @@ pub(crate) fn rest_list(
         raise_maxima(&mut maxima, degrees.as_slice())?;
         most = most.max(group.count);
     }
-    let list = cut(alloc, maxima.as_slice(), u64::from(most))?;
+    let list = cap_sum(alloc, maxima.as_slice(), u64::from(most))?;
     compress(alloc, list.as_slice(), accuracy)
 }
 
-/// The group whose value has this cell, where there is one.
-pub(crate) fn group_of(cells: &[u64], groups: &[Group], cell: u64) -> Option<Group>
+/// The run whose value has this cell, if there is one.
+pub(crate) fn run_of_cell(cells: &[u64], groups: &[ValueRun], cell: u64) -> Option<ValueRun>
     requires { All (λ group. group.first < length cells.now) groups.now }
-    ensures { MatchOption result (list_any (λ value. value == cell) (map (value_of_group cells.now) groups.now) ≡ false)
-        (λ group. Contains groups.now group × (value_of_group cells.now group ≡ cell)) }
+    ensures { MatchOption result (list_any (λ value. value == cell) (map (value_of_run cells.now) groups.now) ≡ false)
+        (λ group. Contains groups.now group × (value_of_run cells.now group ≡ cell)) }
 {
     for group in groups {
         if cells[group.first as usize] == cell {
@@ -109,14 +110,14 @@ pub(crate) fn group_of(cells: &[u64], groups: &[Group], cell: u64) -> Option<Gro
     None
 }
 
-/// The cell of each group's value.
+/// The cell of each run's value.
 pub(crate) fn values_of(
     alloc: Global,
     cells: &[u64],
-    groups: &[Group],
+    groups: &[ValueRun],
 ) -> Result<Vec<u64>, NoMemory>
     requires { All (λ group. group.first < length cells.now) groups.now }
-    ensures { IfOk result (λ values. values.items ≡ map (value_of_group cells.now) groups.now) }
+    ensures { IfOk result (λ values. values.items ≡ map (value_of_run cells.now) groups.now) }
 {
     let mut values = Vec::with_capacity(alloc, groups.len())?;
     for group in groups {

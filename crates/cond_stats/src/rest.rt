@@ -1,8 +1,8 @@
-//! Steps to the rest list: the rank-wise maximum of lists, and a list that is cut to a number of rows.
+//! Steps of the rest list: the rank-wise maximum of lists, and a list whose sum is capped.
 ghost use Rattle.std.specs.Prelude.{◌≡◌, ◌<◌, ◌≤◌, max, [], ◌∷◌, ◌++◌, length, slice_index, slice_set, IfOk, OnOk};
 ghost use Rattle.degree_sequences.specs.ByRank.{rank_maximum};
 ghost use Rattle.degree_sequences.specs.Descending.{IsDescending};
-ghost use Rattle.degree_sequences.specs.RunningSums.{cut_at};
+ghost use Rattle.degree_sequences.specs.RunningSums.{capped_at};
 
 use base_io::NoMemory;
 use std::alloc::Global;
@@ -31,10 +31,10 @@ fn raise_maximum_at(maxima: &mut Vec<u64>, i: usize, degree: u64) -> Result<(), 
     Ok(())
 }
 
-/// Cuts a list in descending order so that its running sums are at most `most`.
-pub(crate) fn cut(alloc: Global, falling: &[u64], most: u64) -> Result<Vec<u64>, NoMemory>
+/// Lowers the last elements of a descending list, or leaves them out, so that its sum is at most `most`.
+pub(crate) fn cap_sum(alloc: Global, falling: &[u64], most: u64) -> Result<Vec<u64>, NoMemory>
     requires { IsDescending falling.now }
-    ensures { IfOk result (λ list. list.items ≡ cut_at falling.now most) }
+    ensures { IfOk result (λ list. list.items ≡ capped_at falling.now most) }
 {
     let mut list = Vec::new(alloc);
     let mut left = most;

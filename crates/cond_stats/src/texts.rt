@@ -26,7 +26,7 @@ pub(crate) fn text_numbers(
     ensures { IfOk result (λ text_numbers. AreByText pool.now (different cells.now) text_numbers.keys) }
 {
     let first_seen = different_cells(alloc, cells)?;
-    let ordered = by_text(alloc, pool, first_seen.as_slice())?;
+    let ordered = cells_by_text(alloc, pool, first_seen.as_slice())?;
     different_cells(alloc, ordered.as_slice())
 }
 
@@ -42,7 +42,7 @@ fn different_cells(alloc: Global, cells: &[u64]) -> Result<IndexSet<u64>, NoMemo
 }
 
 // The cells in the order of their texts.
-fn by_text(alloc: Global, pool: &Pool, cells: &[u64]) -> Result<Vec<u64>, NoMemory>
+fn cells_by_text(alloc: Global, pool: &Pool, cells: &[u64]) -> Result<Vec<u64>, NoMemory>
     ensures { IfOk result (λ ordered. AreByText pool.now cells.now ordered.items) }
 {
     let mut texts = texts_of(alloc, pool, cells)?;

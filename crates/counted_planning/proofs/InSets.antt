@@ -13,7 +13,7 @@ use Rattle.join_graph.specs.Conjuncts.{equalities_of}
 use Rattle.join_graph.specs.Kept.{joins_within}
 use Rattle.tree_bounds.specs.TreeBounds.{EntryBounds}
 use Rattle.set_bounds.specs.AllSets.{in_every_set}
-use Rattle.set_bounds.proofs.SetBySet.{told_in}
+use Rattle.set_bounds.proofs.SetBySet.{bound_in_sets_at}
 use Rattle.sql_meaning.specs.Answers.{conjuncts_of}
 use Rattle.sql_meaning.specs.Levels.{all_hold, level_over, row_in}
 use Rattle.sql_meaning.specs.Tables.{Tables}
@@ -22,9 +22,9 @@ use Rattle.level_bounds.specs.Orders.{IsOrderOfSet}
 use Rattle.level_bounds.proofs.Lists.{all_filtered}
 use Rattle.join_steps.specs.Lists.{AreOfScans, list_at, list_levels, list_sizes}
 use Rattle.join_steps.specs.Plans.{IsPlanOf}
-use Rattle.join_steps.proofs.WholeScans.{size_count}
+use Rattle.join_steps.proofs.WholeScans.{list_sizes_length}
 use Rattle.table_stats.proofs.ValueNumbers.{have_keys}
-use Rattle.reduced_scans.proofs.FamilyRows.{row_low}
+use Rattle.reduced_scans.proofs.FamilyRows.{listed_row_in_range}
 use Rattle.counted_bounds.specs.Bounds.{AllPartsAreCounted, CountsMade, counted_bound, counted_bounds_of_sets}
 use Rattle.counted_bounds.proofs.NotAbove.{not_above}
 use Rattle.counted_bounds.proofs.QueryBounds.{exact, never_under}
@@ -48,8 +48,8 @@ module _ (counted : CountsMade) (query : Query) (tables : Tables) (lists : List 
 
   pub is_plan : (budget : ℕ) (plan : Plan) → AreOfScans query tables lists → length query.from ≤ most_entries → budget ≤ most_budget
       → plan_answer (counted_bounds_of_sets counted query tables lists) (list_sizes query lists) budget ≡ Ok plan → IsPlanOf query tables lists plan
-  is_plan budget plan are few small made =
-      plan_over_lists query tables lists sets (list_sizes query lists) bound_levels (sizes_bound query tables lists are) budget plan few small made
+  is_plan budget plan are within_limit budget_within_limit made =
+      plan_over_lists query tables lists sets (list_sizes query lists) bound_levels (sizes_bound query tables lists are) budget plan within_limit budget_within_limit made
 
   pub exact_at : (subset : ℕ) (order : List ℕ) → subset < 2 ^ length query.from → IsOrderOfSet (entries_of_set subset) order → AllPartsAreCounted counted query tables subset
       → all_hold (conjuncts_of query tables) [] (row_in [] []) ≡ true
@@ -61,18 +61,18 @@ module _ (counted : CountsMade) (query : Query) (tables : Tables) (lists : List 
       → plan_answer (counted_bounds_of_sets counted query tables lists) (list_sizes query lists) budget ≡ Ok plan → k < length query.from
       → AllPartsAreCounted counted query tables (set_of (take (k + 1) plan.order)) → all_hold (conjuncts_of query tables) [] (row_in [] []) ≡ true
       → get_or plan.levels k 0 ≡ length (list_levels query tables lists plan.order (k + 1))
-  level_exact budget k plan few small made low all constants =
+  level_exact budget k plan within_limit budget_within_limit made k_in_range all constants =
       let n : ℕ = length query.from in
       let scans : List ℕ = list_sizes query lists in
-      let one_each : length (list_sizes query lists) ≡ length query.from = size_count query lists in
+      let one_each : length (list_sizes query lists) ≡ length query.from = list_sizes_length query lists in
       let best : IsBest sets n plan.order = is_best_from sets scans n budget one_each plan made in
       omega (
         arith,
-        exact_at (set_of (take (k + 1) plan.order)) (take (k + 1) plan.order) (prefix_below n (k + 1) plan.order best.is_order) (prefix_of n (k + 1) plan.order few best.is_order)
+        exact_at (set_of (take (k + 1) plan.order)) (take (k + 1) plan.order) (prefix_below n (k + 1) plan.order best.is_order) (prefix_of n (k + 1) plan.order within_limit best.is_order)
             all constants,
-        level_bound sets scans n budget one_each plan made k low,
+        level_bound sets scans n budget one_each plan made k k_in_range,
         level_within_budget sets scans n budget one_each plan made k,
-        small,
+        budget_within_limit,
       )
 
   module _ (accuracy : ℕ) (are : AreOfScans query tables lists) (subset : ℕ) (fits : subset < 2 ^ length query.from) where
@@ -89,7 +89,7 @@ module _ (counted : CountsMade) (query : Query) (tables : Tables) (lists : List 
         omega (
           arith,
           at subset fits,
-          not_above query tables subset lists counted keys.0 bounds (row_low query tables lists are) (all_filtered (joins_within subset) (JoinsEqualKeys tables keys.0) es (keys.2 es))
+          not_above query tables subset lists counted keys.0 bounds (listed_row_in_range query tables lists are) (all_filtered (joins_within subset) (JoinsEqualKeys tables keys.0) es (keys.2 es))
               (have_lists query tables lists keys.0 bounds are stand subset fits) (dominate query tables lists keys.0 bounds are stand subset fits),
-          told_in (in_every_set bounds) es (length query.from) subset (set_bounds_over query tables lists accuracy) refl fits,
+          bound_in_sets_at (in_every_set bounds) es (length query.from) subset (set_bounds_over query tables lists accuracy) refl fits,
         )

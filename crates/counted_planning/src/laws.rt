@@ -17,8 +17,8 @@ ghost use Rattle.reduced_scans.specs.Rounds.{reduced_of};
 ghost use Rattle.planning.specs.ListedBounds.{set_bounds_over};
 ghost use Rattle.planning.specs.Standing.{BoundLevels};
 
-/// Whichever conjuncts are counted, no level over the lists has more rows than its set's bound. A bound of 2^128 - 1, the top bound, promises
-/// nothing. So no bound of a plan over lists of scanned rows is too low.
+/// No level over the lists has more rows than its set's bound, whichever conjuncts are used for counting. A bound of 2^128 - 1, the top bound,
+/// promises nothing. So no bound of a plan over lists of scanned rows is too low.
 pub fn counts_are_never_under()
     ensures sets { (counted : CountsMade) (query : Query) (tables : Tables) (lists : List (List ℕ))
         → BoundLevels query tables lists (counted_bounds_of_sets counted query tables lists) }
@@ -45,8 +45,8 @@ pub fn counts_are_exact()
         → slice_index plan.levels k ≡ length (list_levels query tables lists plan.order (k + 1)) }
 {}
 
-/// Whichever conjuncts are counted, no bound is above the bound from degree sequences of the same lists, at any accuracy. The second clause is about
-/// the reduced scans.
+/// Whichever conjuncts are used for counting, no bound is above the bound from degree sequences of the same lists, at any accuracy. The second clause
+/// is about the reduced scans.
 pub fn counts_are_not_above_degree_sequences()
     ensures over_lists { (counted : CountsMade) (query : Query) (tables : Tables) (lists : List (List ℕ)) (accuracy subset : ℕ)
         → AreOfScans query tables lists → subset < 2 ^ length query.from

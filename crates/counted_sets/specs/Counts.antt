@@ -15,28 +15,28 @@ item_at uses k = (use_at uses k).item
 abbrev pub need_at : List Use → ℕ → ℕ
 need_at uses k = (use_at uses k).needs
 
--- among the first n uses, the number of uses of kept items that give the slot
+-- how many of the first n uses belong to a kept item and give the slot
 abbrev pub giver_count : (ℕ → Bool) → List Use → ℕ → ℕ → ℕ
-giver_count kept uses slot zero = 0
-giver_count kept uses slot (suc n) = (if kept (item_at uses n) && ((use_at uses n).gives == slot) then 1 else 0) + giver_count kept uses slot n
+giver_count is_kept uses slot zero = 0
+giver_count is_kept uses slot (suc n) = (if is_kept (item_at uses n) && ((use_at uses n).gives == slot) then 1 else 0) + giver_count is_kept uses slot n
 
 -- the number of counts above 0
-abbrev pub positives : List ℕ → ℕ
-positives [] = 0
-positives (zero ∷ counts) = positives counts
-positives (suc n ∷ counts) = suc (positives counts)
+abbrev pub positive_count : List ℕ → ℕ
+positive_count [] = 0
+positive_count (zero ∷ counts) = positive_count counts
+positive_count (suc n ∷ counts) = suc (positive_count counts)
 
 -- `work` lists the slots whose count is 0, each once
 pub record EmptySlotsAreListed (counts work : List ℕ) : Type 0 where
   pub within : (p : ℕ) → p < length work → slice_index work p < length counts
   pub zero_there : (p : ℕ) → p < length work → slice_index counts (slice_index work p) ≡ 0
   pub all_there : (slot : ℕ) → slot < length counts → slice_index counts slot ≡ 0 → Contains work slot
-  pub room : length work + positives counts ≡ length counts
+  pub room : length work + positive_count counts ≡ length counts
 
 -- `work` lists the slots whose count is 0, and has room for exactly the other slots
 pub record IsWorkOf (counts : List ℕ) (work : Rows ℕ) : Type 0 where
   pub listed : EmptySlotsAreListed counts work.items
-  pub spare : work.spare ≡ positives counts
+  pub spare : work.spare ≡ positive_count counts
 
 -- the new list begins with the old one
 pub record Extends (old new : List ℕ) : Type 0 where
@@ -44,7 +44,7 @@ pub record Extends (old new : List ℕ) : Type 0 where
   pub same : (p : ℕ) → p < length old → slice_index new p ≡ slice_index old p
 
 -- the count of each slot is the number of uses of marked items that give it. The slots with the count 0 are listed
-pub record CountsAreRight (items slots : ℕ) (uses : List Use) (marks : List Bool) (counts : List ℕ) (work : Rows ℕ) : Type 0 where
+pub record CountsAreCorrect (items slots : ℕ) (uses : List Use) (marks : List Bool) (counts : List ℕ) (work : Rows ℕ) : Type 0 where
   pub item_count : length marks ≡ items
   pub slot_count : length counts ≡ slots
   pub counted : (slot : ℕ) → slot < slots → slice_index counts slot ≡ giver_count (marked marks) uses slot (length uses)

@@ -10,7 +10,7 @@ marked marks item = slice_index_or marks item false
 
 -- some use of a kept item gives the slot
 abbrev pub IsGiven : List Use → (ℕ → Bool) → ℕ → Type 0
-IsGiven uses kept slot = (giver : Use) × Contains uses giver × (kept giver.item ≡ true) × (giver.gives ≡ slot)
+IsGiven uses is_kept slot = (giver : Use) × Contains uses giver × (is_kept giver.item ≡ true) × (giver.gives ≡ slot)
 
 -- the kept items have numbers below `items`, and each slot that a kept item needs is given by a kept item
 pub record IsConsistent (items : ℕ) (uses : List Use) (kept : ℕ → Bool) : Type 0 where

@@ -1,7 +1,7 @@
 -- Uses with the same key, linked from the last use back to the first. The place of a use is its index in the list of uses.
 use Rattle.std.specs.Prelude.{◌≡◌, ℕ, zero, suc, ◌<◌, ◌==◌, if◌then◌else◌, List, length, slice_index}
 
--- among the first n uses, the last use that has the key, by its index counted from 1. It is 0 if no use has the key
+-- the index, counted from 1, of the last use with the key among the first n uses. It is 0 if none of these uses has the key
 abbrev pub last_before : (ℕ → ℕ) → ℕ → ℕ → ℕ
 last_before key_of key zero = 0
 last_before key_of key (suc n) = if key_of n == key then suc n else last_before key_of key n

@@ -1,7 +1,7 @@
 //! Removes items that need a slot with the count 0, until no such item is left.
 ghost use Rattle.std.specs.Prelude.{◌≡◌, ◌^◌, ◌<◌, All, IfOk, false, length, slice_index, slice_set};
 ghost use Rattle.counted_sets.specs.UseChains.{AreUseChains};
-ghost use Rattle.counted_sets.specs.Counts.{NeedersAreUnmarked, Extends, CountsAreRight, IsSafe, item_at, need_at};
+ghost use Rattle.counted_sets.specs.Counts.{NeedersAreUnmarked, Extends, CountsAreCorrect, IsSafe, item_at, need_at};
 ghost use Rattle.counted_sets.specs.Sets.{IsGreatest, IsUseOf, marked};
 
 use crate::chains::{UseChains, chained_by_item, chained_by_need};
@@ -24,9 +24,9 @@ fn remove(
     requires slots { All (λ u. u.gives < length counts.old.items) uses.now }
     requires chains { AreUseChains (item_at uses.now) (length marks.old.items) (length uses.now)
         of_item.now.lasts.items of_item.now.befores.items }
-    requires counted { CountsAreRight (length marks.old.items) (length counts.old.items) uses.now marks.old.items counts.old.items work.old }
+    requires counted { CountsAreCorrect (length marks.old.items) (length counts.old.items) uses.now marks.old.items counts.old.items work.old }
     ensures marks { marks.new.items ≡ slice_set marks.old.items item false }
-    ensures counted { CountsAreRight (length marks.old.items) (length counts.old.items) uses.now marks.new.items counts.new.items work.new }
+    ensures counted { CountsAreCorrect (length marks.old.items) (length counts.old.items) uses.now marks.new.items counts.new.items work.new }
     ensures extends { Extends work.old.items work.new.items }
 {
     if !marks.get(item) {
@@ -53,10 +53,10 @@ fn remove_needing(
         of_item.now.lasts.items of_item.now.befores.items }
     requires needs { AreUseChains (need_at uses.now) (length counts.old.items) (length uses.now)
         needing.now.lasts.items needing.now.befores.items }
-    requires counted { CountsAreRight (length marks.old.items) (length counts.old.items) uses.now marks.old.items counts.old.items work.old }
+    requires counted { CountsAreCorrect (length marks.old.items) (length counts.old.items) uses.now marks.old.items counts.old.items work.old }
     ensures gone { NeedersAreUnmarked uses.now slot marks.new.items }
     ensures safe { IsSafe (length marks.old.items) uses.now marks.old.items marks.new.items }
-    ensures counted { CountsAreRight (length marks.old.items) (length counts.old.items) uses.now marks.new.items counts.new.items work.new }
+    ensures counted { CountsAreCorrect (length marks.old.items) (length counts.old.items) uses.now marks.new.items counts.new.items work.new }
     ensures extends { Extends work.old.items work.new.items }
 {
     let mut at = needing.last(slot);

@@ -1,4 +1,4 @@
-/// While the item stays, it gives one slot and needs another one.
+/// A use of `item`: while the item stays, this use gives one slot and needs another one.
 #[derive(Clone, Copy, Debug, PartialEq, Eq)]
 pub struct Use {
     pub item: u32,

@@ -28,7 +28,7 @@ abbrev pub IsKept : List ℕ → List ℕ → ℕ → ℕ × ℕ → Option ℕ 
 IsKept old cells at q None = (j : ℕ) → j < at → same_pair q (get_or old j 0, get_or cells j 0) ≡ false
 IsKept old cells at q (Some v) = IsFirst (λ i j. same_pair q (get_or old j 0, get_or cells j 0)) at v × (v < at)
 
-pub record Numbered (old cells first_places : List ℕ) (kept_for : ℕ × ℕ → Option ℕ) (at : ℕ) : Type 0 where
+pub record AreNumberedUpTo (old cells first_places : List ℕ) (kept_for : ℕ × ℕ → Option ℕ) (at : ℕ) : Type 0 where
   pub long : length first_places ≡ length old
   pub done : (i : ℕ) → i < at → IsFirst (are_alike old cells) i (get_or first_places i 0)
   pub rest : (i : ℕ) → at ≤ i → get_or first_places i 0 ≡ get_or old i 0
@@ -59,10 +59,10 @@ kept_if old cells at first q o true e k f =
     )
 kept_if old cells at first q o false e k f = kept_more old cells at q o k (same_symm q (get_or old at 0, get_or cells at 0) ∙ e)
 
-pub numbered_more : (old cells first_places : List ℕ) (before after : ℕ × ℕ → Option ℕ) (at first : ℕ) → at < length old → Numbered old cells first_places before at
+pub numbered_more : (old cells first_places : List ℕ) (before after : ℕ × ℕ → Option ℕ) (at first : ℕ) → at < length old → AreNumberedUpTo old cells first_places before at
     → first ≡ unwrap_or (before (get_or first_places at 0, get_or cells at 0)) at
     → ((q : ℕ × ℕ) → after q ≡ (if same_pair (get_or first_places at 0, get_or cells at 0) q then Some first else before q))
-    → Numbered old cells (set first_places at first) after (at + 1)
+    → AreNumberedUpTo old cells (set first_places at first) after (at + 1)
 numbered_more old cells first_places before after at first l so_far f a =
     let within : at < length first_places = omega (arith, so_far.long, l) in
     let same : get_or first_places at 0 ≡ get_or old at 0 = so_far.rest at (omega arith) in

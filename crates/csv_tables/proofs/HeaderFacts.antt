@@ -5,7 +5,7 @@ use Rattle.std.specs.Str.{str_eq_ignore_ascii_case}
 use Rattle.std.proofs.lemmas.List.{drop_more}
 use Rattle.csv.specs.Records.{field_at}
 use Rattle.csv.proofs.RecordFacts.{field-get}
-use Rattle.csv_tables.specs.Header.{only, places_from, column_place as place_of, column_places}
+use Rattle.csv_tables.specs.Header.{single_item, places_from, column_place as place_of, column_places}
 use Rattle.csv_tables.specs.Steps.{or_refuse, then_all}
 use Rattle.csv_tables.specs.declared.types.TableError.TheVariants as error
 use Rattle.schema_types.specs.declared.types.Column.{Column}
@@ -38,7 +38,7 @@ pub found_two : (name : List ℕ) (fields : Record) (found : Option ℕ) (at : �
 found_two name fields None at field within e matches second so_far = absurd (cc second)
 found_two name fields (Some place) at field within e matches second so_far =
     let both : places_from at name (field ∷ drop (at + 1) fields) ≡ at ∷ places_from (at + 1) name (drop (at + 1) fields) = rw matches refl in
-    ap only (so_far ∙ ap (λ places. place ∷ places) (places_here name fields at field within e ∙ both))
+    ap single_item (so_far ∙ ap (λ places. place ∷ places) (places_here name fields at field within e ∙ both))
 
 pub places_of_next : (columns : List Column) (number : ℕ) (column : Column) (header : Record) → number < length columns → column ≡ get_or columns number column
     → column_places number (drop number columns) header

@@ -207,13 +207,13 @@ keys_next keys at key rows l is = ap (λ ks. rows_with_keys ks rows) (drop_more 
 
 module _ (table : Table) (texts : List (List ℕ)) (rows : ℕ) (columns : List (List ℕ)) (at : ℕ) (key : List ℕ) (found : Option Repeat)
     (valid : IsValidTable table) (different : TextsAreDifferent texts) (h : AreColumns texts rows (kinds_of table.columns) columns)
-    (l : at < length table.keys) (is : key ≡ get_or table.keys at key) (repeat : IsRepeat columns key rows found) where
+    (l : at < length table.keys) (key_is : key ≡ get_or table.keys at key) (repeat : IsRepeat columns key rows found) where
   next_is : rows_with_keys (drop at table.keys) (rows_of_columns texts (kinds_of table.columns) columns rows)
       ≡ or_rows (rows_of_columns texts (kinds_of table.columns) columns rows) found (rows_with_keys (drop (at + 1) table.keys) (rows_of_columns texts (kinds_of table.columns) columns rows))
   next_is =
       let stated = rows_of_columns texts (kinds_of table.columns) columns rows in
-      keys_next table.keys at key stated l is
-      ∙ ap (λ o. or_rows stated o (rows_with_keys (drop (at + 1) table.keys) stated)) (repeat_is texts different rows (kinds_of table.columns) columns h key (key_there table texts rows columns at key valid h l is) found repeat)
+      keys_next table.keys at key stated l key_is
+      ∙ ap (λ o. or_rows stated o (rows_with_keys (drop (at + 1) table.keys) stated)) (repeat_is texts different rows (kinds_of table.columns) columns h key (key_there table texts rows columns at key valid h l key_is) found repeat)
 
   pub key_bad : (r : Repeat) → found ≡ Some r → rows_with_keys (drop at table.keys) (rows_of_columns texts (kinds_of table.columns) columns rows) ≡ Err (error.Key r.later r.earlier)
   key_bad r e =

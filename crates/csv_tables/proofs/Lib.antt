@@ -19,3 +19,4 @@ pub mod OrderFacts
 pub mod DigitFacts
 pub mod SpanFacts
 pub mod PlainFacts
+pub mod NumberRowFacts

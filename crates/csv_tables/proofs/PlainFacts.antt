@@ -10,7 +10,7 @@ use Rattle.plain_records.proofs.OffsetFacts.{no_more_records, one_record}
 use Rattle.plain_records.proofs.RecordFacts.{plain_is}
 use Rattle.csv_tables.specs.declared.types.TableError.{TableError}
 use Rattle.csv_tables.specs.Cells.{rows_of_columns}
-use Rattle.csv_tables.specs.Fields.{IsBehind}
+use Rattle.csv_tables.specs.Fields.{IsAfterLine}
 use Rattle.csv_tables.specs.Reads.{kinds_of}
 use Rattle.csv_tables.specs.Records.{records_of, Record}
 use Rattle.csv_tables.specs.Refused.{IsRefusalOrNoMemory}
@@ -108,7 +108,7 @@ rest_is bytes start header rest none e h = h header rest (sym (plain_is (strip_b
 -- ---- rows
 
 -- the records from `at` on are the record that begins there, and then the records from `after` on
-pub row_behind : (bytes : List ℕ) (at next after : ℕ) → at < length bytes → ends_line (get_or bytes at 0) ≡ false → IsBehind bytes at next
+pub row_behind : (bytes : List ℕ) (at next after : ℕ) → at < length bytes → ends_line (get_or bytes at 0) ≡ false → IsAfterLine bytes at next
     → plain_records (drop next bytes) ≡ plain_records (drop after bytes) → plain_records (drop at bytes) ≡ first_record (drop at bytes) ∷ plain_records (drop after bytes)
 row_behind bytes at next after l stands b same =
     one_record bytes at l stands ∙ ap (λ rest. first_record (drop at bytes) ∷ rest) (sym (ap plain_records b.rest) ∙ same)

@@ -18,15 +18,15 @@ first_of_known : (s s2 : State) (before after : Option (List ℕ)) (xs ys : List
     → Found default_config s xs fields s2 ys → records_in s before ≡ fields ∷ records_in s2 after
 first_of_known s s2 before after xs ys fields e f found = rw (e, f) found.first
 
-pub record Gave (old new : MemoryReader) (fields : List (List ℕ)) : Type 0 where
+pub record IsNextRecord (old new : MemoryReader) (fields : List (List ℕ)) : Type 0 where
   pub reading : IsReading new
   pub first : unread_records old ≡ fields ∷ unread_records new
   pub text : AllText fields
   pub few : length fields ≤ 67108865
 
-pub gave_first : (old new : MemoryReader) (fields : List (List ℕ)) → IsReading old → took_first new ≡ true
-    → ReadRecord (λ bytes. Some bytes.now) old new true fields → Gave old new fields
-gave_first old new fields was took r =
+pub gives_next_record : (old new : MemoryReader) (fields : List (List ℕ)) → IsReading old → took_first new ≡ true
+    → ReadRecord (λ bytes. Some bytes.now) old new true fields → IsNextRecord old new fields
+gives_next_record old new fields was took r =
     let k = read_known old.state new.state was.bytes (pending_of (Some new.rdr.now) new) fields (rw (was.config, was.known) at r.0) in
     let known : unread new ≡ Some k.0 = rw r.1 k.1 in
     let found = first_found default_config old.state was.bytes fields new.state k.0 was.between k.2 in
@@ -41,7 +41,7 @@ gave_first old new fields was took r =
       few = omega arith;
     }
 
-pub gave_none : (old new : MemoryReader) (fields : List (List ℕ)) → IsReading old → ReadRecord (λ bytes. Some bytes.now) old new false fields → unread_records old ≡ []
-gave_none old new fields was r =
+pub gives_no_record : (old new : MemoryReader) (fields : List (List ℕ)) → IsReading old → ReadRecord (λ bytes. Some bytes.now) old new false fields → unread_records old ≡ []
+gives_no_record old new fields was r =
     ap (records_in old.state) was.known
     ∙ none_found default_config old.state was.bytes (rows-end (λ bytes. Some bytes.now) old new fields default_config was.bytes was.config was.known r)

@@ -1,4 +1,4 @@
--- Each record takes at least one byte. So the number of bytes plus one is enough rounds to read all records.
+-- Each record takes at least one byte. So all records are read in at most one round more than there are bytes.
 use Rattle.std.proofs.Common.{◌≡◌, ◌⊎◌, inl, inr, ℕ, zero, suc, ◌+◌, ◌≤◌, ◌<◌, List, [], ◌∷◌, length, Option, None, Some, Bool, true, false, refl, ap, arith, length-append, ◌&&◌, if◌then◌else◌}
 use Rattle.std.specs.Prelude.{◌==◌}
 use Rattle.csv.specs.Machine.{Read, next_record, step, is_end, ends_at_end, in_field, start_field, start_record, after_end, ends_with, is_byte, line_feed, carriage_return, fields_after, field_after}

@@ -5,7 +5,7 @@ use Rattle.std.proofs.lemmas.List.{append-nil, drop_min, length-map, length-take
 use Rattle.std.proofs.lemmas.List.Elements.{All-nil, All-push}
 use Rattle.plain_records.specs.Plain.{after_line, ends_line, first_field, first_record, before_first, is_comma}
 use Rattle.plain_records.proofs.LineFacts.{split_first}
-use Rattle.plain_records.proofs.OffsetFacts.{line_ends, line_goes_on, text_behind, text_of_field, text_past_field}
+use Rattle.plain_records.proofs.OffsetFacts.{line_ends, line_goes_on, utf8_after_byte, utf8_of_field, utf8_after_field}
 use Rattle.csv_tables.specs.declared.fields.Field.{Field}
 use Rattle.csv_tables.specs.Fields.{record_of, text_of, IsFieldAt, IsSpan, ReadsRecord}
 use Rattle.csv_tables.specs.Numbers.{number_of}
@@ -19,11 +19,11 @@ span_of bytes at field text cut f =
     record {
       from = omega (arith, f.begins, f.is_field.from);
       within = f.is_field.within;
-      text = subst IsUtf8 is (text_of_field bytes at field.end text cut f.is_field);
+      text = subst IsUtf8 is (utf8_of_field bytes at field.end text cut f.is_field);
       number = subst (λ (t : List ℕ). IfSome field.number (λ number. number_of t ≡ Some number)) is f.number;
     }
 
--- the first fields of a record were read, and the others begin at `at`
+-- the first `place` fields of a record were read, and the next field begins at `at`
 pub record FieldsSoFar (bytes : List ℕ) (start at place : ℕ) (fields : List Field) : Type 0 where
   pub from : start ≤ at
   pub within : at ≤ length bytes
@@ -51,7 +51,7 @@ fields_more bytes start at place fields field s text f l e within =
     record {
       from = omega (arith, s.from, f.is_field.from);
       within = omega (arith, l);
-      cut = text_behind bytes field.end text l (omega (arith, e));
+      cut = utf8_after_byte bytes field.end text l (omega (arith, e));
       read = s.read ∙ ap (λ r. record_of bytes (take place fields) ++ r) (line.fields_are ∙ ap (λ t. t ∷ first_record (drop (field.end + 1) bytes)) (sym (text_is bytes at field f)))
           ∙ joined bytes place fields field (first_record (drop (field.end + 1) bytes)) within;
       spans = spans_more bytes place fields field within s.spans (span_of bytes at field text s.cut f);
@@ -61,7 +61,7 @@ fields_more bytes start at place fields field s text f l e within =
 taken_long : (bytes : List ℕ) (place : ℕ) (fields : List Field) → place ≤ length fields → length (record_of bytes (take place fields)) ≡ place
 taken_long bytes place fields l = length-map (take place fields) (text_of bytes) ∙ length-take-le place fields l
 
--- if a record's last field begins at `at`, the record has as many fields as were read, and one more
+-- if a record's last field begins at `at`, after `place` fields, the record has `place` + 1 fields
 pub last_count : (bytes : List ℕ) (start at place : ℕ) (fields : List Field) (field : Field) → FieldsSoFar bytes start at place fields → IsFieldAt bytes at field
     → (field.end < length bytes → is_comma (get_or bytes field.end 0) ≡ false) → place < length fields → length (first_record (drop start bytes)) ≡ place + 1
 last_count bytes start at place fields field s f e within =
@@ -72,7 +72,7 @@ last_count bytes start at place fields field s f e within =
     ap (λ (r : List (List ℕ)). length r) whole ∙ length-append (record_of bytes (take place fields)) (first_field (drop at bytes) ∷ [])
     ∙ ap (λ n. n + 1) (taken_long bytes place fields inside)
 
--- a record that has as many fields as the header
+-- a record with the header's number of fields
 pub last_field : (bytes : List ℕ) (start at place : ℕ) (fields : List Field) (field : Field) → FieldsSoFar bytes start at place fields → IsUtf8 bytes → IsFieldAt bytes at field
     → (field.end < length bytes → is_comma (get_or bytes field.end 0) ≡ false) → place < length fields → place + 1 ≡ length fields
     → ReadsRecord bytes start (set fields place field) (min (field.end + 1) (length bytes))
@@ -88,7 +88,7 @@ last_field bytes start at place fields field s text f e within last =
         rest = drop_min (field.end + 1) bytes ∙ sym (s.whole ∙ line.behind_is);
         within = omega arith;
         further = λ inside. omega (arith, s.from, f.is_field.from, inside);
-        text = text_past_field bytes field.end text f.is_field.stops;
+        text = utf8_after_field bytes field.end text f.is_field.stops;
       };
     }
 

@@ -1,4 +1,4 @@
--- A list that is read item by item. It is the items that were read, followed by the result of reading the rest.
+-- A list is read item by item. The whole list is the items that were read, followed by the result of reading the remaining items.
 use Rattle.std.proofs.Common.{◌≡◌, List, [], ◌∷◌, ◌++◌, Result, Ok, Err, refl, ap, append_assoc, sym, ◌∙◌}
 use Rattle.csv_tables.specs.declared.types.TableError.{TableError}
 use Rattle.csv_tables.specs.Steps.{then_all}

@@ -132,7 +132,7 @@ columns_long texts rows [] (c ∷ cs) h = absurd h
 columns_long texts rows (k ∷ ks) [] h = absurd h
 columns_long texts rows (k ∷ ks) (c ∷ cs) h = ap (λ n. suc n) (columns_long texts rows ks cs h.1)
 
-row_long : (texts : List (List ℕ)) (kinds : List Kind) (row : Row) (cells : List ℕ) → AreCellsOfRow texts kinds row cells → length cells ≡ length kinds
+pub row_long : (texts : List (List ℕ)) (kinds : List Kind) (row : Row) (cells : List ℕ) → AreCellsOfRow texts kinds row cells → length cells ≡ length kinds
 row_long texts [] [] [] h = refl
 row_long texts [] [] (x ∷ xs) h = absurd h
 row_long texts [] (v ∷ vs) cells h = absurd h

@@ -15,7 +15,7 @@ pub record DigitsSoFar (bytes : List ℕ) (first end size : ℕ) : Type 0 where
   pub small : size < 10 ^ (end - first)
 
 -- one or more digits that spell this number, which is below 10^18
-pub record IsShort (digits : List ℕ) (size : ℕ) : Type 0 where
+pub record SpellsNumberBelow10To18 (digits : List ℕ) (size : ℕ) : Type 0 where
   pub some : 0 < length digits
   pub digits_are : all_ascii_digits digits ≡ true
   pub spelled : decimal_after 0 digits ≡ size
@@ -43,7 +43,7 @@ abbrev pub record_of : List ℕ → List Field → Record
 record_of bytes fields = map (text_of bytes) fields
 
 -- `next` is the offset after the line that begins at `start`
-pub record IsBehind (bytes : List ℕ) (start next : ℕ) : Type 0 where
+pub record IsAfterLine (bytes : List ℕ) (start next : ℕ) : Type 0 where
   pub rest : drop next bytes ≡ after_line (drop start bytes)
   pub within : next ≤ length bytes
   pub further : start < length bytes → start < next
@@ -53,4 +53,4 @@ pub record IsBehind (bytes : List ℕ) (start next : ℕ) : Type 0 where
 pub record ReadsRecord (bytes : List ℕ) (start : ℕ) (fields : List Field) (next : ℕ) : Type 0 where
   pub fields_are : first_record (drop start bytes) ≡ record_of bytes fields
   pub spans : All (IsSpan bytes) fields
-  pub behind : IsBehind bytes start next
+  pub behind : IsAfterLine bytes start next

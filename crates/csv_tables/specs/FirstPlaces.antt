@@ -1,4 +1,4 @@
--- Alike rows: each row gets the index of the first row that is like it as its number.
+-- Each row gets a number: the index of the first row that is like it.
 use Rattle.std.specs.Prelude.{ℕ, ◌≡◌, ◌<◌, ◌≤◌, ◌+◌, ◌==◌, ◌&&◌, nat_eq, Bool, true, false, if◌then◌else◌, List, [], ◌∷◌, length, slice_index, slice_index_or, Option, None, Some}
 use Rattle.std.specs.List.{list_all}
 use Rattle.csv_tables.specs.declared.types.Repeat.{Repeat}
@@ -25,8 +25,8 @@ abbrev pub have_same_cells : List (List ℕ) → List ℕ → ℕ → ℕ → Bo
 have_same_cells columns key i j = list_all
     (λ column. slice_index (slice_index_or columns column []) i == slice_index (slice_index_or columns column []) j) key
 
--- the first row whose number isn't its own index. Its number is the index of the earlier row. Both rows are given as record numbers, from 1. The list
--- begins with the number of row `at`
+-- finds the first row that is like an earlier row, and the first row that it is like. Both are given as record numbers, from 1. The list begins with
+-- the number of row `at`
 abbrev pub repeat_from : ℕ → List ℕ → Option Repeat
 repeat_from at [] = None
 repeat_from at (first ∷ first_places) = if first == at then repeat_from (at + 1) first_places else Some (record { later = at + 1; earlier = first + 1 })

@@ -13,15 +13,15 @@ places_from at name [] = []
 places_from at name (field ∷ fields) =
     if str_eq_ignore_ascii_case field name then at ∷ places_from (at + 1) name fields else places_from (at + 1) name fields
 
--- the only item of a list with exactly one
-abbrev pub only : {X : Type 0} → List X → Option X
-only [] = None
-only (x ∷ []) = Some x
-only (x ∷ y ∷ rest) = None
+-- the item of a list that has exactly one item
+abbrev pub single_item : {X : Type 0} → List X → Option X
+single_item [] = None
+single_item (x ∷ []) = Some x
+single_item (x ∷ y ∷ rest) = None
 
 -- the place of the header field that names the column, if exactly one does
 abbrev pub column_place : List ℕ → Record → Option ℕ
-column_place name header = only (places_from 0 name header)
+column_place name header = single_item (places_from 0 name header)
 
 -- the place of each column. The first column has the number `number`. The first column that isn't named by exactly one field is refused
 abbrev pub column_places : ℕ → List Column → Record → Result (List ℕ) TableError

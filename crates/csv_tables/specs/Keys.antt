@@ -19,8 +19,7 @@ abbrev pub repeat_or : Option Repeat → Option ℕ → ℕ → Option Repeat
 repeat_or rest None later = rest
 repeat_or rest (Some place) later = Some (record { later = later; earlier = place + 1 })
 
--- the lists of values in `seen` come before the later lists. The result is the first later list that equals an earlier one, and the first list that
--- is equal to it. Both are given by number, from 1
+-- the first list after those in `seen` that equals an earlier list, and the first list that it equals. Both are given by number, from 1
 abbrev pub repeat_after : List (List Value) → List (List Value) → Option Repeat
 repeat_after seen [] = None
 repeat_after seen (values ∷ rest) =

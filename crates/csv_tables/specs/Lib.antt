@@ -4,6 +4,7 @@ pub mod Files
 pub mod FirstPlaces
 pub mod Header
 pub mod Keys
+pub mod NumberRows
 pub mod Numbers
 pub mod Pools
 pub mod Reads

@@ -28,7 +28,7 @@ abbrev pub magnitude_of : ℕ → List ℕ → Option ℕ
 magnitude_of most digits =
     if is_numeral digits && nat_le (decimal_after 0 digits) most then Some (decimal_after 0 digits) else None
 
--- the greatest magnitude of a signed number of 64 bits: `true` for numbers below 0, `false` for the others
+-- the greatest magnitude of a signed number of 64 bits: `true` for numbers below 0, `false` for other numbers
 abbrev pub greatest_magnitude : Bool → ℕ
 greatest_magnitude true = 2 ^ 63
 greatest_magnitude false = 2 ^ 63 - 1

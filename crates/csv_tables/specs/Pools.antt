@@ -11,7 +11,7 @@ with_text texts text = if list_any (bytes_eq text) texts then texts else texts +
 abbrev pub TextsAreDifferent : List (List ℕ) → Type 0
 TextsAreDifferent texts = AllPairs (λ a b. a ≢ b) texts
 
--- the new texts begin with the old ones, in their places
+-- the list `new` begins with the texts of the list `old`
 pub record PoolBeginsWith (old new : List (List ℕ)) : Type 0 where
   pub more : List (List ℕ)
   pub grew : new ≡ old ++ more

@@ -24,7 +24,7 @@ AreCellsOfRow texts (kind ∷ kinds) [] cells = ⊥
 AreCellsOfRow texts (kind ∷ kinds) (value ∷ values) [] = ⊥
 AreCellsOfRow texts (kind ∷ kinds) (value ∷ values) (cell ∷ cells) = IsCellOf texts kind value cell × AreCellsOfRow texts kinds values cells
 
--- `stated` is a row, and these are its cells
+-- `stated` is a row (no refusal), and these are the row's cells
 pub record HoldsRow (stated : Result Row TableError) (texts : List (List ℕ)) (kinds : List Kind) (cells : List ℕ) : Type 0 where
   pub row : Row
   pub is_row : stated ≡ Ok row
@@ -36,8 +36,14 @@ add_row [] cells = []
 add_row (column ∷ columns) [] = column ∷ columns
 add_row (column ∷ columns) (cell ∷ cells) = (column ++ cell ∷ []) ∷ add_row columns cells
 
--- `stated` are rows, and these are their columns
+-- `stated` is a list of rows (no refusal), and these are the columns of these rows
 pub record HoldsColumns (stated : Result (List Row) TableError) (texts : List (List ℕ)) (kinds : List Kind) (columns : List (List ℕ))
     (rows : ℕ) : Type 0 where
   pub rows_are : stated ≡ Ok (rows_of_columns texts kinds columns rows)
   pub are_columns : AreColumns texts rows kinds columns
+
+-- `stated` is a row (no refusal), and `new` are the columns `old` with this row added
+pub record AddsRow (stated : Result Row TableError) (texts : List (List ℕ)) (kinds : List Kind) (old new : List (List ℕ)) : Type 0 where
+  pub cells : List ℕ
+  pub row : HoldsRow stated texts kinds cells
+  pub added : new ≡ add_row old cells

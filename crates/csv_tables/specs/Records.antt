@@ -12,10 +12,10 @@ use Rattle.csv.specs.declared.reader.Trim.TheVariants as trim
 abbrev pub Record : Type 0
 Record = List (List ℕ)
 
--- the records of bytes, as the kit's crate csv has them (`records` of its specs; no file of this repository repeats this definition). Commas separate
--- fields. CR, LF, or both end a record, and so does the end of the bytes. An empty line is no record. A double quote counts only at the front of a
--- field. Up to the closing quote, commas and line ends belong to the field, and two quotes in a row mean one quote. The bytes between the closing
--- quote and the next comma belong to the field too. A field whose quote is never closed goes on to the end of the bytes
+-- the records of bytes, by the definition `records` in the specs of the kit's crate csv. Commas separate fields. CR, LF, or both end a record, and so
+-- does the end of the bytes. An empty line is no record. A double quote counts only at the front of a field. Up to the closing quote, commas and line
+-- ends belong to the field, and two quotes in a row mean one quote. The bytes between the closing quote and the next comma belong to the field too. A
+-- field whose quote is never closed goes on to the end of the bytes
 abbrev pub records_of : List ℕ → List Record
 records_of bytes = records default_config bytes
 

@@ -1,8 +1,9 @@
 //! Reads the fields of a record one after another, from bytes without a quotation mark.
-ghost use Rattle.std.specs.Prelude.{◌≡◌, ◌+◌, ◌<◌, ◌≤◌, ◌≢◌, ◌^◌, [], drop, false, length, neg_ℤ, option_map, pos, slice_index, true, IfSome, IsUtf8, MatchOption};
+ghost use Rattle.std.specs.Prelude.{◌≡◌, ◌+◌, ◌-◌, ◌<◌, ◌≤◌, ◌≢◌, ◌^◌, [], drop, false, length, neg_ℤ, option_map, pos, slice_index, true, IfSome, IsUtf8, MatchOption};
+ghost use Rattle.std.specs.Char.{is_ascii_digit};
 ghost use Rattle.plain_records.specs.Offsets.{FieldSoFar, IsField};
 ghost use Rattle.plain_records.specs.Plain.{first_field, first_record, is_comma as stops_comma};
-ghost use Rattle.csv_tables.specs.Fields.{DigitsSoFar, IsFieldAt, IsShort, ReadsRecord};
+ghost use Rattle.csv_tables.specs.Fields.{DigitsSoFar, IsFieldAt, SpellsNumberBelow10To18, ReadsRecord};
 
 use plain_records::{ends_field, field_end};
 
@@ -22,7 +23,7 @@ impl Field {
     };
 }
 
-// Digits that were read: the number that they spell, and the byte offset after them.
+// Digits that were read: the number that they spell, and the byte offset after the digits.
 #[derive(Clone, Copy)]
 struct Digits {
     size: u64,
@@ -32,6 +33,15 @@ struct Digits {
 // At most eighteen digits spell a number below 10^18, so no step has to test for overflow.
 const SHORT: usize = 18;
 
+// The value of a digit. It is above nine for a byte that isn't a digit, so one comparison tells digits from other bytes.
+#[inline]
+fn digit_of(byte: u8) -> u64
+    ensures digit { result ≤ 9 → is_ascii_digit byte ≡ true }
+    ensures value { result ≤ 9 → result ≡ byte - 48 }
+{
+    (byte as u64).wrapping_sub(b'0' as u64)
+}
+
 // Reads at most eighteen digits of a field, from the offset `first` on.
 #[inline]
 fn read_digits(bytes: &[u8], first: usize) -> Digits
@@ -39,25 +49,26 @@ fn read_digits(bytes: &[u8], first: usize) -> Digits
     ensures digits { DigitsSoFar bytes.now first result.end result.size }
     ensures few { result.end ≤ first + 18 }
 {
+    let limit = bytes.len().min(first + SHORT);
     let mut size: u64 = 0;
     let mut end = first;
-    'digits: while end < bytes.len() && end - first < SHORT {
-        let digit = bytes[end];
-        if !digit.is_ascii_digit() {
+    'digits: while end < limit {
+        let digit = digit_of(bytes[end]);
+        if digit > 9 {
             break;
         }
-        size = size * 10 + (digit - b'0') as u64;
+        size = size * 10 + digit;
         end += 1;
     }
     Digits { size, end }
 }
 
-// Whether a field that was read up to the offset `place` ends there.
+// Whether a field that was read up to this offset ends there.
 #[inline]
-fn is_at_end(bytes: &[u8], place: usize) -> bool
-    ensures { result ≡ true → first_field (drop place bytes.now) ≡ [] }
+fn is_at_end(bytes: &[u8], offset: usize) -> bool
+    ensures { result ≡ true → first_field (drop offset bytes.now) ≡ [] }
 {
-    place >= bytes.len() || ends_field(bytes[place])
+    offset >= bytes.len() || ends_field(bytes[offset])
 }
 
 // The end of a field, and the number that its digits spell, if that number is known.
@@ -72,7 +83,7 @@ struct UnsignedField {
 fn read_unsigned(bytes: &[u8], start: usize, first: usize) -> UnsignedField
     requires { FieldSoFar bytes.now start first }
     ensures field { IsField bytes.now start result.end }
-    ensures size { IfSome result.size (IsShort (first_field (drop first bytes.now))) }
+    ensures size { IfSome result.size (SpellsNumberBelow10To18 (first_field (drop first bytes.now))) }
 {
     let digits = read_digits(bytes, first);
     if digits.end == first {
@@ -117,15 +128,15 @@ fn below_zero(size: Option<u64>) -> Option<i64>
 
 // Whether the byte at this offset is a minus sign.
 #[inline]
-fn is_minus(bytes: &[u8], place: usize) -> bool
-    ensures { result ≡ true → (place < length bytes.now) × (slice_index bytes.now place ≡ 45) }
+fn is_minus(bytes: &[u8], offset: usize) -> bool
+    ensures { result ≡ true → (offset < length bytes.now) × (slice_index bytes.now offset ≡ 45) }
 {
-    place < bytes.len() && bytes[place] == b'-'
+    offset < bytes.len() && bytes[offset] == b'-'
 }
 
-// Reads the field that begins at `start`. Its number is known if it is one to eighteen digits, with or without a minus sign before them.
-#[inline]
-fn read_number(bytes: &[u8], start: usize) -> Field
+/// Reads the field that begins at `start`. Its number is known if the field is one to eighteen digits, with or without a minus sign in front.
+#[inline(always)]
+pub(crate) fn read_number(bytes: &[u8], start: usize) -> Field
     requires { start ≤ length bytes.now }
     ensures { IsFieldAt bytes.now start result }
 {
@@ -163,13 +174,13 @@ fn read_field(bytes: &[u8], start: usize, is_number: bool) -> Field
     }
 }
 
-// Whether the byte at this offset is a comma.
+/// Whether the byte at this offset is a comma.
 #[inline]
-fn is_comma(bytes: &[u8], place: usize) -> bool
-    ensures yes { result ≡ true → (place < length bytes.now) × (slice_index bytes.now place ≡ 44) }
-    ensures no { result ≡ false → place < length bytes.now → stops_comma (slice_index bytes.now place) ≡ false }
+pub(crate) fn is_comma(bytes: &[u8], offset: usize) -> bool
+    ensures yes { result ≡ true → (offset < length bytes.now) × (slice_index bytes.now offset ≡ 44) }
+    ensures no { result ≡ false → offset < length bytes.now → stops_comma (slice_index bytes.now offset) ≡ false }
 {
-    place < bytes.len() && bytes[place] == b','
+    offset < bytes.len() && bytes[offset] == b','
 }
 
 /// Reads the fields of the record that begins at `start`, and returns the offset after the record. The result is `None` if the record has fewer or

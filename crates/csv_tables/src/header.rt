@@ -17,7 +17,7 @@ fn is_named(field: &[u8], name: &[u8]) -> bool
     field.eq_ignore_ascii_case(name)
 }
 
-// The place of the field that equals `name`, ignoring ASCII case. It is None if no field equals `name`, or if several fields do.
+// The place (index) of the field that equals `name`, ignoring ASCII case. It is None if no field equals `name`, or if several fields equal it.
 fn place_of(name: &[u8], header: &ByteRecord) -> Option<usize>
     ensures { result ≡ named_place name.now (fields_of header.now) }
 {

@@ -48,7 +48,7 @@ fn number_pairs(alloc: Global, first_places: &mut [u32], cells: &[u64]) -> Resul
     Ok(())
 }
 
-// The first row whose number isn't its own index. Its number is the index of the earlier row. Both rows are given as record numbers, from 1.
+// Finds the first row that is like an earlier row, and the first row that it is like. Both are given as record numbers, from 1.
 fn repeat_in(first_places: &[u32]) -> Option<Repeat>
     requires few { length first_places.now ≤ most_rows }
     requires below { (i : ℕ) → i < length first_places.now → slice_index first_places.now i ≤ i }
@@ -77,7 +77,7 @@ fn ascends(cells: &[u64]) -> bool
     true
 }
 
-// Whether the cells of one of a key's columns ascend. Then no two rows have the same cells in all of the key's columns.
+// Whether the cells of some column of the key ascend. Then no two rows have the same cells in all columns of the key.
 fn has_ascending(key: &[u32], columns: &[Seq<u64>], rows: u32) -> bool
     requires heights { All (λ column. length column ≡ rows) columns.now }
     requires key { All (λ column. column < length columns.now) key.now }
@@ -103,7 +103,7 @@ fn repeat_of_key(
     requires few { rows ≤ most_rows }
     ensures { IfOk result (IsRepeat columns.now key.now rows) }
 {
-    // Keys mostly ascend in their file. Then no hash map of seen values is needed.
+    // In most files a key's cells ascend from row to row. Then no hash map of seen values is needed.
     if has_ascending(key, columns, rows) {
         return Ok(None);
     }

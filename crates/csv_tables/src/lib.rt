@@ -15,6 +15,7 @@ mod fields;
 mod header;
 mod keys;
 mod number;
+mod number_rows;
 mod order;
 mod plain;
 mod pool;

@@ -1,12 +1,13 @@
 //! Reads the records of a file without a quotation mark into cells.
-ghost use Rattle.std.specs.Prelude.{◌≡◌, ◌<◌, ◌≤◌, ◌+◌, ◌^◌, ◌∷◌, [], All, drop, length, List, ℕ, option_map, replicate, slice_index_or, IfErr, IfOk, IfSome, IsUtf8, OnOk};
+ghost use Rattle.std.specs.Prelude.{◌≡◌, ◌<◌, ◌≤◌, ◌+◌, ◌^◌, ◌∷◌, [], All, drop, length, List, ℕ, option_map, replicate, slice_index_or, true, vec_len, IfErr, IfOk, IfSome, IsUtf8, OnOk};
 ghost use Rattle.limits.specs.Profile.{most_file, most_rows};
 ghost use Rattle.csv.specs.Reading.{strip_bom};
 ghost use Rattle.plain_records.specs.Plain.{after_line, first_record, plain_records};
 ghost use Rattle.csv_tables.specs.Cells.{value_of_cell, IsCell};
-ghost use Rattle.csv_tables.specs.Fields.{record_of, text_of, IsBehind, IsSpan};
+ghost use Rattle.csv_tables.specs.Fields.{record_of, text_of, IsAfterLine, IsSpan};
+ghost use Rattle.csv_tables.specs.NumberRows.{AreNumbersInOrder};
 ghost use Rattle.csv_tables.specs.Pools.{PoolBeginsWith};
-ghost use Rattle.csv_tables.specs.Reads.{kinds_of, HoldsColumns, HoldsRow};
+ghost use Rattle.csv_tables.specs.Reads.{kinds_of, AddsRow, HoldsColumns, HoldsRow};
 ghost use Rattle.csv_tables.specs.Records.{Record};
 ghost use Rattle.csv_tables.specs.Refused.{IsRefusalOrNoMemory};
 ghost use Rattle.csv_tables.specs.Rows.{row_of_record, rows_of_records, values_of_record};
@@ -15,6 +16,7 @@ ghost use Rattle.csv_tables.specs.Values.{value_of_field};
 use crate::TableError;
 use crate::cell::cell_of;
 use crate::fields::{Field, read_fields};
+use crate::number_rows::{are_numbers_in_order, read_numbers};
 use crate::pool::Pool;
 use crate::rows::{cell_of_field, push_row};
 use base_io::{NoMemory, Seq};
@@ -24,7 +26,7 @@ use schema_types::{Column, Kind};
 use std::alloc::Global;
 
 // The length of the byte order mark at the front, or 0 if there is no mark.
-fn mark_of(bytes: &[u8]) -> usize
+fn mark_length(bytes: &[u8]) -> usize
     ensures within { result ≤ length bytes.now }
     ensures rest { drop result bytes.now ≡ strip_bom bytes.now }
 {
@@ -43,7 +45,7 @@ pub(crate) fn offset_after_header(bytes: &[u8]) -> usize
     ensures records { (header : Record) → (records : List Record)
         → plain_records (strip_bom bytes.now) ≡ header ∷ records → plain_records (drop result bytes.now) ≡ records }
 {
-    let start = skip_line_ends(bytes, mark_of(bytes));
+    let start = skip_line_ends(bytes, mark_length(bytes));
     line_at(bytes, start).next
 }
 
@@ -148,7 +150,7 @@ fn read_record_at(
     requires room { length pool.old + 64 < 4294967295 }
     ensures ok { IfOk result (λ _. HoldsRow (row_of_record columns.now places.now (length numbers.now) number (first_record (drop start bytes.now)))
         pool.new (kinds_of columns.now) cells.new.items) }
-    ensures next { IfOk result (IsBehind bytes.now start) }
+    ensures next { IfOk result (IsAfterLine bytes.now start) }
     ensures refused { IfErr result (IsRefusalOrNoMemory (row_of_record columns.now places.now (length numbers.now) number (first_record (drop start bytes.now)))) }
     ensures begins { PoolBeginsWith pool.old pool.new }
     ensures few { number ≤ most_rows → length pool.new ≤ length pool.old + 64 }
@@ -167,6 +169,55 @@ fn read_record_at(
         });
     };
     read_values(columns, places, bytes, fields, number, pool, cells)?;
+    Ok(next)
+}
+
+// Reads the record that begins at `start`, adds its row to the columns `found`, and returns the byte offset after the record. A record of plain
+// numbers in the order of the columns goes straight into `values`. Any other record is read field by field.
+fn read_row_at(
+    columns: &[Column],
+    places: &[usize],
+    numbers: &[bool],
+    is_numeric: bool,
+    bytes: &[u8],
+    start: usize,
+    number: u32,
+    pool: &mut Pool,
+    fields: &mut [Field],
+    values: &mut [u64],
+    cells: &mut Vec<u64>,
+    found: &mut Vec<Seq<u64>>,
+) -> Result<usize, TableError>
+    requires paired { length places.now ≡ length columns.now }
+    requires columns { length columns.now ≤ 64 }
+    requires long { length fields.old ≡ length numbers.now }
+    requires values { length values.old ≡ length numbers.now }
+    requires numeric { is_numeric ≡ true → AreNumbersInOrder columns.now places.now (length numbers.now) }
+    requires wide { vec_len found.old ≡ length columns.now }
+    requires file { length bytes.now ≤ most_file }
+    requires within { start < length bytes.now }
+    requires text { IsUtf8 bytes.now }
+    requires cut { IsUtf8 (drop start bytes.now) }
+    requires room { length pool.old + 64 < 4294967295 }
+    ensures ok { IfOk result (λ _. AddsRow (row_of_record columns.now places.now (length numbers.now) number (first_record (drop start bytes.now)))
+        pool.new (kinds_of columns.now) found.old.items found.new.items) }
+    ensures next { IfOk result (IsAfterLine bytes.now start) }
+    ensures refused { IfErr result (IsRefusalOrNoMemory (row_of_record columns.now places.now (length numbers.now) number (first_record (drop start bytes.now)))) }
+    ensures begins { PoolBeginsWith pool.old pool.new }
+    ensures few { number ≤ most_rows → length pool.new ≤ length pool.old + 64 }
+    ensures past { most_rows < number → pool.new ≡ pool.old }
+    ensures number { IfOk result (λ _. number ≤ most_rows) }
+{
+    if is_numeric && number <= MOST_ROWS {
+        if let Some(next) = read_numbers(bytes, start, values) {
+            push_row(found, values)?;
+            return Ok(next);
+        }
+    }
+    let next = read_record_at(
+        columns, places, numbers, bytes, start, number, pool, fields, cells,
+    )?;
+    push_row(found, cells)?;
     Ok(next)
 }
 
@@ -191,15 +242,23 @@ fn numbers_of(
 }
 
 // `count` fields that aren't read yet.
-fn no_fields(alloc: Global, count: usize) -> Result<Vec<Field>, NoMemory>
+fn unread_fields(alloc: Global, count: usize) -> Result<Vec<Field>, NoMemory>
     ensures { IfOk result (λ fields. length fields.items ≡ count) }
 {
     let fields = vec![in alloc; Field::NONE; count]?;
     Ok(fields)
 }
 
+// `count` cells that aren't read yet.
+fn unread_cells(alloc: Global, count: usize) -> Result<Vec<u64>, NoMemory>
+    ensures { IfOk result (λ cells. length cells.items ≡ count) }
+{
+    let cells = vec![in alloc; 0u64; count]?;
+    Ok(cells)
+}
+
 // A column without cells. It has room for `room` cells, if there is enough memory for them.
-fn roomy_column(alloc: Global, room: usize) -> Seq<u64>
+fn column_with_room(alloc: Global, room: usize) -> Seq<u64>
     ensures { result ≡ [] }
 {
     match Vec::with_capacity(alloc, room) {
@@ -209,12 +268,12 @@ fn roomy_column(alloc: Global, room: usize) -> Seq<u64>
 }
 
 // `count` columns without cells, each with room for `room` cells, if there is enough memory for them.
-fn roomy_columns(alloc: Global, count: usize, room: usize) -> Result<Vec<Seq<u64>>, NoMemory>
+fn columns_with_room(alloc: Global, count: usize, room: usize) -> Result<Vec<Seq<u64>>, NoMemory>
     ensures { IfOk result (λ columns. columns.items ≡ replicate count []) }
 {
     let mut columns = Vec::new(alloc);
     'columns: for _column in 0..count {
-        columns.push(roomy_column(alloc, room))?;
+        columns.push(column_with_room(alloc, room))?;
     }
     Ok(columns)
 }
@@ -245,26 +304,31 @@ pub(crate) fn read_plain_rows(
     ensures begins { PoolBeginsWith pool.old pool.new }
     ensures few { length pool.new ≤ length pool.old + 256000000 }
 {
-    let mut found = roomy_columns(alloc, columns.len(), room)?;
+    let mut found = columns_with_room(alloc, columns.len(), room)?;
     let numbers = numbers_of(alloc, columns, places, width)?;
-    let mut read = no_fields(alloc, width)?;
+    let is_numeric = are_numbers_in_order(columns, places, width);
+    let mut read = unread_fields(alloc, width)?;
     let fields = read.as_mut_slice();
+    let mut read_cells = unread_cells(alloc, width)?;
+    let values = read_cells.as_mut_slice();
     let mut cells = Vec::new(alloc);
     let mut rows: u32 = 0;
     let mut at = skip_line_ends(bytes, start);
     'rows: while at < bytes.len() {
-        let next = read_record_at(
+        let next = read_row_at(
             columns,
             places,
             &numbers,
+            is_numeric,
             bytes,
             at,
             rows + 1,
             pool,
             fields,
+            values,
             &mut cells,
+            &mut found,
         )?;
-        push_row(&mut found, &cells)?;
         rows += 1;
         at = skip_line_ends(bytes, next);
     }

@@ -23,7 +23,7 @@ use schema_types::{Column, Kind};
 use std::alloc::Global;
 
 // Whether a text has at most `most` characters.
-fn is_short(text: &str, most: u32) -> bool
+fn has_at_most(text: &str, most: u32) -> bool
     ensures { result ≡ nat_le (length (chars text.now)) most }
 {
     text.chars().count() <= most as usize
@@ -40,7 +40,7 @@ fn cell_of_text(pool: &mut Pool, most: u32, field: &[u8]) -> Result<Option<u64>,
     ensures few { length pool.new ≤ length pool.old + 1 }
 {
     let text = unsafe { str::from_utf8_unchecked(field) };
-    if !is_short(text, most) {
+    if !has_at_most(text, most) {
         return Ok(None);
     }
     Ok(Some(pool.intern(text)? as u64))

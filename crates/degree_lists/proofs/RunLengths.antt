@@ -1,4 +1,4 @@
--- The code finds the lengths of the runs of equal neighbours of an ascending list, run by run. These lengths are the degrees of the different keys.
+-- The lengths of the runs of equal neighbours in an ascending list of keys are the degrees of the different keys.
 use Rattle.std.proofs.Common.{◌≡◌, ℕ, zero, suc, ◌+◌, ◌-◌, ◌<◌, ◌≤◌, false, cond, eqb, List, [], ◌∷◌, ◌++◌, map, length, get_or, take, replicate, refl, ap, sym, ◌∙◌, subst, arith, length-take, append_assoc, add-one, inl, inr}
 use Rattle.std.specs.List.Sorted.{IsNonDecreasing}
 use Rattle.std.proofs.lemmas.List.{take_more, get_or-take, replicate_more, append-nil, take_all}
@@ -15,8 +15,8 @@ pub record AreLengths (sorted lengths : List ℕ) (run i : ℕ) : Type 0 where
   pub alike : (k : ℕ) → i - run ≤ k → k < i → get_or sorted k 0 ≡ get_or sorted i 0
   pub below : (k : ℕ) → k < i - run → i < length sorted → get_or sorted k 0 < get_or sorted (i - run) 0
 
-pub no_lengths : (sorted : List ℕ) → AreLengths sorted [] 0 0
-no_lengths sorted = record {
+pub no_runs_yet : (sorted : List ℕ) → AreLengths sorted [] 0 0
+no_runs_yet sorted = record {
   within = omega arith;
   more = λ some. absurd (omega arith);
   done = refl;

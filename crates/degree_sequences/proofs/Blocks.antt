@@ -1,4 +1,4 @@
--- These lemmas are about a run of equal numbers at the front of a list.
+-- A run of equal numbers at the front of a list.
 use Rattle.std.proofs.Common.{List, ap, drop, refl, replicate, suc, zero, zero-add, ℕ, ◌++◌, ◌+◌, ◌∙◌, ◌∷◌, ◌≡◌}
 use Rattle.std.proofs.Math.Nat.{suc-add}
 

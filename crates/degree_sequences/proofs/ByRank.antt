@@ -4,7 +4,7 @@ use Rattle.std.proofs.Common.{List, [], arith, get_or, length, max, refl, suc, s
 use Rattle.std.proofs.Math.Nat.{mul-le-mul, mul-zero, mul_comm, zero-mul}
 use Rattle.std.specs.List.{AllByRecursion, AllZip}
 use Rattle.std.proofs.lemmas.List.Sums.{sum_by-cons}
-use Rattle.degree_sequences.proofs.FallingLists.{IsDescending-from_sums, sums_fall}
+use Rattle.degree_sequences.proofs.FallingLists.{IsDescending-from_sums, sums_are_concave}
 use Rattle.degree_sequences.proofs.Summation.{sum_below, sum_below-list, sum_below-mul-le, sum_below-product, sum_below-same}
 use Rattle.degree_sequences.specs.ByRank.{rank_maximum, rank_product, rank_product_with, rank_product_of, rank_sum}
 use Rattle.degree_sequences.specs.Descending.{IsDescending}
@@ -66,7 +66,7 @@ running_sum-rank_sum (x ∷ s) (y ∷ t) (suc r) = omega (arith, running_sum-ran
 
 pub IsDescending-rank_sum : (s t : List ℕ) → IsDescending s → IsDescending t → IsDescending (rank_sum s t)
 IsDescending-rank_sum s t fs ft = IsDescending-from_sums (rank_sum s t)
-    (λ r. omega (arith, running_sum-rank_sum s t r, running_sum-rank_sum s t (suc r), running_sum-rank_sum s t (suc (suc r)), sums_fall s fs r, sums_fall t ft r))
+    (λ r. omega (arith, running_sum-rank_sum s t r, running_sum-rank_sum s t (suc r), running_sum-rank_sum s t (suc (suc r)), sums_are_concave s fs r, sums_are_concave t ft r))
 
 pub get_or-rank_sum : (s t : List ℕ) (r : ℕ) → get_or (rank_sum s t) r 0 ≡ get_or s r 0 + get_or t r 0
 get_or-rank_sum [] t r = omega arith

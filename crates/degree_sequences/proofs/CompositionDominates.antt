@@ -7,8 +7,8 @@ use Rattle.std.proofs.lemmas.List.Sums.{count_by-le-length, length-filter, sum_b
 use Rattle.std.specs.List.{AllByRecursion, AllZip, IsDistinct, filter, range_with_len, sum_by}
 use Rattle.std.proofs.lemmas.List.FromFn.{length-range_with_len}
 use Rattle.degree_sequences.proofs.ByRank.{get_or-rank_product}
-use Rattle.degree_sequences.proofs.Counting.{All-filter, IsDistinct-different, IsDistinct-filter, everywhere, is_in, is_in-different, sum_by-both, sum_by-filter, sum_by-map, sum_by-nothing, sum_by-same, weaker}
-use Rattle.degree_sequences.proofs.DegreeLists.{places_fit}
+use Rattle.degree_sequences.proofs.Counting.{All-filter, IsDistinct-different, IsDistinct-filter, all_if_true_of_any, is_in, is_in-different, sum_by-both, sum_by-filter, sum_by-map, sum_by-nothing, sum_by-same, weaken_each}
+use Rattle.degree_sequences.proofs.DegreeLists.{length_at_most_sum}
 use Rattle.degree_sequences.proofs.Indices.{All-range, IsDistinct-range, count_by-degree, count_by-le-places, is_in-range, key_weight, length-le-members, sum_by-keys, sum_by-places}
 use Rattle.degree_sequences.proofs.ProductDominates.{rank_product_dominates}
 use Rattle.degree_sequences.proofs.RowWeights.{get_or-row_weights, spreads}
@@ -46,8 +46,8 @@ keys_of_rows_dominated g keys dom B apart below E apart_E =
       dom E apart_E,
     )
 
--- the child's class list, spread over its column, dominates the weights of the rows. Spread: element r is repeated as often as element r of
--- the column says
+-- The child's class list, spread over its column, dominates the weights of the rows. (Spread: element r of the class list is repeated c times,
+-- where c is element r of the column's list.)
 pub child_dominates : (n : ℕ) (c : ChildLists) (k : ChildKeys) → DominatesChild n c k
     → DominatesWeights (spread c.column c.class) (λ i. cond (ltb i n) (k.weight (get_or k.keys i 0)) 0)
 child_dominates n c k d A apart =
@@ -79,7 +79,7 @@ rows_dominated total n fits [] [] all A apart =
     omega (arith, few, length-range_with_len 0 n, length-filter (λ i. ltb i n) A, count_by-le-length (λ i. ltb i n) A, running_sum-ones total (length A))
   where
     members : (B : List ℕ) → AllByRecursion (λ a. a < n) B → AllByRecursion (λ b. is_in (range_with_len 0 n) b ≡ true) B
-    members B h = weaker (λ a. a < n) (λ b. is_in (range_with_len 0 n) b ≡ true) (λ b k. is_in-range 0 n b (omega arith) (omega arith)) B h
+    members B h = weaken_each (λ a. a < n) (λ b. is_in (range_with_len 0 n) b ≡ true) (λ b k. is_in-range 0 n b (omega arith) (omega arith)) B h
 rows_dominated total n fits [] (k ∷ ks) all A apart = absurd all
 rows_dominated total n fits (c ∷ cs) [] all A apart = absurd all
 rows_dominated total n fits (c ∷ cs) (k ∷ ks) all A apart =
@@ -105,14 +105,14 @@ get_or-spreads total n fits (c ∷ cs) [] all r h = absurd all
 get_or-spreads total n fits (c ∷ cs) (k ∷ ks) all r h =
     get_or-rank_product (spreads cs total) (spread c.column c.class) r
     ∙ mul_comm (get_or (spreads cs total) r 0) (get_or (spread c.column c.class) r 0)
-    ∙ ap (λ x. x * get_or (spreads cs total) r 0) (get_or-spread c.column c.class r (omega (arith, places_fit c.column k.keys all.0.column, all.0.key_per_row)))
+    ∙ ap (λ x. x * get_or (spreads cs total) r 0) (get_or-spread c.column c.class r (omega (arith, length_at_most_sum c.column k.keys all.0.column, all.0.key_per_row)))
     ∙ ap (λ x. get_or c.class (rank c.column (suc r) - 1) 0 * x) (get_or-spreads total n fits cs ks all.1 r h)
 
 pub rows_within : (total n : ℕ) → n ≤ total → (cs : List ChildLists) (ks : List ChildKeys) → AllZip (DominatesChild n) cs ks
     → (R : List ℕ) → IsDistinct eqb R → AllByRecursion (λ i. i < n) R → sum_by (weight_of_row ks) R ≤ running_sum (row_weights cs total) (length R)
 rows_within total n fits cs ks all R apart below =
     let few : length R ≤ length (range_with_len 0 n) = length-le-members R (range_with_len 0 n) apart
-    (weaker (λ a. a < n) (λ b. is_in (range_with_len 0 n) b ≡ true) (λ b k. is_in-range 0 n b (omega arith) (omega arith)) R below) in
+    (weaken_each (λ a. a < n) (λ b. is_in (range_with_len 0 n) b ≡ true) (λ b k. is_in-range 0 n b (omega arith) (omega arith)) R below) in
     let agree : running_sum (spreads cs total) (length R) ≡ running_sum (row_weights cs total) (length R) =
     running_sum-agree (spreads cs total) (row_weights cs total) (length R)
     (λ k h. get_or-spreads total n fits cs ks all k (omega (arith, few, length-range_with_len 0 n)) ∙ sym (get_or-row_weights cs total k (omega (arith, few, length-range_with_len 0 n)))) in
@@ -126,7 +126,7 @@ rows_within total n fits cs ks all R apart below =
 
 pub by_parent : (h key : ℕ → ℕ) (A : List ℕ) → IsDistinct eqb A → (R : List ℕ)
     → sum_by (λ a. sum_by (λ i. cond (eqb (key i) a) (h i) 0) R) A ≡ sum_by (λ i. cond (is_in A (key i)) (h i) 0) R
-by_parent h key A apart [] = sum_by-nothing (λ a. 0) A (everywhere (λ a. 0 ≡ 0) (λ a. refl) A)
+by_parent h key A apart [] = sum_by-nothing (λ a. 0) A (all_if_true_of_any (λ a. 0 ≡ 0) (λ a. refl) A)
 by_parent h key A apart (i ∷ R) =
     omega (
       arith,
@@ -147,7 +147,7 @@ composed_dominates g parents cs ks dom all A apart =
     let many : length R ≤ running_sum g (length A) =
     omega (arith, length-filter (λ i. is_in A (key i)) (range_with_len 0 n), sum_by-places (λ x. cond (is_in A x) 1 0) parents, dom A apart) in
     let rows : sum_by (weight_of_row ks) R ≤ running_sum U (length R) =
-    rows_within (sum g) n (places_fit g parents dom) cs ks all R (IsDistinct-filter (λ i. is_in A (key i)) (range_with_len 0 n) (IsDistinct-range 0 n))
+    rows_within (sum g) n (length_at_most_sum g parents dom) cs ks all R (IsDistinct-filter (λ i. is_in A (key i)) (range_with_len 0 n) (IsDistinct-range 0 n))
     (All-filter (λ i. i < n) (λ i. is_in A (key i)) (range_with_len 0 n) (All-range 0 n n (omega arith))) in
     omega (
       arith,

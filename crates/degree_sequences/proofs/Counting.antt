@@ -39,13 +39,13 @@ pub sum_by-map : (f : ℕ → ℕ) (h : ℕ → ℕ) (A : List ℕ) → sum_by f
 sum_by-map f h [] = refl
 sum_by-map f h (a ∷ A) = omega (arith, sum_by-cons f (h a) (map h A), sum_by-cons (λ a. f (h a)) a A, sum_by-map f h A)
 
-pub everywhere : (Q : ℕ → Type 0) → ((x : ℕ) → Q x) → (xs : List ℕ) → AllByRecursion Q xs
-everywhere Q h [] = tt
-everywhere Q h (x ∷ xs) = (h x, everywhere Q h xs)
+pub all_if_true_of_any : (Q : ℕ → Type 0) → ((x : ℕ) → Q x) → (xs : List ℕ) → AllByRecursion Q xs
+all_if_true_of_any Q h [] = tt
+all_if_true_of_any Q h (x ∷ xs) = (h x, all_if_true_of_any Q h xs)
 
-pub weaker : (Q R : ℕ → Type 0) → ((x : ℕ) → Q x → R x) → (xs : List ℕ) → AllByRecursion Q xs → AllByRecursion R xs
-weaker Q R h [] k = tt
-weaker Q R h (x ∷ xs) k = (h x k.0, weaker Q R h xs k.1)
+pub weaken_each : (Q R : ℕ → Type 0) → ((x : ℕ) → Q x → R x) → (xs : List ℕ) → AllByRecursion Q xs → AllByRecursion R xs
+weaken_each Q R h [] k = tt
+weaken_each Q R h (x ∷ xs) k = (h x k.0, weaken_each Q R h xs k.1)
 
 abbrev pub is_in : List ℕ → ℕ → Bool
 is_in D x = list_any (λ d. eqb x d) D
@@ -54,30 +54,30 @@ pub same_cond : (b : Bool) (n : ℕ) → cond b n n ≡ n
 same_cond true n = refl
 same_cond false n = refl
 
-pub none_there : (q : ℕ → Bool) (x : ℕ) (D : List ℕ) → AllByRecursion (λ y. eqb x y ≡ false) D
+pub none_equal_count : (q : ℕ → Bool) (x : ℕ) (D : List ℕ) → AllByRecursion (λ y. eqb x y ≡ false) D
     → sum_by (λ d. cond (q d) (cond (eqb x d) 1 0) 0) D ≡ 0
-none_there q x D h = sum_by-nothing (λ d. cond (q d) (cond (eqb x d) 1 0) 0) D
-    (weaker (λ y. eqb x y ≡ false) (λ d. cond (q d) (cond (eqb x d) 1 0) 0 ≡ 0) (λ y e. rw e (same_cond (q y) 0)) D h)
+none_equal_count q x D h = sum_by-nothing (λ d. cond (q d) (cond (eqb x d) 1 0) 0) D
+    (weaken_each (λ y. eqb x y ≡ false) (λ d. cond (q d) (cond (eqb x d) 1 0) 0 ≡ 0) (λ y e. rw e (same_cond (q y) 0)) D h)
 
-pub one_place : (q : ℕ → Bool) (x : ℕ) (D : List ℕ) → IsDistinct eqb D → is_in D x ≡ true
+pub one_equal_count : (q : ℕ → Bool) (x : ℕ) (D : List ℕ) → IsDistinct eqb D → is_in D x ≡ true
     → sum_by (λ d. cond (q d) (cond (eqb x d) 1 0) 0) D ≡ cond (q x) 1 0
-one_place q x [] apart h = absurd (false≢true h)
-one_place q x (d ∷ D) apart h =
+one_equal_count q x [] apart h = absurd (false≢true h)
+one_equal_count q x (d ∷ D) apart h =
     let f : ℕ → ℕ = λ d. cond (q d) (cond (eqb x d) 1 0) 0 in
     let parts : sum_by f (d ∷ D) ≡ f d + sum_by f D = sum_by-cons f d D in
     elim (cases_Bool (eqb x d)) [
       | inl e ↦ (let same : x ≡ d = eqb-true x d e in
           let here : f d ≡ cond (q x) 1 0 = rw (e, same) refl in
           let others : AllByRecursion (λ y. eqb x y ≡ false) D = rw same (IsDistinct-head eqb d D apart) in
-          omega (arith, parts, here, none_there q x D others))
+          omega (arith, parts, here, none_equal_count q x D others))
       | inr e ↦ (let here : f d ≡ 0 = rw e (same_cond (q d) 0) in
           let there : is_in D x ≡ true = rw e at h in
-          omega (arith, parts, here, one_place q x D (IsDistinct-tail eqb d D apart) there))
+          omega (arith, parts, here, one_equal_count q x D (IsDistinct-tail eqb d D apart) there))
     ]
 
 pub count_by-keys : (q : ℕ → Bool) (D : List ℕ) → IsDistinct eqb D → (L : List ℕ) → AllByRecursion (λ x. is_in D x ≡ true) L
     → count_by q L ≡ sum_by (λ d. cond (q d) (degree L d) 0) D
-count_by-keys q D apart [] h = sym (sum_by-nothing (λ d. cond (q d) 0 0) D (everywhere (λ d. cond (q d) 0 0 ≡ 0) (λ d. same_cond (q d) 0) D))
+count_by-keys q D apart [] h = sym (sum_by-nothing (λ d. cond (q d) 0 0) D (all_if_true_of_any (λ d. cond (q d) 0 0 ≡ 0) (λ d. same_cond (q d) 0) D))
 count_by-keys q D apart (x ∷ L) h =
     let f : ℕ → ℕ = λ d. cond (q d) (degree (x ∷ L) d) 0 in
     let now : ℕ → ℕ = λ d. cond (q d) (cond (eqb x d) 1 0) 0 in
@@ -87,7 +87,7 @@ count_by-keys q D apart (x ∷ L) h =
       | true ↦ sum_by-cons (λ y. cond (eqb y d) 1 0) x L
       | false ↦ refl
     ] in
-    omega (arith, sum_by-cons (λ y. cond (q y) 1 0) x L, sum_by-both f now later at D, one_place q x D apart h.0, count_by-keys q D apart L h.1)
+    omega (arith, sum_by-cons (λ y. cond (q y) 1 0) x L, sum_by-both f now later at D, one_equal_count q x D apart h.0, count_by-keys q D apart L h.1)
 
 pub is_in-filter : (p : ℕ → Bool) (D : List ℕ) (x : ℕ) → p x ≡ true → is_in D x ≡ true → is_in (filter p D) x ≡ true
 is_in-filter p [] x px h = h
@@ -107,11 +107,11 @@ IsDistinct-filter p (d ∷ D) h = cond_both (p d) (d ∷ filter p D) (filter p D
     (λ t. IsDistinct-cons eqb d (filter p D) (All-filter (λ y. eqb d y ≡ false) p D (IsDistinct-head eqb d D h)) (IsDistinct-filter p D (IsDistinct-tail eqb d D h)))
     (λ t. IsDistinct-filter p D (IsDistinct-tail eqb d D h))
 
-pub none_kept : (x : ℕ) (D : List ℕ) → AllByRecursion (λ y. eqb x y ≡ false) (filter (λ y. not (eqb y x)) D)
-none_kept x [] = tt
-none_kept x (d ∷ D) = elim (cases_Bool (eqb d x)) [
-  | inl e ↦ rw e (none_kept x D)
-  | inr e ↦ (let turned : eqb x d ≡ false = ne_eqb x d (λ same. eqb-false d x e (sym same)) in rw e (turned, none_kept x D))
+pub none_equal_kept : (x : ℕ) (D : List ℕ) → AllByRecursion (λ y. eqb x y ≡ false) (filter (λ y. not (eqb y x)) D)
+none_equal_kept x [] = tt
+none_equal_kept x (d ∷ D) = elim (cases_Bool (eqb d x)) [
+  | inl e ↦ rw e (none_equal_kept x D)
+  | inr e ↦ (let turned : eqb x d ≡ false = ne_eqb x d (λ same. eqb-false d x e (sym same)) in rw e (turned, none_equal_kept x D))
 ]
 
 pub IsDistinct-nil : IsDistinct eqb []
@@ -120,13 +120,13 @@ IsDistinct-nil = tt
 
 pub IsDistinct-different : (L : List ℕ) → IsDistinct eqb (different L)
 IsDistinct-different [] = IsDistinct-nil
-IsDistinct-different (x ∷ L) = IsDistinct-cons eqb x (filter (λ y. not (eqb y x)) (different L)) (none_kept x (different L)) (IsDistinct-filter (λ y. not (eqb y x)) (different L) (IsDistinct-different L))
+IsDistinct-different (x ∷ L) = IsDistinct-cons eqb x (filter (λ y. not (eqb y x)) (different L)) (none_equal_kept x (different L)) (IsDistinct-filter (λ y. not (eqb y x)) (different L) (IsDistinct-different L))
 
 pub is_in-different : (L : List ℕ) → AllByRecursion (λ x. is_in (different L) x ≡ true) L
 is_in-different [] = tt
 is_in-different (y ∷ L) = (
   rw (eq-eqb y y refl) refl,
-  weaker (λ x. is_in (different L) x ≡ true) (λ x. is_in (different (y ∷ L)) x ≡ true)
+  weaken_each (λ x. is_in (different L) x ≡ true) (λ x. is_in (different (y ∷ L)) x ≡ true)
       (λ x h. elim (cases_Bool (eqb x y)) [
         | inl e ↦ rw e refl
         | inr e ↦ rw e (is_in-filter (λ z. not (eqb z y)) (different L) x (rw e refl) h)
@@ -140,7 +140,7 @@ count_by-one (d ∷ D) apart a =
     elim (cases_Bool (eqb d a)) [
       | inl e ↦ (let here : cond {A = ℕ} (eqb d a) 1 0 ≡ 1 = rw e refl in
           let none : count_by (λ d. eqb d a) D ≡ 0 = sum_by-nothing (λ d. cond (eqb d a) 1 0) D
-          (weaker (λ y. eqb d y ≡ false) (λ y. cond (eqb y a) 1 0 ≡ 0)
+          (weaken_each (λ y. eqb d y ≡ false) (λ y. cond (eqb y a) 1 0 ≡ 0)
           (λ y no. let differs : eqb y a ≡ false = ne_eqb y a (λ same. eqb-false d y no (eqb-true d a e ∙ sym same)) in rw differs refl)
           D (IsDistinct-head eqb d D apart)) in
           omega arith)
@@ -148,7 +148,7 @@ count_by-one (d ∷ D) apart a =
     ]
 
 pub count_by-is_in : (D : List ℕ) → IsDistinct eqb D → (A : List ℕ) → count_by (is_in A) D ≤ length A
-count_by-is_in D apart [] = omega (arith, sum_by-nothing (λ d. 0) D (everywhere (λ d. 0 ≡ 0) (λ d. refl) D))
+count_by-is_in D apart [] = omega (arith, sum_by-nothing (λ d. 0) D (all_if_true_of_any (λ d. 0 ≡ 0) (λ d. refl) D))
 count_by-is_in D apart (a ∷ A) =
     let f : ℕ → ℕ = λ d. cond (is_in (a ∷ A) d) 1 0 in
     let g : ℕ → ℕ = λ d. cond (eqb d a) 1 0 in

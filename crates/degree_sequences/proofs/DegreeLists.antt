@@ -34,8 +34,8 @@ degree_list_dominates L A apart =
       running_sum-mono (degree_list L) (count_by (is_in A) D) (length A) (count_by-is_in D (IsDistinct-different L) A),
     )
 
-pub places_fit : (s L : List ℕ) → DominatesKeys s L → length L ≤ sum s
-places_fit s L dom =
+pub length_at_most_sum : (s L : List ℕ) → DominatesKeys s L → length L ≤ sum s
+length_at_most_sum s L dom =
     let D : List ℕ = different L in
     omega (arith, count_by-passing (is_in D) L (is_in-different L), dom D (IsDistinct-different L), running_sum-le-sum s (length D))
 

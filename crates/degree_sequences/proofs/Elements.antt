@@ -1,12 +1,12 @@
 -- A compressed list is computed element by element: each element follows from the sum of the elements before it.
 use Rattle.std.proofs.Common.{List, [], ◌∷◌, sym, arith, get_or, length, ltb, min, suc, sum, zero, zero-add, ℕ, ◌+◌, ◌-◌, ◌<◌, ◌≡◌, refl}
 use Rattle.std.proofs.lemmas.Bool.{cond_both, ltb-true}
-use Rattle.degree_sequences.specs.Compression.{compressed, compressed_from, slope}
+use Rattle.degree_sequences.specs.Compression.{compressed, compressed_from, head_of_row}
 use Rattle.degree_sequences.specs.RunningSums.{running_sum}
 
 -- this is the next compressed element after elements whose sum is m
 abbrev pub element_after : ℕ → List ℕ → ℕ → ℕ
-element_after k f m = min (slope k f m) (sum f - m)
+element_after k f m = min (head_of_row k f m) (sum f - m)
 
 pub compressed_from-element : (k : ℕ) (f : List ℕ) (n m r : ℕ) → r < length (compressed_from k f n m)
     → get_or (compressed_from k f n m) r 0 ≡ element_after k f (m + running_sum (compressed_from k f n m) r)
@@ -40,7 +40,7 @@ compressed_from-goes_on k f (suc n) m (suc r) within =
     (λ e h. absurd (omega arith)) within
 
 pub compressed-element : (k : ℕ) (f : List ℕ) (r : ℕ) → r < length (compressed k f)
-    → get_or (compressed k f) r 0 ≡ min (slope k f (running_sum (compressed k f) r)) (sum f - running_sum (compressed k f) r)
+    → get_or (compressed k f) r 0 ≡ min (head_of_row k f (running_sum (compressed k f) r)) (sum f - running_sum (compressed k f) r)
 compressed-element k f r within = rw zero-add at (compressed_from-element k f (length f) 0 r within)
 
 pub compressed-goes_on : (k : ℕ) (f : List ℕ) (r : ℕ) → r < length (compressed k f) → running_sum (compressed k f) r < sum f

@@ -34,8 +34,8 @@ heads-fall k h (x ∷ s) fall below = cond_both (ltb ((k + 1) * x) (k * h)) x h 
     (λ e. IsDescending-cons x (heads_from k x s) (heads-head k x s (fall 0)) (heads-fall k x s (λ r. fall (suc r)) (fall 0)))
     (λ e. IsDescending-cons h (heads_from k h s) (heads-head k h s (omega (arith, fall 0))) (heads-fall k h s (λ r. fall (suc r)) (omega (arith, fall 0))))
 
-pub lower_head : (k x h : ℕ) → (k + 1) * x < k * h → x < h
-lower_head k x h less = elim (cases_lt x h) [
+pub new_head_is_lower : (k x h : ℕ) → (k + 1) * x < k * h → x < h
+new_head_is_lower k x h less = elim (cases_lt x h) [
   | inl lower ↦ lower
   | inr higher ↦ absurd (omega (arith, mul-le-mul_left k higher, add-mul k 1 x))
 ]
@@ -43,30 +43,30 @@ lower_head k x h less = elim (cases_lt x h) [
 pub heads-le : (k h : ℕ) (s : List ℕ) (j : ℕ) → get_or (heads_from k h s) j 0 ≤ h
 heads-le k h [] j = omega arith
 heads-le k h (x ∷ s) zero = cond_both (ltb ((k + 1) * x) (k * h)) x h (λ y. get_or (y ∷ heads_from k y s) 0 0 ≤ h)
-    (λ e. omega (arith, lower_head k x h (ltb-true ((k + 1) * x) (k * h) e))) (λ e. omega arith)
+    (λ e. omega (arith, new_head_is_lower k x h (ltb-true ((k + 1) * x) (k * h) e))) (λ e. omega arith)
 heads-le k h (x ∷ s) (suc j) = cond_both (ltb ((k + 1) * x) (k * h)) x h (λ y. get_or (y ∷ heads_from k y s) (suc j) 0 ≤ h)
-    (λ e. omega (arith, lower_head k x h (ltb-true ((k + 1) * x) (k * h) e), heads-le k x s j)) (λ e. heads-le k h s j)
+    (λ e. omega (arith, new_head_is_lower k x h (ltb-true ((k + 1) * x) (k * h) e), heads-le k x s j)) (λ e. heads-le k h s j)
 
 -- v is the head h, or as far below h as a new head has to be
-abbrev pub IsLater : ℕ → ℕ → ℕ → Type 0
-IsLater k v h = (v ≡ h) ⊎ ((k + 1) * v < k * h)
+abbrev pub IsHeadOrNewHead : ℕ → ℕ → ℕ → Type 0
+IsHeadOrNewHead k v h = (v ≡ h) ⊎ ((k + 1) * v < k * h)
 
-pub far_below : (k v x h : ℕ) → v ≤ x → (k + 1) * x < k * h → (k + 1) * v < k * h
-far_below k v x h below less = omega (arith, mul-le-mul_left (k + 1) below)
+pub still_far_below : (k v x h : ℕ) → v ≤ x → (k + 1) * x < k * h → (k + 1) * v < k * h
+still_far_below k v x h below less = omega (arith, mul-le-mul_left (k + 1) below)
 
-pub heads-later : (k h : ℕ) (s : List ℕ) (j : ℕ) → 0 < k * h → IsLater k (get_or (heads_from k h s) j 0) h
+pub heads-later : (k h : ℕ) (s : List ℕ) (j : ℕ) → 0 < k * h → IsHeadOrNewHead k (get_or (heads_from k h s) j 0) h
 heads-later k h [] j pos = inr (omega (arith, mul-zero (k + 1)))
-heads-later k h (x ∷ s) zero pos = cond_both (ltb ((k + 1) * x) (k * h)) x h (λ y. IsLater k (get_or (y ∷ heads_from k y s) 0 0) h)
+heads-later k h (x ∷ s) zero pos = cond_both (ltb ((k + 1) * x) (k * h)) x h (λ y. IsHeadOrNewHead k (get_or (y ∷ heads_from k y s) 0 0) h)
     (λ e. inr (ltb-true ((k + 1) * x) (k * h) e)) (λ e. inl refl)
-heads-later k h (x ∷ s) (suc j) pos = cond_both (ltb ((k + 1) * x) (k * h)) x h (λ y. IsLater k (get_or (y ∷ heads_from k y s) (suc j) 0) h)
-    (λ e. inr (far_below k (get_or (heads_from k x s) j 0) x h (heads-le k x s j) (ltb-true ((k + 1) * x) (k * h) e))) (λ e. heads-later k h s j pos)
+heads-later k h (x ∷ s) (suc j) pos = cond_both (ltb ((k + 1) * x) (k * h)) x h (λ y. IsHeadOrNewHead k (get_or (y ∷ heads_from k y s) (suc j) 0) h)
+    (λ e. inr (still_far_below k (get_or (heads_from k x s) j 0) x h (heads-le k x s j) (ltb-true ((k + 1) * x) (k * h) e))) (λ e. heads-later k h s j pos)
 
 pub heads-between : (k h : ℕ) (s : List ℕ) (i j : ℕ) → i ≤ j → 0 < k * get_or (heads_from k h s) i 0
-    → IsLater k (get_or (heads_from k h s) j 0) (get_or (heads_from k h s) i 0)
+    → IsHeadOrNewHead k (get_or (heads_from k h s) j 0) (get_or (heads_from k h s) i 0)
 heads-between k h [] i j le pos = absurd (omega (arith, mul-zero k))
 heads-between k h (x ∷ s) zero zero le pos = inl refl
-heads-between k h (x ∷ s) zero (suc j) le pos = cond_both (ltb ((k + 1) * x) (k * h)) x h (λ y. 0 < k * get_or (y ∷ heads_from k y s) 0 0 → IsLater k (get_or (y ∷ heads_from k y s) (suc j) 0) (get_or (y ∷ heads_from k y s) 0 0))
+heads-between k h (x ∷ s) zero (suc j) le pos = cond_both (ltb ((k + 1) * x) (k * h)) x h (λ y. 0 < k * get_or (y ∷ heads_from k y s) 0 0 → IsHeadOrNewHead k (get_or (y ∷ heads_from k y s) (suc j) 0) (get_or (y ∷ heads_from k y s) 0 0))
     (λ e pos. heads-later k x s j pos) (λ e pos. heads-later k h s j pos) pos
 heads-between k h (x ∷ s) (suc i) zero le pos = absurd (omega arith)
-heads-between k h (x ∷ s) (suc i) (suc j) le pos = cond_both (ltb ((k + 1) * x) (k * h)) x h (λ y. 0 < k * get_or (y ∷ heads_from k y s) (suc i) 0 → IsLater k (get_or (y ∷ heads_from k y s) (suc j) 0) (get_or (y ∷ heads_from k y s) (suc i) 0))
+heads-between k h (x ∷ s) (suc i) (suc j) le pos = cond_both (ltb ((k + 1) * x) (k * h)) x h (λ y. 0 < k * get_or (y ∷ heads_from k y s) (suc i) 0 → IsHeadOrNewHead k (get_or (y ∷ heads_from k y s) (suc j) 0) (get_or (y ∷ heads_from k y s) (suc i) 0))
     (λ e pos. heads-between k x s i j (omega arith) pos) (λ e pos. heads-between k h s i j (omega arith) pos) pos

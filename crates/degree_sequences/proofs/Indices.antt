@@ -5,7 +5,7 @@ use Rattle.std.proofs.lemmas.Bool.{cases_Bool, eqb-false, eqb-true, false≢true
 use Rattle.std.proofs.lemmas.List.Sums.{length-filter, sum_by-cons}
 use Rattle.std.proofs.lemmas.Map.Keys.{IsDistinct-cons, IsDistinct-head, IsDistinct-tail}
 use Rattle.std.specs.List.{AllByRecursion, IsDistinct, count_by, filter, range_with_len, sum_by}
-use Rattle.degree_sequences.proofs.Counting.{IsDistinct-filter, IsDistinct-nil, count_by-is_in, everywhere, is_in, is_in-filter, sum_by-both, sum_by-nothing, weaker}
+use Rattle.degree_sequences.proofs.Counting.{IsDistinct-filter, IsDistinct-nil, count_by-is_in, all_if_true_of_any, is_in, is_in-filter, sum_by-both, sum_by-nothing, weaken_each}
 use Rattle.degree_sequences.specs.Degrees.{degree}
 
 pub one_weight : (f : ℕ → ℕ) (x : ℕ) (D : List ℕ) → IsDistinct eqb D → is_in D x ≡ true → sum_by (λ d. cond (eqb x d) (f d) 0) D ≡ f x
@@ -17,7 +17,7 @@ one_weight f x (d ∷ D) apart h =
       | inl e ↦ (let same : x ≡ d = eqb-true x d e in
           let here : t d ≡ f x = rw (e, same) refl in
           let others : AllByRecursion (λ y. eqb x y ≡ false) D = rw same (IsDistinct-head eqb d D apart) in
-          let none : sum_by t D ≡ 0 = sum_by-nothing t D (weaker (λ y. eqb x y ≡ false) (λ y. t y ≡ 0) (λ y no_y. rw no_y refl) D others) in
+          let none : sum_by t D ≡ 0 = sum_by-nothing t D (weaken_each (λ y. eqb x y ≡ false) (λ y. t y ≡ 0) (λ y no_y. rw no_y refl) D others) in
           omega (arith, parts, here, none))
       | inr e ↦ (let here : t d ≡ 0 = rw e refl in
           let there : is_in D x ≡ true = rw e at h in
@@ -26,7 +26,7 @@ one_weight f x (d ∷ D) apart h =
 
 pub sum_by-keys : (w : ℕ → ℕ) (D : List ℕ) → IsDistinct eqb D → (L : List ℕ) → AllByRecursion (λ x. is_in D x ≡ true) L
     → sum_by w L ≡ sum_by (λ d. degree L d * w d) D
-sum_by-keys w D apart [] h = sym (sum_by-nothing (λ d. 0 * w d) D (everywhere (λ d. 0 * w d ≡ 0) (λ d. zero-mul (w d)) D))
+sum_by-keys w D apart [] h = sym (sum_by-nothing (λ d. 0 * w d) D (all_if_true_of_any (λ d. 0 * w d ≡ 0) (λ d. zero-mul (w d)) D))
 sum_by-keys w D apart (x ∷ L) h =
     let f : ℕ → ℕ = λ d. degree (x ∷ L) d * w d in
     let now : ℕ → ℕ = λ d. cond (eqb x d) (w d) 0 in
@@ -118,7 +118,7 @@ key_weight n x A apart = elim (cases_Bool (is_in A x)) [
 ]
 
 pub count_by-degree : (L A : List ℕ) → IsDistinct eqb A → count_by (is_in A) L ≡ sum_by (degree L) A
-count_by-degree [] A apart = sym (sum_by-nothing (λ a. 0) A (everywhere (λ a. 0 ≡ 0) (λ a. refl) A))
+count_by-degree [] A apart = sym (sum_by-nothing (λ a. 0) A (all_if_true_of_any (λ a. 0 ≡ 0) (λ a. refl) A))
 count_by-degree (x ∷ L) A apart =
     omega (
       arith,

@@ -1,13 +1,13 @@
--- Some lists are given by their running sums (`with_running_sums`): the lesser of two lists, and a list cut at a number. The lemmas are about these lists.
+-- Lists that are given by their running sums (`with_running_sums`): the lesser of two lists, and a list whose running sums are capped at a number.
 use Rattle.std.proofs.Common.{List, add-zero, ap, arith, inl, inr, length, map, max, min, refl, suc, zero, ℕ, ◌+◌, ◌-◌, ◌∙◌, ◌≡◌, ◌≤◌}
 use Rattle.std.proofs.lemmas.Bool.{cases_lt}
 use Rattle.std.proofs.lemmas.List.{length-map}
 use Rattle.std.specs.List.{range_with_len}
 use Rattle.std.proofs.lemmas.List.FromFn.{length-range_with_len}
-use Rattle.degree_sequences.proofs.FallingLists.{IsDescending-from_sums, sums_fall}
+use Rattle.degree_sequences.proofs.FallingLists.{IsDescending-from_sums, sums_are_concave}
 use Rattle.degree_sequences.proofs.RunningSums.{running_sum-mono, running_sum-past, running_sum-trimmed}
 use Rattle.degree_sequences.specs.Descending.{IsDescending}
-use Rattle.degree_sequences.specs.RunningSums.{cut_at, lesser, running_sum, with_running_sums}
+use Rattle.degree_sequences.specs.RunningSums.{capped_at, lesser, running_sum, with_running_sums}
 
 abbrev pub steps : (ℕ → ℕ) → ℕ → ℕ → List ℕ
 steps f a n = map (λ r. f (suc r) - f r) (range_with_len a n)
@@ -46,8 +46,8 @@ running_sum-lesser s t r =
     (λ r h. omega (arith, running_sum-past s r (omega arith), running_sum-past t r (omega arith), running_sum-past s n (omega arith), running_sum-past t n (omega arith)))
     r
 
-pub running_sum-cut_at : (s : List ℕ) (n r : ℕ) → running_sum (cut_at s n) r ≡ min (running_sum s r) n
-running_sum-cut_at s n r =
+pub running_sum-capped_at : (s : List ℕ) (n r : ℕ) → running_sum (capped_at s n) r ≡ min (running_sum s r) n
+running_sum-capped_at s n r =
     let f : ℕ → ℕ = λ r. min (running_sum s r) n in
     running_sum-trimmed (with_running_sums f (length s)) r ∙
     running_sum-with_running_sums f (length s)
@@ -58,8 +58,8 @@ running_sum-cut_at s n r =
 
 pub IsDescending-lesser : (s t : List ℕ) → IsDescending s → IsDescending t → IsDescending (lesser s t)
 IsDescending-lesser s t fs ft = IsDescending-from_sums (lesser s t)
-    (λ r. omega (arith, running_sum-lesser s t r, running_sum-lesser s t (suc r), running_sum-lesser s t (suc (suc r)), sums_fall s fs r, sums_fall t ft r))
+    (λ r. omega (arith, running_sum-lesser s t r, running_sum-lesser s t (suc r), running_sum-lesser s t (suc (suc r)), sums_are_concave s fs r, sums_are_concave t ft r))
 
-pub IsDescending-cut_at : (s : List ℕ) (n : ℕ) → IsDescending s → IsDescending (cut_at s n)
-IsDescending-cut_at s n fs = IsDescending-from_sums (cut_at s n)
-    (λ r. omega (arith, running_sum-cut_at s n r, running_sum-cut_at s n (suc r), running_sum-cut_at s n (suc (suc r)), sums_fall s fs r, running_sum-mono s r (suc r) (omega arith)))
+pub IsDescending-capped_at : (s : List ℕ) (n : ℕ) → IsDescending s → IsDescending (capped_at s n)
+IsDescending-capped_at s n fs = IsDescending-from_sums (capped_at s n)
+    (λ r. omega (arith, running_sum-capped_at s n r, running_sum-capped_at s n (suc r), running_sum-capped_at s n (suc (suc r)), sums_are_concave s fs r, running_sum-mono s r (suc r) (omega arith)))

@@ -5,7 +5,7 @@ use Rattle.std.proofs.lemmas.List.{get_or-map, get_or-replicate}
 use Rattle.std.proofs.lemmas.List.FromFn.{get_or-range_with_len, length-range_with_len}
 use Rattle.std.specs.List.{AllByRecursion, AllZip, range_with_len}
 use Rattle.degree_sequences.proofs.ByRank.{IsDescending-rank_product, get_or-rank_product, rank_product-above}
-use Rattle.degree_sequences.proofs.FallingLists.{IsDescending-from_sums, window}
+use Rattle.degree_sequences.proofs.FallingLists.{IsDescending-from_sums, sums_of_windows}
 use Rattle.degree_sequences.proofs.RunningSums.{sum-above, running_sum-agree, running_sum-block_sums, running_sum-le-sum, running_sum-mono, running_sum-ones, running_sum-suc, running_sum-trimmed}
 use Rattle.degree_sequences.proofs.Spread.{IsDescending-spread, get_or-spread, spread, spread-above}
 use Rattle.degree_sequences.specs.ByRank.{rank_product}
@@ -15,7 +15,7 @@ use Rattle.degree_sequences.specs.ComparedChildren.{ChildIsAbove, ColumnIsDescen
 use Rattle.degree_sequences.specs.Rank.{rank}
 use Rattle.degree_sequences.specs.RunningSums.{HasHigherSums, running_sum}
 
--- the class list of each child, spread over its column: element r is repeated as often as element r of the column says
+-- the class list of each child, spread over its column. Element r of the class list is repeated c times, where c is element r of the column's list
 abbrev pub spreads : List ChildLists → ℕ → List ℕ
 spreads [] n = replicate n 1
 spreads (c ∷ cs) n = rank_product (spreads cs n) (spread c.column c.class)
@@ -62,7 +62,7 @@ IsDescending-composed g cs fall ok = IsDescending-from_sums (composed g cs) (λ 
       running_sum-composed g cs ok (suc (suc r)),
       ap (running_sum u) one,
       ap (running_sum u) two,
-      window u (IsDescending-spreads (sum g) (sum g) cs ok) (running_sum g r) (running_sum g (suc r)) (get_or g r 0) (get_or g (suc r) 0) (running_sum-mono g r (suc r) (omega arith)) (fall r),
+      sums_of_windows u (IsDescending-spreads (sum g) (sum g) cs ok) (running_sum g r) (running_sum g (suc r)) (get_or g r 0) (get_or g (suc r) 0) (running_sum-mono g r (suc r) (omega arith)) (fall r),
     ))
 
 -- only the columns of the lower lists (`ds`) have to be in descending order

@@ -1,4 +1,4 @@
--- Saturating numbers first changes no saturated sum or product, and no saturated list of sums or products.
+-- Saturating the operands first doesn't change a saturated sum or product, nor a saturated list of these.
 use Rattle.std.proofs.Common.{List, [], ap, arith, drop, inl, inr, map, min, refl, suc, sym, zero, ℕ, ◌*◌, ◌-◌, ◌<◌, ◌^◌, ◌∙◌, ◌∷◌, ◌≡◌, ◌≤◌}
 use Rattle.std.proofs.Math.Nat.{mul-le-mul_left, mul-le-mul_right, mul-zero, mul_comm}
 use Rattle.std.proofs.lemmas.Bool.{cases_lt}

@@ -1,4 +1,4 @@
--- If children's lists are near the exact lists (`SumsAreWithin`), their composition is near the exact composition.
+-- If the lists of children are near their exact lists (`SumsAreWithin`), the composition is near the exact composition.
 use Rattle.std.proofs.Common.{List, [], ap, arith, get_or, length, map, min, refl, replicate, suc, sum, sym, zero, ℕ, ◌*◌, ◌++◌, ◌+◌, ◌-◌, ◌∙◌, ◌∷◌, ◌≡◌, ◌≤◌}
 use Rattle.std.proofs.Math.Nat.{mul-add, mul-le-mul_left, mul-suc, mul-zero, mul_assoc, mul_comm}
 use Rattle.std.proofs.lemmas.List.{append-nil}
@@ -51,7 +51,7 @@ rank_product-near b c d e s t s' t' ft fs' near_s near_t r =
       running_sum-scale (b * d) (rank_product s' t') r,
     )
 
--- each element repeated c times. This makes lists comparable that are spread over different numbers of rows
+-- each element repeated c times, so that lists spread over different numbers of rows can be compared
 abbrev pub stretched : ℕ → List ℕ → List ℕ
 stretched c [] = []
 stretched c (x ∷ u) = replicate c x ++ stretched c u
@@ -131,25 +131,25 @@ running_sum-stretched-ones c n r = ap (λ u. running_sum u r) (ones c n) ∙ run
     ones : (c n : ℕ) → stretched c (replicate n 1) ≡ replicate (c * n) 1
     ones c n = ap (stretched c) (sym (append-nil (replicate n 1))) ∙ sym (stretched-front c n 1 []) ∙ append-nil (replicate (c * n) 1)
 
-abbrev pub nears : List MatchedChild → List ChildLists
-nears ms = map (λ m. m.near) ms
+abbrev pub near_lists : List MatchedChild → List ChildLists
+near_lists ms = map (λ m. m.near) ms
 
-abbrev pub exacts : List MatchedChild → List ChildLists
-exacts ms = map (λ m. m.exact) ms
+abbrev pub exact_lists : List MatchedChild → List ChildLists
+exact_lists ms = map (λ m. m.exact) ms
 
 pub spreads-near : (a n k : ℕ) → a * n ≤ (a + 1) * k → (ms : List MatchedChild) → AllByRecursion (IsNear a) ms
-    → AllByRecursion (IsChildOf n) (nears ms) → AllByRecursion (IsChildOf k) (exacts ms) → AllByRecursion ColumnIsDescending (nears ms)
-    → SumsAreWithin (scales ms) (factors ms) (stretched a (spreads (nears ms) n)) (stretched (a + 1) (spreads (exacts ms) k))
+    → AllByRecursion (IsChildOf n) (near_lists ms) → AllByRecursion (IsChildOf k) (exact_lists ms) → AllByRecursion ColumnIsDescending (near_lists ms)
+    → SumsAreWithin (scales ms) (factors ms) (stretched a (spreads (near_lists ms) n)) (stretched (a + 1) (spreads (exact_lists ms) k))
 spreads-near a n k h [] near ok ok' fall r = omega (arith, running_sum-stretched-ones a n r, running_sum-stretched-ones (a + 1) k r)
 spreads-near a n k h (m ∷ ms) near ok ok' fall r =
-    let s' : List ℕ = spreads (nears ms) n in
+    let s' : List ℕ = spreads (near_lists ms) n in
     let t' : List ℕ = spread m.near.column m.near.class in
-    let s : List ℕ = spreads (exacts ms) k in
+    let s : List ℕ = spreads (exact_lists ms) k in
     let t : List ℕ = spread m.exact.column m.exact.class in
     let both : (scales ms * m.scale) * running_sum (rank_product (stretched a s') (stretched a t')) r ≤ (factors ms * m.factor) * running_sum (rank_product (stretched (a + 1) s) (stretched (a + 1) t)) r =
     rank_product-near (scales ms) (factors ms) m.scale m.factor (stretched (a + 1) s) (stretched (a + 1) t) (stretched a s') (stretched a t')
     (IsDescending-stretched (a + 1) t (IsDescending-spread m.exact.column m.exact.class ok'.0.class_is_descending))
-    (IsDescending-stretched a s' (IsDescending-spreads n n (nears ms) ok.1))
+    (IsDescending-stretched a s' (IsDescending-spreads n n (near_lists ms) ok.1))
     (spreads-near a n k h ms near.1 ok.1 ok'.1 fall.1)
     (spread-near a (a + 1) m.scale m.factor m.near.column m.near.class m.exact.column m.exact.class ok'.0.class_is_descending fall.0 near.0.column near.0.class) r in
     rw (mul_comm m.scale (scales ms), mul_comm m.factor (factors ms), sym (rank_product-stretched a s' t'), sym (rank_product-stretched (a + 1) s t)) both
@@ -159,15 +159,15 @@ pub composed-near : (a : ℕ) (g f : List ℕ) (ms : List MatchedChild) → Sums
     → AllByRecursion ColumnIsDescending (map (λ m. m.near) ms)
     → SumsAreWithin (a * scales ms) ((a + 1) * factors ms) (composed g (map (λ m. m.near) ms)) (composed f (map (λ m. m.exact) ms))
 composed-near a g f ms near_g near ok ok' fall r =
-    let u : List ℕ = spreads (exacts ms) (sum f) in
-    let v : List ℕ = spreads (nears ms) (sum g) in
+    let u : List ℕ = spreads (exact_lists ms) (sum f) in
+    let v : List ℕ = spreads (near_lists ms) (sum g) in
     let m : ℕ = running_sum g r in
     let fits : a * sum g ≤ (a + 1) * sum f =
     omega (arith, ap (λ x. a * x) (running_sum-whole g), near_g (length g), mul-le-mul_left (a + 1) (running_sum-le-sum f (length g))) in
-    let left : (a * scales ms) * running_sum (composed g (nears ms)) r ≡ scales ms * running_sum (stretched a v) (a * m) =
-    ap (λ x. (a * scales ms) * x) (running_sum-composed g (nears ms) ok r) ∙ turned a (scales ms) (running_sum v m) ∙ ap (λ x. scales ms * x) (sym (running_sum-stretched a v m)) in
-    let right : ((a + 1) * factors ms) * running_sum (composed f (exacts ms)) r ≡ factors ms * running_sum (stretched (a + 1) u) ((a + 1) * running_sum f r) =
-    ap (λ x. ((a + 1) * factors ms) * x) (running_sum-composed f (exacts ms) ok' r) ∙ turned (a + 1) (factors ms) (running_sum u (running_sum f r))
+    let left : (a * scales ms) * running_sum (composed g (near_lists ms)) r ≡ scales ms * running_sum (stretched a v) (a * m) =
+    ap (λ x. (a * scales ms) * x) (running_sum-composed g (near_lists ms) ok r) ∙ turned a (scales ms) (running_sum v m) ∙ ap (λ x. scales ms * x) (sym (running_sum-stretched a v m)) in
+    let right : ((a + 1) * factors ms) * running_sum (composed f (exact_lists ms)) r ≡ factors ms * running_sum (stretched (a + 1) u) ((a + 1) * running_sum f r) =
+    ap (λ x. ((a + 1) * factors ms) * x) (running_sum-composed f (exact_lists ms) ok' r) ∙ turned (a + 1) (factors ms) (running_sum u (running_sum f r))
     ∙ ap (λ x. factors ms * x) (sym (running_sum-stretched (a + 1) u (running_sum f r))) in
     omega (
       arith,

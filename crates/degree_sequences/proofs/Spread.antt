@@ -1,11 +1,11 @@
--- Running sums of a list that is cut at a sum (`cut_with_zeros`), and of a list whose elements are spread over rows (`spread`).
+-- Running sums of a list whose sum is capped (`cut_with_zeros`), and of a list whose elements are spread over rows (`spread`).
 use Rattle.std.proofs.Common.{List, [], ap, arith, false, get_or, inl, inr, leb, length, length-append, max, min, refl, replicate, suc, sum, sym, true, zero, ℕ, ◌*◌, ◌++◌, ◌+◌, ◌-◌, ◌<◌, ◌∙◌, ◌∷◌, ◌≡◌, ◌≤◌}
 use Rattle.std.proofs.Math.Nat.{suc-mul, zero-mul}
 use Rattle.std.proofs.lemmas.Bool.{cases_lt, le-leb, lt-leb}
 use Rattle.std.proofs.lemmas.List.{length-replicate}
 use Rattle.std.proofs.lemmas.List.Sums.{sum_by-cons}
 use Rattle.degree_sequences.proofs.ByRank.{length-rank_product-le, rank_product-above}
-use Rattle.degree_sequences.proofs.FallingLists.{IsDescending-from_sums, sums_fall}
+use Rattle.degree_sequences.proofs.FallingLists.{IsDescending-from_sums, sums_are_concave}
 use Rattle.degree_sequences.proofs.Ranks.{rank_pos}
 use Rattle.degree_sequences.proofs.RunningSums.{running_sum-le-sum, running_sum-mono, running_sum-nil, running_sum-past}
 use Rattle.degree_sequences.proofs.Summation.{sum_below, sum_below-product, sum_below-same}
@@ -30,7 +30,7 @@ length-cut_with_zeros (x ∷ g) m = ap suc (length-cut_with_zeros g (m - x))
 
 pub IsDescending-cut_with_zeros : (g : List ℕ) (m : ℕ) → IsDescending g → IsDescending (cut_with_zeros g m)
 IsDescending-cut_with_zeros g m fall = IsDescending-from_sums (cut_with_zeros g m)
-    (λ r. omega (arith, running_sum-cut_with_zeros g m r, running_sum-cut_with_zeros g m (suc r), running_sum-cut_with_zeros g m (suc (suc r)), sums_fall g fall r, running_sum-mono g r (suc r) (omega arith)))
+    (λ r. omega (arith, running_sum-cut_with_zeros g m r, running_sum-cut_with_zeros g m (suc r), running_sum-cut_with_zeros g m (suc (suc r)), sums_are_concave g fall r, running_sum-mono g r (suc r) (omega arith)))
 
 abbrev pub tail_of : List ℕ → List ℕ
 tail_of [] = []

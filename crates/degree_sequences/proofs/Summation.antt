@@ -1,4 +1,4 @@
--- These lemmas are about sums of functions of ranks, up to summation by parts.
+-- Sums of functions of ranks, and summation by parts.
 use Rattle.std.proofs.Common.{List, [], ap, arith, get_or, refl, suc, zero, zero-add, ℕ, ◌*◌, ◌+◌, ◌-◌, ◌<◌, ◌∙◌, ◌∷◌, ◌≡◌, ◌≤◌}
 use Rattle.std.proofs.Math.Nat.{mul-le-mul_right, mul-zero, zero-mul}
 use Rattle.degree_sequences.specs.ByRank.{rank_product}

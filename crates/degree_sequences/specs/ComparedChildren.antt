@@ -1,4 +1,4 @@
--- Children whose lists are compared with those of other children, for the laws that compare their compositions.
+-- Comparisons of one child's lists with another's, for the laws that compare compositions.
 use Rattle.std.specs.Prelude.{◌≡◌, ℕ, ◌+◌, ◌*◌, ◌≤◌, List, [], ◌∷◌}
 use Rattle.std.specs.List.{sum}
 use Rattle.degree_sequences.specs.Descending.{IsDescending}

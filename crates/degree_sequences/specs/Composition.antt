@@ -10,7 +10,7 @@ pub record ChildLists : Type 0 where
   pub column : List ℕ
   pub class : List ℕ
 
--- the weight of row t, counted from 1. It is a product over the children: each child gives its class weight at the row's rank in its column
+-- the weight of row t, counted from 1. Each child gives a factor: the element of its class list at the rank of the row in its column
 abbrev pub weight_by_rank : List ChildLists → ℕ → ℕ
 weight_by_rank [] t = 1
 weight_by_rank (child ∷ children) t = slice_index child.class (rank child.column t - 1) * weight_by_rank children t

@@ -22,5 +22,5 @@ abbrev pub lesser : List ℕ → List ℕ → List ℕ
 lesser s t = trimmed (with_running_sums (λ r. min (running_sum s r) (running_sum t r)) (max (length s) (length t)))
 
 -- the list whose running sums are those of s, but at most n
-abbrev pub cut_at : List ℕ → ℕ → List ℕ
-cut_at s n = trimmed (with_running_sums (λ r. min (running_sum s r) n) (length s))
+abbrev pub capped_at : List ℕ → ℕ → List ℕ
+capped_at s n = trimmed (with_running_sums (λ r. min (running_sum s r) n) (length s))

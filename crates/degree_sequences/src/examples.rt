@@ -4,7 +4,7 @@ ghost use Rattle.degree_sequences.specs.ByRank.{rank_product, rank_sum, rank_max
 ghost use Rattle.degree_sequences.specs.Composition.{ChildLists, row_weights, composed, root_total};
 ghost use Rattle.degree_sequences.specs.Compression.{heads, compressed};
 ghost use Rattle.degree_sequences.specs.Degrees.{degree_list};
-ghost use Rattle.degree_sequences.specs.RunningSums.{lesser, cut_at};
+ghost use Rattle.degree_sequences.specs.RunningSums.{lesser, capped_at};
 ghost use Rattle.degree_sequences.specs.Saturation.{saturated};
 
 /// Degree lists, and their compression at several accuracies.
@@ -27,7 +27,7 @@ pub fn by_rank()
     ensures sum { rank_sum (2 ∷ 1 ∷ []) (3 ∷ 1 ∷ 1 ∷ []) ≡ 5 ∷ 2 ∷ 1 ∷ [] }
     ensures maximum { rank_maximum (3 ∷ 1 ∷ []) (2 ∷ 2 ∷ 1 ∷ []) ≡ 3 ∷ 2 ∷ 1 ∷ [] }
     ensures lesser { lesser (3 ∷ 3 ∷ []) (4 ∷ 1 ∷ 1 ∷ []) ≡ 3 ∷ 2 ∷ 1 ∷ [] }
-    ensures cut { cut_at (5 ∷ 4 ∷ []) 7 ≡ 5 ∷ 2 ∷ [] }
+    ensures cut { capped_at (5 ∷ 4 ∷ []) 7 ≡ 5 ∷ 2 ∷ [] }
 {}
 
 /// The composition of a parent list with one child, and the total of a root with one child.

@@ -4,13 +4,13 @@ ghost use Rattle.std.specs.List.{All, AllByRecursion, Contains, IsDistinct, sum}
 ghost use Rattle.std.specs.List.Sorted.{IsPermutation};
 ghost use Rattle.degree_sequences.specs.ByRank.{rank_product, rank_sum, rank_maximum};
 ghost use Rattle.degree_sequences.specs.Composition.{ChildLists, row_weights, block_sums, composed};
-ghost use Rattle.degree_sequences.specs.Compression.{slope, compressed};
+ghost use Rattle.degree_sequences.specs.Compression.{head_of_row, compressed};
 ghost use Rattle.degree_sequences.specs.Degrees.{degree, different, degree_list};
 ghost use Rattle.degree_sequences.specs.Domination.{DominatesKeys, DominatesWeights};
 ghost use Rattle.degree_sequences.specs.Descending.{IsDescending, trimmed};
 ghost use Rattle.degree_sequences.specs.ComparedChildren.{IsChildOf};
 ghost use Rattle.degree_sequences.specs.Rank.{rank};
-ghost use Rattle.degree_sequences.specs.RunningSums.{running_sum, lesser, cut_at};
+ghost use Rattle.degree_sequences.specs.RunningSums.{running_sum, lesser, capped_at};
 ghost use Rattle.degree_sequences.specs.Runs.{runs};
 ghost use Rattle.degree_sequences.specs.Saturation.{saturated};
 
@@ -34,17 +34,17 @@ pub fn ranks()
     ensures least { (s : List ℕ) (t r : ℕ) → 0 < t → r < rank s t → running_sum s r < t }
 {}
 
-/// The running sums of `lesser` and `cut_at`, and the elements of the rank-wise operations. Each
-/// result is in descending order if the lists that it is made of are.
+/// What the running sums of `lesser` and `capped_at` are, and the elements of the rank-wise operations. Each
+/// result is in descending order if its operands are.
 pub fn operations()
     ensures lesser { (s t : List ℕ) (r : ℕ) → running_sum (lesser s t) r ≡ min (running_sum s r) (running_sum t r) }
-    ensures cut { (s : List ℕ) (n r : ℕ) → running_sum (cut_at s n) r ≡ min (running_sum s r) n }
+    ensures cut { (s : List ℕ) (n r : ℕ) → running_sum (capped_at s n) r ≡ min (running_sum s r) n }
     ensures product { (s t : List ℕ) (r : ℕ) → slice_index (rank_product s t) r ≡ slice_index s r * slice_index t r }
     ensures sum { (s t : List ℕ) (r : ℕ) → slice_index (rank_sum s t) r ≡ slice_index s r + slice_index t r }
     ensures maximum { (s t : List ℕ) (r : ℕ)
         → slice_index (rank_maximum s t) r ≡ max (slice_index s r) (slice_index t r) }
     ensures lesser_falls { (s t : List ℕ) → IsDescending s → IsDescending t → IsDescending (lesser s t) }
-    ensures cut_falls { (s : List ℕ) (n : ℕ) → IsDescending s → IsDescending (cut_at s n) }
+    ensures cut_falls { (s : List ℕ) (n : ℕ) → IsDescending s → IsDescending (capped_at s n) }
     ensures product_falls { (s t : List ℕ) → IsDescending s → IsDescending t → IsDescending (rank_product s t) }
     ensures sum_falls { (s t : List ℕ) → IsDescending s → IsDescending t → IsDescending (rank_sum s t) }
     ensures maximum_falls { (s t : List ℕ) → IsDescending s → IsDescending t → IsDescending (rank_maximum s t) }
@@ -53,10 +53,10 @@ pub fn operations()
 /// A compressed list has the same sum as its list, and running sums that are no lower. Its elements are at most a little
 /// higher, and it has few runs. Compression by heads and its accuracy are this project's own.
 pub fn compressions()
-    // each element is the slope at the sum of the elements before it, or the rest of f's sum if the rest is less
+    // each element is the head for the row after the sum of the elements before it, or the rest of f's sum if the rest is less
     ensures element { (accuracy : ℕ) (f : List ℕ) (r : ℕ) → r < length (compressed accuracy f)
         → slice_index (compressed accuracy f) r
-        ≡ min (slope accuracy f (running_sum (compressed accuracy f) r)) (sum f - running_sum (compressed accuracy f) r) }
+        ≡ min (head_of_row accuracy f (running_sum (compressed accuracy f) r)) (sum f - running_sum (compressed accuracy f) r) }
     // elements are added only until their sum is f's sum
     ensures goes_on { (accuracy : ℕ) (f : List ℕ) (r : ℕ) → r < length (compressed accuracy f)
         → running_sum (compressed accuracy f) r < sum f }

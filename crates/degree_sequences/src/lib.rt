@@ -8,7 +8,7 @@
 //! of an empty function.
 //!
 //! Contracts use `degree_list`, `running_sum`, `DominatesKeys`, `DominatesWeights`, `rank_product`,
-//! `rank_sum`, `rank_maximum`, `lesser`, `cut_at`, `compressed`, `composed`, `root_total`, `runs` and `saturated`.
+//! `rank_sum`, `rank_maximum`, `lesser`, `capped_at`, `compressed`, `composed`, `root_total`, `runs` and `saturated`.
 #![tactic(auto)]
 
 pub mod examples;

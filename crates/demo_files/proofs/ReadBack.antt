@@ -59,17 +59,17 @@ at_record b h =
     let quote : (b == 34) ≡ false = grind (arith, h) in
     rw (comma, cr, lf, quote) refl
 
-runs : (bs : List ℕ) → AreAtLeast48 bs → Runs default_config st.InField bs
+digits_stay_in_field : (bs : List ℕ) → AreAtLeast48 bs → Runs default_config st.InField bs
 unfolding Runs
-runs [] h = tt
-runs (b ∷ bs) h = (in_field b h.0, runs bs h.1)
+digits_stay_in_field [] h = tt
+digits_stay_in_field (b ∷ bs) h = (in_field b h.0, digits_stay_in_field bs h.1)
 
 field_read : (s : State) → Copies s → (fields : List (List ℕ)) (x tail : List ℕ) → IsField x
     → next_record default_config s fields [] (x ++ tail) ≡ next_record default_config st.InField fields x tail
 unfolding next_record
 field_read s copies fields [] tail h = absurd h
 field_read s copies fields (b ∷ bs) tail h =
-    rw (copies b h.0) (run-copies default_config st.InField fields (b ∷ []) bs tail (runs bs h.1))
+    rw (copies b h.0) (run-copies default_config st.InField fields (b ∷ []) bs tail (digits_stay_in_field bs h.1))
 
 record_read : (s : State) → Copies s → (fields : List (List ℕ)) (x : List ℕ) (rest : List (List ℕ)) (tail : List ℕ)
     → IsField x → AreFields rest
@@ -82,10 +82,10 @@ record_read s copies fields x (y ∷ ys) tail h k =
     ∙ record_read st.StartField at_field (fields ++ (x ∷ [])) y ys tail k.0 k.1
     ∙ ap (λ f. Some (f, st.AfterCr, tail)) (append_assoc fields (x ∷ []) (y ∷ ys))
 
-first_read : (r : List (List ℕ)) (tail : List ℕ) → IsRecord r
+first_record_read : (r : List (List ℕ)) (tail : List ℕ) → IsRecord r
     → next_record default_config st.StartRecord [] [] (record_text r ++ tail) ≡ Some (r, st.AfterCr, 10 ∷ tail)
-first_read [] tail h = absurd h
-first_read (x ∷ xs) tail h =
+first_record_read [] tail h = absurd h
+first_record_read (x ∷ xs) tail h =
     ap (next_record default_config st.StartRecord [] []) (append_assoc (join_with_byte 44 (x ∷ xs)) (13 ∷ 10 ∷ []) tail)
     ∙ record_read st.StartRecord at_record [] x xs (10 ∷ tail) h.0 h.1
 
@@ -94,30 +94,30 @@ unfolding records_from next_record
 after_lf zero xs = refl
 after_lf (suc n) xs = refl
 
-all_read : (n : ℕ) (rs : List (List (List ℕ))) → AreRecords rs → length rs < n
+records_read : (n : ℕ) (rs : List (List (List ℕ))) → AreRecords rs → length rs < n
     → records_from default_config n st.StartRecord (flat_map record_text rs) ≡ rs
 unfolding records_from next_record
-all_read zero rs h more = absurd (omega (arith, more))
-all_read (suc n) [] h more = refl
-all_read (suc n) (r ∷ rs) h more =
-    let first = first_read r (flat_map record_text rs) h.0 in
+records_read zero rs h more = absurd (omega (arith, more))
+records_read (suc n) [] h more = refl
+records_read (suc n) (r ∷ rs) h more =
+    let first = first_record_read r (flat_map record_text rs) h.0 in
     rw (flat_map-cons record_text r rs, first)
-    (ap (λ x. r ∷ x) (after_lf n (flat_map record_text rs) ∙ all_read n rs h.1 (omega (arith, more))))
+    (ap (λ x. r ∷ x) (after_lf n (flat_map record_text rs) ∙ records_read n rs h.1 (omega (arith, more))))
 
-enough : (rs : List (List (List ℕ))) → length rs ≤ length (flat_map record_text rs)
-enough [] = omega arith
-enough (r ∷ rs) =
+no_more_records_than_bytes : (rs : List (List (List ℕ))) → length rs ≤ length (flat_map record_text rs)
+no_more_records_than_bytes [] = omega arith
+no_more_records_than_bytes (r ∷ rs) =
     let e : length (flat_map record_text (r ∷ rs)) ≡ length (join_with_byte 44 r) + 2 + length (flat_map record_text rs) =
     ap length (flat_map-cons record_text r rs) ∙ length-append (record_text r) (flat_map record_text rs)
     ∙ ap (λ n. n + length (flat_map record_text rs)) (length-append (join_with_byte 44 r) (13 ∷ 10 ∷ [])) in
-    let rest = enough rs in
+    let rest = no_more_records_than_bytes rs in
     omega (arith, e, rest)
 
-unmarked : (b : ℕ) (bs : List ℕ) → b < 128 → strip_bom (b ∷ bs) ≡ b ∷ bs
+no_byte_order_mark : (b : ℕ) (bs : List ℕ) → b < 128 → strip_bom (b ∷ bs) ≡ b ∷ bs
 unfolding strip_bom
-unmarked b [] small = refl
-unmarked b (c ∷ []) small = refl
-unmarked b (c ∷ d ∷ rest) small = let no : (b == 239) ≡ false = grind (arith, small) in rw no refl
+no_byte_order_mark b [] small = refl
+no_byte_order_mark b (c ∷ []) small = refl
+no_byte_order_mark b (c ∷ d ∷ rest) small = let no : (b == 239) ≡ false = grind (arith, small) in rw no refl
 
 pub read_back : (r : List (List ℕ)) (rs : List (List (List ℕ))) (b : ℕ) (bs : List ℕ) → record_text r ≡ b ∷ bs
     → b < 128 → AreRecords (r ∷ rs) → records default_config (strip_bom (file_text (r ∷ rs))) ≡ r ∷ rs
@@ -126,6 +126,6 @@ read_back r rs b bs begins small h =
     let front : flat_map record_text (r ∷ rs) ≡ b ∷ (bs ++ flat_map record_text rs) =
     flat_map-cons record_text r rs ∙ ap (λ x. x ++ flat_map record_text rs) begins in
     let same : strip_bom (flat_map record_text (r ∷ rs)) ≡ flat_map record_text (r ∷ rs) =
-    ap strip_bom front ∙ unmarked b (bs ++ flat_map record_text rs) small ∙ sym front in
-    let rest = enough (r ∷ rs) in
-    ap (records default_config) same ∙ all_read (length (flat_map record_text (r ∷ rs)) + 1) (r ∷ rs) h (omega (arith, rest))
+    ap strip_bom front ∙ no_byte_order_mark b (bs ++ flat_map record_text rs) small ∙ sym front in
+    let rest = no_more_records_than_bytes (r ∷ rs) in
+    ap (records default_config) same ∙ records_read (length (flat_map record_text (r ∷ rs)) + 1) (r ∷ rs) h (omega (arith, rest))

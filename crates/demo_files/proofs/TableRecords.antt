@@ -15,61 +15,61 @@ use Rattle.demo_files.proofs.ReadBack.{AreAtLeast48, AreRecords, IsField, IsReco
 abbrev IsReadBack : List (List (List ℕ)) → Type 0
 IsReadBack rs = records default_config (strip_bom (file_text rs)) ≡ rs
 
-from_zero : (ds : List ℕ) → AreAtLeast48 (map (λ d. 48 + d) ds)
-from_zero [] = tt
-from_zero (d ∷ ds) = (omega arith, from_zero ds)
+digits_at_least_48 : (ds : List ℕ) → AreAtLeast48 (map (λ d. 48 + d) ds)
+digits_at_least_48 [] = tt
+digits_at_least_48 (d ∷ ds) = (omega arith, digits_at_least_48 ds)
 
-filled : (x : List ℕ) → 0 < length x → AreAtLeast48 x → IsField x
-filled [] some h = absurd (omega (arith, some))
-filled (b ∷ bs) some h = h
+field_if_not_empty : (x : List ℕ) → 0 < length x → AreAtLeast48 x → IsField x
+field_if_not_empty [] some h = absurd (omega (arith, some))
+field_if_not_empty (b ∷ bs) some h = h
 
-nought : IsField (decimal 0)
+zero_is_field : IsField (decimal 0)
 unfolding digits
-nought = (omega arith, tt)
+zero_is_field = (omega arith, tt)
 
-numeral : (n : ℕ) → n < 2 ^ 64 → IsField (decimal n)
-numeral zero small = nought
-numeral (suc n) small =
-    filled (decimal (suc n)) (decimal_nonempty (suc n) small)
-    (subst AreAtLeast48 (sym (decimal-digits_of (suc n) (omega arith) small)) (from_zero (digits_of 10 (suc n))))
+numeral_is_field : (n : ℕ) → n < 2 ^ 64 → IsField (decimal n)
+numeral_is_field zero small = zero_is_field
+numeral_is_field (suc n) small =
+    field_if_not_empty (decimal (suc n)) (decimal_nonempty (suc n) small)
+    (subst AreAtLeast48 (sym (decimal-digits_of (suc n) (omega arith) small)) (digits_at_least_48 (digits_of 10 (suc n))))
 
-rows : (numbers : ℕ → List ℕ) (a n : ℕ) → ((i : ℕ) → i < a + n → IsRecord (map decimal (numbers i)))
+records_of_rows : (numbers : ℕ → List ℕ) (a n : ℕ) → ((i : ℕ) → i < a + n → IsRecord (map decimal (numbers i)))
     → AreRecords (map (λ i. map decimal (numbers i)) (range_with_len a n))
-rows numbers a zero each = tt
-rows numbers a (suc n) each = (each a (omega arith), rows numbers (a + 1) n (λ i less. each i (omega (arith, less))))
+records_of_rows numbers a zero each = tt
+records_of_rows numbers a (suc n) each = (each a (omega arith), records_of_rows numbers (a + 1) n (λ i less. each i (omega (arith, less))))
 
-whole : (columns : List (List ℕ)) (numbers : ℕ → List ℕ) (count b : ℕ) (bs : List ℕ) → record_text columns ≡ b ∷ bs → b < 128
+table_is_read_back : (columns : List (List ℕ)) (numbers : ℕ → List ℕ) (count b : ℕ) (bs : List ℕ) → record_text columns ≡ b ∷ bs → b < 128
     → IsRecord columns → ((i : ℕ) → i < count → IsRecord (map decimal (numbers i))) → IsReadBack (table_records columns numbers count)
 unfolding table_records
-whole columns numbers count b bs begins small names each =
+table_is_read_back columns numbers count b bs begins small names each =
     read_back columns (map (λ i. map decimal (numbers i)) (range_with_len 0 count)) b bs begins small
-    (names, rows numbers 0 count (λ i less. each i (omega (arith, less))))
+    (names, records_of_rows numbers 0 count (λ i less. each i (omega (arith, less))))
 
-of_product : (i : ℕ) → product_of_item i < 2 ^ 64
-of_product i = elim (cases_Bool (i % 2 == 0)) [
+product_in_64_bits : (i : ℕ) → product_of_item i < 2 ^ 64
+product_in_64_bits i = elim (cases_Bool (i % 2 == 0)) [
   | inl even ↦ rw even (omega arith)
   | inr odd ↦ rw odd (omega arith)
 ]
 
 pub products_read : IsReadBack product_records
 unfolding product_records
-products_read = whole product_columns product products 73 _ refl (omega arith) (search rules)
-    (λ i less. (numeral i (omega (arith, less)), (numeral (i % 4) (omega arith), tt)))
+products_read = table_is_read_back product_columns product products 73 _ refl (omega arith) (search rules)
+    (λ i less. (numeral_is_field i (omega (arith, less)), (numeral_is_field (i % 4) (omega arith), tt)))
 
 pub items_read : (number : ℕ) → IsReadBack (item_records number)
 unfolding item_records
-items_read number = whole item_columns (item number) items 79 _ refl (omega arith) (search rules)
-    (λ i less. (numeral ((3 * i + number) % orders) (omega arith), (numeral (product_of_item i) (of_product i), tt)))
+items_read number = table_is_read_back item_columns (item number) items 79 _ refl (omega arith) (search rules)
+    (λ i less. (numeral_is_field ((3 * i + number) % orders) (omega arith), (numeral_is_field (product_of_item i) (product_in_64_bits i), tt)))
 
 pub orders_read : (number : ℕ) → IsReadBack (order_records number)
 unfolding order_records
-orders_read number = whole order_columns (order number) orders 73 _ refl (omega arith) (search rules)
+orders_read number = table_is_read_back order_columns (order number) orders 73 _ refl (omega arith) (search rules)
     (λ i less. (
-      numeral i (omega (arith, less)),
-      (numeral ((7 * i + number) % customers) (omega arith), (numeral (i % 100) (omega arith), tt)),
+      numeral_is_field i (omega (arith, less)),
+      (numeral_is_field ((7 * i + number) % customers) (omega arith), (numeral_is_field (i % 100) (omega arith), tt)),
     ))
 
 pub customers_read : (number : ℕ) → IsReadBack (customer_records number)
 unfolding customer_records
-customers_read number = whole customer_columns (customer number) customers 73 _ refl (omega arith) (search rules)
-    (λ i less. (numeral i (omega (arith, less)), (numeral ((i + number) % 10) (omega arith), tt)))
+customers_read number = table_is_read_back customer_columns (customer number) customers 73 _ refl (omega arith) (search rules)
+    (λ i less. (numeral_is_field i (omega (arith, less)), (numeral_is_field ((i + number) % 10) (omega arith), tt)))

@@ -23,25 +23,25 @@ product i = i ∷ i % 4 ∷ []
 abbrev pub item_columns : List (List ℕ)
 item_columns = codes "ORDER_ID" ∷ codes "PRODUCT" ∷ []
 
--- items come in pairs. The first item of pair p has the product p modulo 10: these ten sell often. The second has the product p modulo the
--- number of products
+-- items come in pairs. The first item of pair p has the product p modulo 10, so these ten products sell often. The second item has the product p
+-- modulo the number of products
 abbrev pub product_of_item : ℕ → ℕ
 product_of_item i = if i % 2 == 0 then (i / 2) % 10 else (i / 2) % products
 
 -- item i belongs to order 3 * i + the shop's number, modulo the number of orders
 abbrev pub item : ℕ → ℕ → List ℕ
-item number i = (3 * i + number) % orders ∷ product_of_item i ∷ []
+item shop i = (3 * i + shop) % orders ∷ product_of_item i ∷ []
 
 abbrev pub order_columns : List (List ℕ)
 order_columns = codes "ID" ∷ codes "CUSTOMER" ∷ codes "DAYNO" ∷ []
 
 -- order i belongs to customer 7 * i + the shop's number, modulo the number of customers. Its day is i modulo 100
 abbrev pub order : ℕ → ℕ → List ℕ
-order number i = i ∷ (7 * i + number) % customers ∷ i % 100 ∷ []
+order shop i = i ∷ (7 * i + shop) % customers ∷ i % 100 ∷ []
 
 abbrev pub customer_columns : List (List ℕ)
 customer_columns = codes "ID" ∷ codes "REGION" ∷ []
 
 -- customer i lives in region i + the shop's number, modulo 10
 abbrev pub customer : ℕ → ℕ → List ℕ
-customer number i = i ∷ (i + number) % 10 ∷ []
+customer shop i = i ∷ (i + shop) % 10 ∷ []

@@ -17,7 +17,8 @@ pub fn examples()
     ensures last_item { item 7 399999 ≡ 4 ∷ 19999 ∷ [] }
     ensures last_order { order 7 199999 ≡ 199999 ∷ 0 ∷ 99 ∷ [] }
     ensures last_customer { customer 7 49999 ≡ 49999 ∷ 6 ∷ [] }
-    // The two items of pair 10. The first has product 0, one of the ten that sell often. The second has product 10: all products come in turn.
+    // Items 20 and 21 are pair 10. The first has product 0, one of the ten products that sell often. The second has product 10, since second items
+    // take all products in turn.
     ensures often { item 7 20 ≡ 67 ∷ 0 ∷ [] }
     ensures in_turn { item 7 21 ≡ 70 ∷ 10 ∷ [] }
     ensures greatest_number { item (2 ^ 32 - 1) 0 ≡ 167295 ∷ 0 ∷ [] }

@@ -41,7 +41,7 @@ pub fn push_product(file: &mut Vec<u8>, i: u64) -> Result<(), NoMemory>
     push_last(file, i % 4)
 }
 
-// An item with an even index has one of ten products that sell often. The others take all products in turn.
+// An item with an even index has one of ten products that sell often. The other items take all products in turn.
 fn product_of_item(i: u64) -> u64
     ensures { result ≡ product_of i }
 {

@@ -10,7 +10,7 @@ use Rattle.csv_tables.specs.Files.{rows_of_file}
 use Rattle.csv_tables.specs.Rows.{Row}
 use Rattle.csv_tables.specs.declared.types.TableError.{TableError}
 use Rattle.csv_tables.specs.declared.types.TableError.TheVariants as table
-use Rattle.query_types.specs.Validity.{IsOf}
+use Rattle.query_types.specs.Validity.{IsQueryOf}
 use Rattle.query_types.specs.declared.types.Query.{Query}
 use Rattle.text_answers.specs.SchemaTexts.{schema_answer}
 use Rattle.outcomes.specs.Errors.{table_refusal}
@@ -22,7 +22,7 @@ use Rattle.outcomes.specs.declared.refusal.Refusal.TheVariants as refusal
 use Rattle.table_files.specs.Stage.{rows_by_entry, rows_of_each, table_at, table_rows, tables_of_query, tables_stage}
 use Rattle.table_files.specs.FileNames.{file_name}
 use Rattle.table_files.specs.TableFile.{bytes_of, file_rows, read, rows_of_bytes}
-use Rattle.table_files.proofs.DatabaseOfQuery.{numbers_low}
+use Rattle.table_files.proofs.DatabaseOfQuery.{table_numbers_within}
 use Rattle.demo_files.specs.Files.{customer_records, demo_files, file_text, item_records, order_records, product_records}
 use Rattle.demo_files.specs.Texts.{query_text, schema_text}
 use Rattle.demo_tables.specs.ShopSchema.{shop_schema}
@@ -48,15 +48,15 @@ present_misses : (id : FileId) (most : ℕ) (bytes : List ℕ) → MissesNothing
 present_misses id most bytes =
     either_misses (nat_lt most (length bytes)) (refusal.Limit limit.FileBytes id (most + 1)) bytes (λ other e. cc)
 
-bytes_miss : (number : ℕ) (answer : Result (List Row) TableError) → MissesNothing (with_refusal (table_refusal number) answer)
-bytes_miss number (Ok rows) id e = cc
-bytes_miss number (Err (table.Utf8 at)) id e = cc
-bytes_miss number (Err (table.Header column)) id e = cc
-bytes_miss number (Err (table.Width row found)) id e = cc
-bytes_miss number (Err (table.Field row column)) id e = cc
-bytes_miss number (Err (table.Key row earlier)) id e = cc
-bytes_miss number (Err (table.Limit found)) id e = cc
-bytes_miss number (Err table.NoMemory) id e = cc
+with_refusal_misses : (number : ℕ) (answer : Result (List Row) TableError) → MissesNothing (with_refusal (table_refusal number) answer)
+with_refusal_misses number (Ok rows) id e = cc
+with_refusal_misses number (Err (table.Utf8 at)) id e = cc
+with_refusal_misses number (Err (table.Header column)) id e = cc
+with_refusal_misses number (Err (table.Width row found)) id e = cc
+with_refusal_misses number (Err (table.Field row column)) id e = cc
+with_refusal_misses number (Err (table.Key row earlier)) id e = cc
+with_refusal_misses number (Err (table.Limit found)) id e = cc
+with_refusal_misses number (Err table.NoMemory) id e = cc
 
 -- ---- the shop's files
 
@@ -65,39 +65,39 @@ module _ (number : ℕ) where
   files = demo_files number
 
   has_file : (place : ℕ) → place < 4 → (bytes : List ℕ) × (file_of (demo_files number) (file_name (table_at shop_schema place)) ≡ Some bytes)
-  has_file zero low = (file_text product_records, refl)
-  has_file (suc zero) low = (file_text (item_records number), refl)
-  has_file (suc (suc zero)) low = (file_text (order_records number), refl)
-  has_file (suc (suc (suc zero))) low = (file_text (customer_records number), refl)
-  has_file (suc (suc (suc (suc place)))) low = absurd (omega arith)
+  has_file zero is_below = (file_text product_records, refl)
+  has_file (suc zero) is_below = (file_text (item_records number), refl)
+  has_file (suc (suc zero)) is_below = (file_text (order_records number), refl)
+  has_file (suc (suc (suc zero))) is_below = (file_text (customer_records number), refl)
+  has_file (suc (suc (suc (suc place)))) is_below = absurd (omega arith)
 
   one_misses : (place : ℕ) → place < 4 → MissesNothing (table_rows shop_schema place (demo_files number))
   unfolding file_rows
-  one_misses place low =
-      let there = has_file place low in
+  one_misses place is_below =
+      let there = has_file place is_below in
       then_misses (read (file.Table place) 67108864 (file_name (table_at shop_schema place)) files) (rows_of_bytes place (table_at shop_schema place))
       (subst (λ (o : Option (List ℕ)). MissesNothing (bytes_of (file.Table place) 67108864 o)) (sym there.1)
       (present_misses (file.Table place) 67108864 there.0))
-      (λ bytes _. bytes_miss place (rows_of_file (table_at shop_schema place) bytes))
+      (λ bytes _. with_refusal_misses place (rows_of_file (table_at shop_schema place) bytes))
 
   each_misses : (numbers : List ℕ) → All (λ place. place < 4) numbers → MissesNothing (rows_of_each shop_schema numbers (demo_files number))
-  each_misses [] low = ok_misses []
-  each_misses (place ∷ places) low =
-      then_misses (table_rows shop_schema place files) _ (one_misses place (All-head (λ p. p < 4) place places low))
-      (λ rows _. then_misses (rows_of_each shop_schema places files) _ (each_misses places (All-tail (λ p. p < 4) place places low))
+  each_misses [] is_below = ok_misses []
+  each_misses (place ∷ places) is_below =
+      then_misses (table_rows shop_schema place files) _ (one_misses place (All-head (λ p. p < 4) place places is_below))
+      (λ rows _. then_misses (rows_of_each shop_schema places files) _ (each_misses places (All-tail (λ p. p < 4) place places is_below))
       (λ others _. ok_misses (rows ∷ others)))
 
-  shop_misses : (query : Query) → IsOf shop_schema query → MissesNothing (tables_stage shop_schema query.from (demo_files number))
+  shop_misses : (query : Query) → IsQueryOf shop_schema query → MissesNothing (tables_stage shop_schema query.from (demo_files number))
   unfolding tables_stage
   shop_misses query of =
-      then_misses (rows_of_each shop_schema (tables_of_query query.from) files) _ (each_misses (tables_of_query query.from) (numbers_low shop_schema query of))
+      then_misses (rows_of_each shop_schema (tables_of_query query.from) files) _ (each_misses (tables_of_query query.from) (table_numbers_within shop_schema query of))
       (λ rows _. ok_misses (rows_by_entry query.from rows))
 
-  pub tables_miss : (schema : Schema) (query : Query) → schema_answer schema_text ≡ Ok schema → IsOf schema query
+  pub tables_miss : (schema : Schema) (query : Query) → schema_answer schema_text ≡ Ok schema → IsQueryOf schema query
       → MissesNothing (tables_stage schema query.from (demo_files number))
   tables_miss schema query read_as of =
       let same : shop_schema ≡ schema = (let both : Ok shop_schema ≡ Ok schema = sym schema_read ∙ read_as in cc) in
-      let P : Schema → Type 0 = λ s. IsOf s query → MissesNothing (tables_stage s query.from (demo_files number)) in
+      let P : Schema → Type 0 = λ s. IsQueryOf s query → MissesNothing (tables_stage s query.from (demo_files number)) in
       subst P same (shop_misses query) of
 
   pub schema_there : read file.Schema 1048576 (codes "schema.sql") (demo_files number) ≡ Ok schema_text

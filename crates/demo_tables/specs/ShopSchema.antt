@@ -14,16 +14,16 @@ numbers_table name columns keys = record {
   references = [];
 }
 
--- one key: the first column
-abbrev pub by_id : List (List ℕ)
-by_id = (0 ∷ []) ∷ []
+-- the keys of a table whose only key is its first column
+abbrev pub first_column_is_key : List (List ℕ)
+first_column_is_key = (0 ∷ []) ∷ []
 
 abbrev pub shop_schema : Schema
 shop_schema = record {
   tables =
-      numbers_table (codes "PRODUCT") product_columns by_id
+      numbers_table (codes "PRODUCT") product_columns first_column_is_key
       ∷ numbers_table (codes "ITEM") item_columns []
-      ∷ numbers_table (codes "ORDERS") order_columns by_id
-      ∷ numbers_table (codes "CUSTOMER") customer_columns by_id
+      ∷ numbers_table (codes "ORDERS") order_columns first_column_is_key
+      ∷ numbers_table (codes "CUSTOMER") customer_columns first_column_is_key
       ∷ [];
 }

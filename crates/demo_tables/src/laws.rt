@@ -2,7 +2,7 @@
 ghost use Rattle.std.specs.Prelude.{◌≡◌, ℕ, Ok, codes};
 ghost use Rattle.limits.specs.Profile.{most_text};
 ghost use Rattle.schema_types.specs.declared.types.Schema.{Schema};
-ghost use Rattle.query_types.specs.Validity.{IsOf};
+ghost use Rattle.query_types.specs.Validity.{IsQueryOf};
 ghost use Rattle.query_types.specs.declared.types.Query.{Query};
 ghost use Rattle.text_answers.specs.SchemaTexts.{schema_answer};
 ghost use Rattle.outcomes.specs.Reads.{MissesNothing};
@@ -22,6 +22,6 @@ pub fn the_schema_is_read()
 pub fn no_file_is_absent()
     ensures schema { (number : ℕ) → read file.Schema most_text (codes "schema.sql") (demo_files number) ≡ Ok schema_text }
     ensures query { (number : ℕ) → read file.Query most_text (codes "query.sql") (demo_files number) ≡ Ok query_text }
-    ensures tables { (number : ℕ) (schema : Schema) (query : Query) → schema_answer schema_text ≡ Ok schema → IsOf schema query
+    ensures tables { (number : ℕ) (schema : Schema) (query : Query) → schema_answer schema_text ≡ Ok schema → IsQueryOf schema query
         → MissesNothing (tables_stage schema query.from (demo_files number)) }
 {}

@@ -1,6 +1,6 @@
-//! Laws over the files of `demo_files`: every file that a query over the shop's schema reads is one of them.
+//! Laws of the shop's files (`demo_files`): every file that a query over the shop's schema reads is one of them.
 //!
-//! The schema text of the shop declares four tables (`shop_schema` in `specs/ShopSchema.antt`), and there is a file for each. So no file is
+//! The schema text of the shop declares four tables (`shop_schema` in `specs/ShopSchema.antt`), and there is a file for each table. So no file is
 //! absent: neither the schema's file, nor the query's file, nor the file of a table that the query names.
 #![tactic(auto)]
 

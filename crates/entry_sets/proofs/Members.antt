@@ -11,7 +11,7 @@ use Rattle.entry_sets.specs.Sets.{IsSubset, has_entry}
 use Rattle.entry_sets.proofs.Bits.{bit_without_other, bit_without_same}
 use Rattle.entry_sets.proofs.Listing.{bit_has, has_bit}
 
--- the code shifts a number with a bit for each entry, so the result is taken modulo 2 ^ greatest_entries. No bit is lost
+-- `1 << entry` is taken modulo 2 ^ greatest_entries, which changes nothing as the entry is below greatest_entries
 one_bit : (entry : ℕ) → entry < greatest_entries → 1 * 2 ^ entry % 2 ^ greatest_entries ≡ 2 ^ entry
 one_bit entry low = omega (arith, powers)
   where
@@ -51,13 +51,13 @@ without_number set entry fits low has =
       | inr apart ↦ bit_at_clear_other w16 set entry low i small apart ∙ sym (bit_without_other entry set i has apart)
     ]
 
-within_so : (set other : ℕ) → bit_and set other ≡ set → IsSubset set other
-within_so set other is entry has =
+subset_if_and_is_same : (set other : ℕ) → bit_and set other ≡ set → IsSubset set other
+subset_if_and_is_same set other is entry has =
     let bit : (entry < greatest_entries) × (bit_at set entry ≡ 1) = has_bit set entry has in
     bit_has other entry (bit.0, omega (arith, bit.1, ap (λ n. bit_at n entry) is, bit_at_and set other entry, bit_at-lt other entry))
 
-so_within : (set other : ℕ) → set < 2 ^ greatest_entries → IsSubset set other → bit_and set other ≡ set
-so_within set other fits within = same_from_bits_below greatest_entries (bit_and set other) set (omega (arith, and_le_l set other, fits)) fits at
+and_is_same_if_subset : (set other : ℕ) → set < 2 ^ greatest_entries → IsSubset set other → bit_and set other ≡ set
+and_is_same_if_subset set other fits within = same_from_bits_below greatest_entries (bit_and set other) set (omega (arith, and_le_l set other, fits)) fits at
   where
     at : (i : ℕ) → i < greatest_entries → bit_at (bit_and set other) i ≡ bit_at set i
     at i small = elim (cases_eq (bit_at set i) 1) [
@@ -65,8 +65,8 @@ so_within set other fits within = same_from_bits_below greatest_entries (bit_and
       | inr none ↦ omega (arith, none, bit_at_and set other i, bit_at-lt set i)
     ]
 
-pub within_told : (set other : ℕ) → set < 2 ^ greatest_entries → IsTrue (eqb (bit_and set other) set) ↔ IsSubset set other
-within_told set other fits = (
-  λ h. within_so set other (eqb-true (bit_and set other) set h),
-  λ h. eq-eqb (bit_and set other) set (so_within set other fits h),
+pub is_subset_by_bits : (set other : ℕ) → set < 2 ^ greatest_entries → IsTrue (eqb (bit_and set other) set) ↔ IsSubset set other
+is_subset_by_bits set other fits = (
+  λ h. subset_if_and_is_same set other (eqb-true (bit_and set other) set h),
+  λ h. eq-eqb (bit_and set other) set (and_is_same_if_subset set other fits h),
 )

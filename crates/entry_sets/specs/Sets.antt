@@ -20,7 +20,7 @@ entries_from set first count = filter (λ entry. bit_at set entry == 1) (range_w
 unfoldable pub entries_of_set : ℕ → List ℕ
 entries_of_set set = entries_from set 0 greatest_entries
 
--- the set of these entries, if they are different
+-- the set of these entries, which have to be different
 abbrev pub set_of : List ℕ → ℕ
 set_of [] = 0
 set_of (entry ∷ entries) = 2 ^ entry + set_of entries

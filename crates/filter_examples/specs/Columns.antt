@@ -1,4 +1,4 @@
--- What statistics know of a column of numbers that both joins and filters: the lists of its values and ranges, at accuracy 1.
+-- The statistics of a column of numbers that is the joined column and the filter column: lists of its values and ranges, at accuracy 1.
 use Rattle.std.specs.Prelude.{ℕ, List, [], Option, None, Some}
 use Rattle.std.specs.List.{zip}
 use Rattle.schema_types.specs.declared.types.Kind.TheVariants as kind
@@ -13,7 +13,7 @@ abbrev pub cell_with : Value → Option ℕ
 cell_with (Int number) = Some (bits_of number)
 cell_with (Text text) = None
 
--- the lists of a column of cells, which is both the joined column and the filter column
+-- the lists of a column of cells, which is the joined column and the filter column
 abbrev pub lists_of : List ℕ → ColumnLists
 lists_of column = record {
   whole = whole 1 (zip column column);

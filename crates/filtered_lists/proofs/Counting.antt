@@ -1,14 +1,14 @@
--- These lemmas count the rows of an entry that pass tests, and those that pass the entry's own conjuncts.
+-- Counts of the rows of an entry that pass tests, and of the rows that pass the entry's own conjuncts.
 use Rattle.std.proofs.Common.{◌≡◌, ℕ, ◌+◌, ◌≤◌, Bool, true, false, not, ◌&&◌, ◌||◌, eqb, cond, List, [], ◌∷◌, map, length, refl, ap, sym, ◌∙◌, subst, inl, inr, arith}
 use Rattle.std.specs.List.{AllByRecursion, count_by, filter, list_all, list_any, range_with_len, sum}
 use Rattle.std.proofs.lemmas.Bool.{cases_Bool, eqb-true, and_parts, and_from, or_cases, false≢true}
 use Rattle.std.proofs.lemmas.List.{length-map}
 use Rattle.std.proofs.lemmas.List.Sums.{sum_by-cons}
 use Rattle.std.proofs.lemmas.List.FromFn.{length-range_with_len}
-use Rattle.degree_sequences.proofs.DegreeLists.{places_fit}
+use Rattle.degree_sequences.proofs.DegreeLists.{length_at_most_sum}
 use Rattle.degree_sequences.specs.Domination.{DominatesKeys}
 use Rattle.entry_sets.specs.Naming.{are_within}
-use Rattle.join_graph.specs.Conjuncts.{names_just}
+use Rattle.join_graph.specs.Conjuncts.{is_own_conjunct}
 use Rattle.query_types.specs.declared.types.Cond.{Cond}
 use Rattle.query_types.specs.Named.{entries_named}
 use Rattle.csv_tables.specs.Values.{Value}
@@ -23,48 +23,48 @@ use Rattle.filtered_lists.specs.Lists.{ColumnLists, RowCounts, count_answers, fi
 use Rattle.filtered_lists.specs.Ranges.{Range}
 use Rattle.filtered_lists.specs.Standing.{ListsStandFor, CountsStandFor, has_value, is_in_range, rows_where, scan_of}
 use Rattle.filtered_lists.proofs.Lists.{running_sums, running_sum-filtered}
-use Rattle.filtered_lists.proofs.Passing.{Passes, row_tests, and_passes, joined_passes, cond_passes}
+use Rattle.filtered_lists.proofs.Passing.{Passes, row_tests, and_passes, joined_passes, passes_if_holds}
 use Rattle.filtered_lists.proofs.Related.{filtered_related}
 
 -- ---- the number of counted rows among the rows that pass a test
 
 module _ (counted : ℕ → Bool) where
-  abbrev number : List ℕ → ℕ
-  number rows = count_by counted rows
+  abbrev counted_rows : List ℕ → ℕ
+  counted_rows rows = count_by counted rows
 
-  one : ℕ → ℕ
-  one row = cond (counted row) 1 0
+  count_of_one : ℕ → ℕ
+  count_of_one row = cond (counted row) 1 0
 
-  number-cons : (row : ℕ) (rows : List ℕ) → number (row ∷ rows) ≡ one row + number rows
-  unfolding one
-  number-cons row rows = sum_by-cons (λ (x : ℕ). cond (counted x) 1 0) row rows
+  counted_rows-cons : (row : ℕ) (rows : List ℕ) → counted_rows (row ∷ rows) ≡ count_of_one row + counted_rows rows
+  unfolding count_of_one
+  counted_rows-cons row rows = sum_by-cons (λ (x : ℕ). cond (counted x) 1 0) row rows
 
-  pub fewer_pass : (p q : ℕ → Bool) → ((row : ℕ) → p row ≡ true → q row ≡ true) → (rows : List ℕ) → number (filter p rows) ≤ number (filter q rows)
+  pub fewer_pass : (p q : ℕ → Bool) → ((row : ℕ) → p row ≡ true → q row ≡ true) → (rows : List ℕ) → counted_rows (filter p rows) ≤ counted_rows (filter q rows)
   fewer_pass p q h [] = omega arith
   fewer_pass p q h (row ∷ rows) = elim (cases_Bool (p row)) [
-    | inl t ↦ rw (t, h row t) (omega (arith, number-cons row (filter p rows), number-cons row (filter q rows), fewer_pass p q h rows))
+    | inl t ↦ rw (t, h row t) (omega (arith, counted_rows-cons row (filter p rows), counted_rows-cons row (filter q rows), fewer_pass p q h rows))
     | inr n ↦ elim (cases_Bool (q row)) [
-      | inl t ↦ rw (n, t) (omega (arith, number-cons row (filter q rows), fewer_pass p q h rows))
+      | inl t ↦ rw (n, t) (omega (arith, counted_rows-cons row (filter q rows), fewer_pass p q h rows))
       | inr m ↦ rw (n, m) (fewer_pass p q h rows)
     ]
   ]
 
-  pub either_passes : (p q : ℕ → Bool) (rows : List ℕ) → number (filter (λ row. p row || q row) rows) ≤ number (filter p rows) + number (filter q rows)
+  pub either_passes : (p q : ℕ → Bool) (rows : List ℕ) → counted_rows (filter (λ row. p row || q row) rows) ≤ counted_rows (filter p rows) + counted_rows (filter q rows)
   either_passes p q [] = omega arith
   either_passes p q (row ∷ rows) = elim (cases_Bool (p row)) [
     | inl t ↦ elim (cases_Bool (q row)) [
-      | inl u ↦ rw (t, u) (omega (arith, number-cons row (filter (λ row. p row || q row) rows), number-cons row (filter p rows), number-cons row (filter q rows), either_passes p q rows))
-      | inr m ↦ rw (t, m) (omega (arith, number-cons row (filter (λ row. p row || q row) rows), number-cons row (filter p rows), either_passes p q rows))
+      | inl u ↦ rw (t, u) (omega (arith, counted_rows-cons row (filter (λ row. p row || q row) rows), counted_rows-cons row (filter p rows), counted_rows-cons row (filter q rows), either_passes p q rows))
+      | inr m ↦ rw (t, m) (omega (arith, counted_rows-cons row (filter (λ row. p row || q row) rows), counted_rows-cons row (filter p rows), either_passes p q rows))
     ]
     | inr n ↦ elim (cases_Bool (q row)) [
-      | inl u ↦ rw (n, u) (omega (arith, number-cons row (filter (λ row. p row || q row) rows), number-cons row (filter q rows), either_passes p q rows))
+      | inl u ↦ rw (n, u) (omega (arith, counted_rows-cons row (filter (λ row. p row || q row) rows), counted_rows-cons row (filter q rows), either_passes p q rows))
       | inr m ↦ rw (n, m) (either_passes p q rows)
     ]
   ]
 
-  none_pass : (rows : List ℕ) → number (filter (λ row. false) rows) ≤ 0
-  none_pass [] = omega arith
-  none_pass (row ∷ rows) = none_pass rows
+  none_pass_false : (rows : List ℕ) → counted_rows (filter (λ row. false) rows) ≤ 0
+  none_pass_false [] = omega arith
+  none_pass_false (row ∷ rows) = none_pass_false rows
 
   pub all_pass : (rows : List ℕ) → filter (λ row. true) rows ≡ rows
   all_pass [] = refl
@@ -72,12 +72,12 @@ module _ (counted : ℕ → Bool) where
 
 -- ---- conjuncts that name one entry
 
-pub all_entry : (entry : ℕ) (xs : List ℕ) → are_within xs (entry ∷ []) ≡ true → AllByRecursion (λ e. e ≡ entry) xs
-all_entry entry [] h = tt
-all_entry entry (x ∷ xs) h =
+pub names_only_entry : (entry : ℕ) (xs : List ℕ) → are_within xs (entry ∷ []) ≡ true → AllByRecursion (λ e. e ≡ entry) xs
+names_only_entry entry [] h = tt
+names_only_entry entry (x ∷ xs) h =
     let parts = and_parts (eqb x entry || false) (are_within xs (entry ∷ [])) h in (
       elim (or_cases (eqb x entry) false parts.0) [ inl t ↦ eqb-true x entry t | inr f ↦ absurd (false≢true f) ],
-      all_entry entry xs parts.1,
+      names_only_entry entry xs parts.1,
     )
 
 implied : (b c : Bool) → b ≡ true → (not b || c) ≡ true → c ≡ true
@@ -86,29 +86,29 @@ implied b c h k = rw h at k
 module _ (tables : Tables) (entry : ℕ) where
   -- the row passes the entry's own conjuncts
   abbrev passes_own_conjuncts : List Cond → ℕ → Bool
-  passes_own_conjuncts conjuncts row = list_all (λ c. not (levels.names_just c entry) || c.holds (λ e. row)) (map (conjunct_of tables) conjuncts)
+  passes_own_conjuncts conjuncts row = list_all (λ c. not (levels.is_own_conjunct c entry) || c.holds (λ e. row)) (map (conjunct_of tables) conjuncts)
 
   own_pass : (row : ℕ) (conjuncts : List Cond) → passes_own_conjuncts conjuncts row ≡ true
       → AllByRecursion (Passes tables entry row) (map (λ c. conjunction_of (row_tests tables entry) c true) (own_conjuncts entry conjuncts))
   own_pass row [] h = tt
   own_pass row (c ∷ conjuncts) h =
-      let parts = and_parts (not (levels.names_just (conjunct_of tables c) entry) || cond_holds tables (λ e. row) c) (passes_own_conjuncts conjuncts row) h in
-      elim (cases_Bool (names_just entry c)) [
+      let parts = and_parts (not (levels.is_own_conjunct (conjunct_of tables c) entry) || cond_holds tables (λ e. row) c) (passes_own_conjuncts conjuncts row) h in
+      elim (cases_Bool (is_own_conjunct entry c)) [
         | inl t ↦ rw t (
-          cond_passes tables entry row c
-              (all_entry entry (entries_named c) (and_parts (are_within (entries_named c) (entry ∷ [])) (not (are_within (entries_named c) [])) t).0) true
-              (implied (levels.names_just (conjunct_of tables c) entry) (cond_holds tables (λ e. row) c) t parts.0),
+          passes_if_holds tables entry row c
+              (names_only_entry entry (entries_named c) (and_parts (are_within (entries_named c) (entry ∷ [])) (not (are_within (entries_named c) [])) t).0) true
+              (implied (levels.is_own_conjunct (conjunct_of tables c) entry) (cond_holds tables (λ e. row) c) t parts.0),
           own_pass row conjuncts parts.1,
         )
         | inr n ↦ rw n (own_pass row conjuncts parts.1)
       ]
 
-  left_pass : (conjuncts : List Cond) (row : ℕ) → passes_own_conjuncts conjuncts row ≡ true → filtered (row_tests tables entry) entry conjuncts row ≡ true
-  left_pass conjuncts row h =
+  own_pass_filtered : (conjuncts : List Cond) (row : ℕ) → passes_own_conjuncts conjuncts row ≡ true → filtered (row_tests tables entry) entry conjuncts row ≡ true
+  own_pass_filtered conjuncts row h =
       let members : List (Conjunction (ℕ → Bool)) = map (λ c. conjunction_of (row_tests tables entry) c true) (own_conjuncts entry conjuncts) in
       and_from (and_answer (row_tests tables entry) (one_conjunction members) row) true (and_passes tables entry row (one_conjunction members) (joined_passes tables entry row members (own_pass row conjuncts h))) refl
 
-  -- ---- if each number of the statistics is at least the number of counted rows, so is the row bound
+  -- ---- if no number of the statistics is below its counted rows, the row bound isn't below those of the scan
 
   pub record AreEnough (counted : ℕ → Bool) (counts : RowCounts) : Type 0 where
     pub whole : count_by counted (range_with_len 0 (row_counts tables entry)) ≤ counts.whole
@@ -125,10 +125,10 @@ module _ (tables : Tables) (entry : ℕ) where
         equal = enough.equal;
         range = enough.range;
         both = λ p q m n h k. omega (arith, h, k, fewer_pass counted (λ row. p row && q row) p (λ row t. (and_parts (p row) (q row) t).0) rows, fewer_pass counted (λ row. p row && q row) q (λ row t. (and_parts (p row) (q row) t).1) rows);
-        none = none_pass counted rows;
+        none = none_pass_false counted rows;
         either = λ p q m n h k. omega (arith, h, k, either_passes counted p q rows);
       }) entry conjuncts in
-      omega (arith, passing, fewer_pass counted (passes_own_conjuncts conjuncts) (filtered (row_tests tables entry) entry conjuncts) (left_pass conjuncts) rows)
+      omega (arith, passing, fewer_pass counted (passes_own_conjuncts conjuncts) (filtered (row_tests tables entry) entry conjuncts) (own_pass_filtered conjuncts) rows)
 
 -- ---- filtered lists and row bounds are never too low
 
@@ -160,7 +160,7 @@ pub sum_is_enough : (lists : ColumnLists) (tables : Tables) (entry : ℕ) (key :
 sum_is_enough lists tables entry key conjuncts stands =
     omega (
       arith,
-      places_fit (filtered_list lists entry conjuncts) (map key (scan_of tables entry conjuncts)) (list_dominates lists tables entry key conjuncts stands),
+      length_at_most_sum (filtered_list lists entry conjuncts) (map key (scan_of tables entry conjuncts)) (list_dominates lists tables entry key conjuncts stands),
       length-map (scan_of tables entry conjuncts) key,
     )
 

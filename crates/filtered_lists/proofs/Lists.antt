@@ -37,13 +37,13 @@ running_sum-filtered lists r =
 -- ---- the sum of a filtered list
 
 -- at this rank each of the three running sums has reached the sum of its list
-past : (s t u : List ℕ) → ℕ
-past s t u = length s + length t + length u
+rank_past_all : (s t u : List ℕ) → ℕ
+rank_past_all s t u = length s + length t + length u
 
 pub sum-lesser : (s t : List ℕ) → sum (lesser s t) ≡ min (sum s) (sum t)
-unfolding past
+unfolding rank_past_all
 sum-lesser s t =
-    let r : ℕ = past s t (lesser s t) in
+    let r : ℕ = rank_past_all s t (lesser s t) in
     omega (arith, running_sum-lesser s t r, running_sum-past s r (omega arith), running_sum-past t r (omega arith), running_sum-past (lesser s t) r (omega arith))
 
 pub sum-filtered : (lists : ColumnLists) (counts : RowCounts) (entry : ℕ) (conjuncts : List Cond) → SumTo lists counts
@@ -60,8 +60,8 @@ sum-filtered lists counts entry conjuncts h =
 
 -- ---- lists in descending order
 
-pub filtered_falls : (lists : ColumnLists) (entry : ℕ) (conjuncts : List Cond) → ListsDescend lists → IsDescending (filtered_list lists entry conjuncts)
-filtered_falls lists entry conjuncts h =
+pub filtered_descends : (lists : ColumnLists) (entry : ℕ) (conjuncts : List Cond) → ListsDescend lists → IsDescending (filtered_list lists entry conjuncts)
+filtered_descends lists entry conjuncts h =
     filtered_related (List ℕ) (List ℕ) (λ s t. IsDescending s) (list_answers lists) (list_answers lists) (record {
       whole = h.whole;
       equal = h.equal;
@@ -73,12 +73,12 @@ filtered_falls lists entry conjuncts h =
 
 -- ---- entries without own conjuncts
 
-pub unfiltered : (lists : ColumnLists) (entry : ℕ) (conjuncts : List Cond) → own_conjuncts entry conjuncts ≡ [] → All (λ x. 0 < x) lists.whole
+pub list_without_own : (lists : ColumnLists) (entry : ℕ) (conjuncts : List Cond) → own_conjuncts entry conjuncts ≡ [] → All (λ x. 0 < x) lists.whole
     → filtered_list lists entry conjuncts ≡ lists.whole
-unfiltered lists entry conjuncts none positive = rw none (lesser_self lists.whole positive)
+list_without_own lists entry conjuncts none positive = rw none (lesser_self lists.whole positive)
 
-pub unfiltered_rows : (counts : RowCounts) (entry : ℕ) (conjuncts : List Cond) → own_conjuncts entry conjuncts ≡ [] → row_bound counts entry conjuncts ≡ counts.whole
-unfiltered_rows counts entry conjuncts none = rw none (omega arith)
+pub rows_without_own : (counts : RowCounts) (entry : ℕ) (conjuncts : List Cond) → own_conjuncts entry conjuncts ≡ [] → row_bound counts entry conjuncts ≡ counts.whole
+rows_without_own counts entry conjuncts none = rw none (omega arith)
 
 -- ---- the filtered list is at most the list of all rows
 

@@ -22,9 +22,9 @@ use Rattle.sql_meaning.specs.Tables.{Tables}
 use Rattle.degree_sequences.specs.Degrees.{different}
 use Rattle.filtered_lists.specs.Comparisons.{comparison_of, negated_operator, mirrored}
 use Rattle.filtered_lists.specs.Filters.{ComparisonAnswers, Conjunction, of_range, of_answer, one_conjunction, and_more, or_more, all_of, and_answer, or_answer, of_comparison, of_comparison_or_whole, conjunction_step, conjunction_of}
-use Rattle.filtered_lists.specs.Ranges.{Range, from_value, up_to_value, ranges_of, intersection_of, intersection_for_each_column, greatest_value, least}
+use Rattle.filtered_lists.specs.Ranges.{Range, from_value, up_to_value, ranges_of, intersection_of, intersection_for_each_column, greatest_value, least_value}
 use Rattle.filtered_lists.specs.Standing.{value_in_row, is_from, is_up_to, has_value, is_in_range}
-use Rattle.filtered_lists.proofs.Ordered.{opposite_compares, turned_compares, from_greatest, up_to_least}
+use Rattle.filtered_lists.proofs.Ordered.{negated_compares, mirrored_compares, from_greatest, up_to_least}
 
 -- answers to comparisons, each a test of an entry's rows
 abbrev pub row_tests : Tables → ℕ → ComparisonAnswers (ℕ → Bool)
@@ -37,17 +37,17 @@ row_tests tables entry = record {
   either = λ p q row. p row || q row;
 }
 
-pub joined_parts : {X : Type 0} (P : X → Type 0) (xs ys : List X) → AllByRecursion P xs → AllByRecursion P ys → AllByRecursion P (xs ++ ys)
-joined_parts P [] ys h k = k
-joined_parts P (x ∷ xs) ys h k = (h.0, joined_parts P xs ys h.1 k)
+pub all_of_append : {X : Type 0} (P : X → Type 0) (xs ys : List X) → AllByRecursion P xs → AllByRecursion P ys → AllByRecursion P (xs ++ ys)
+all_of_append P [] ys h k = k
+all_of_append P (x ∷ xs) ys h k = (h.0, all_of_append P xs ys h.1 k)
 
-pub front_part : {X : Type 0} (P : X → Type 0) (xs ys : List X) → AllByRecursion P (xs ++ ys) → AllByRecursion P xs
-front_part P [] ys h = tt
-front_part P (x ∷ xs) ys h = (h.0, front_part P xs ys h.1)
+pub all_of_front : {X : Type 0} (P : X → Type 0) (xs ys : List X) → AllByRecursion P (xs ++ ys) → AllByRecursion P xs
+all_of_front P [] ys h = tt
+all_of_front P (x ∷ xs) ys h = (h.0, all_of_front P xs ys h.1)
 
-pub back_part : {X : Type 0} (P : X → Type 0) (xs ys : List X) → AllByRecursion P (xs ++ ys) → AllByRecursion P ys
-back_part P [] ys h = h
-back_part P (x ∷ xs) ys h = back_part P xs ys h.1
+pub all_of_back : {X : Type 0} (P : X → Type 0) (xs ys : List X) → AllByRecursion P (xs ++ ys) → AllByRecursion P ys
+all_of_back P [] ys h = h
+all_of_back P (x ∷ xs) ys h = all_of_back P xs ys h.1
 
 module _ (tables : Tables) (entry row : ℕ) where
   abbrev tests : ComparisonAnswers (ℕ → Bool)
@@ -72,8 +72,8 @@ module _ (tables : Tables) (entry row : ℕ) where
       let first : Passes c = h.0 in
       let rest : Passes (one_conjunction cs) = joined_passes cs h.1 in
       record {
-        ranges = joined_parts IsIn c.ranges (one_conjunction cs).ranges first.ranges rest.ranges;
-        others = joined_parts Holds c.others (one_conjunction cs).others first.others rest.others;
+        ranges = all_of_append IsIn c.ranges (one_conjunction cs).ranges first.ranges rest.ranges;
+        others = all_of_append Holds c.others (one_conjunction cs).others first.others rest.others;
       }
 
   -- ---- a row that is in each range is in the intersection of a column's ranges
@@ -105,29 +105,29 @@ module _ (tables : Tables) (entry row : ℕ) where
   high_end v None h = tt
   high_end v (Some high) h = h
 
-  lows : (column : ℕ) (ranges : List Range) → AllByRecursion IsIn ranges
+  low_ends_hold : (column : ℕ) (ranges : List Range) → AllByRecursion IsIn ranges
       → AllByRecursion (λ range. range.column ≡ column → HasEnd (λ end. is_from (Some end) (value column) ≡ true) range.low) ranges
-  lows column [] h = tt
-  lows column (range ∷ ranges) h = (
+  low_ends_hold column [] h = tt
+  low_ends_hold column (range ∷ ranges) h = (
     λ same. low_end (value column) range.low (subst (λ c. is_from range.low (value c) ≡ true) same (and_parts (is_from range.low (value range.column)) (is_up_to range.high (value range.column)) h.0).0),
-    lows column ranges h.1,
+    low_ends_hold column ranges h.1,
   )
 
-  highs : (column : ℕ) (ranges : List Range) → AllByRecursion IsIn ranges
+  high_ends_hold : (column : ℕ) (ranges : List Range) → AllByRecursion IsIn ranges
       → AllByRecursion (λ range. range.column ≡ column → HasEnd (λ end. is_up_to (Some end) (value column) ≡ true) range.high) ranges
-  highs column [] h = tt
-  highs column (range ∷ ranges) h = (
+  high_ends_hold column [] h = tt
+  high_ends_hold column (range ∷ ranges) h = (
     λ same. high_end (value column) range.high (subst (λ c. is_up_to range.high (value c) ≡ true) same (and_parts (is_from range.low (value range.column)) (is_up_to range.high (value range.column)) h.0).1),
-    highs column ranges h.1,
+    high_ends_hold column ranges h.1,
   )
 
-  in_one_range : (ranges : List Range) (column : ℕ) → AllByRecursion IsIn ranges → IsIn (intersection_of ranges column)
-  in_one_range ranges column h =
+  in_intersection : (ranges : List Range) (column : ℕ) → AllByRecursion IsIn ranges → IsIn (intersection_of ranges column)
+  in_intersection ranges column h =
       let low : Option Value = greatest_value (filter_map (λ range. range.low) (ranges_of column ranges)) in
-      let high : Option Value = least (filter_map (λ range. range.high) (ranges_of column ranges)) in
+      let high : Option Value = least_value (filter_map (λ range. range.high) (ranges_of column ranges)) in
       and_from (is_from low (value column)) (is_up_to high (value column))
-      (from_greatest (value column) (filter_map (λ range. range.low) (ranges_of column ranges)) (ends_hold (λ end. is_from (Some end) (value column) ≡ true) (λ range. range.low) column ranges (lows column ranges h)))
-      (up_to_least (value column) (filter_map (λ range. range.high) (ranges_of column ranges)) (ends_hold (λ end. is_up_to (Some end) (value column) ≡ true) (λ range. range.high) column ranges (highs column ranges h)))
+      (from_greatest (value column) (filter_map (λ range. range.low) (ranges_of column ranges)) (ends_hold (λ end. is_from (Some end) (value column) ≡ true) (λ range. range.low) column ranges (low_ends_hold column ranges h)))
+      (up_to_least (value column) (filter_map (λ range. range.high) (ranges_of column ranges)) (ends_hold (λ end. is_up_to (Some end) (value column) ≡ true) (λ range. range.high) column ranges (high_ends_hold column ranges h)))
 
   -- ---- the AND and the OR of tests
 
@@ -139,17 +139,17 @@ module _ (tables : Tables) (entry row : ℕ) where
   all_pass [] h = refl
   all_pass (t ∷ ts) h = and_more_passes t ts h.0 h.1
 
-  still_passes : (t : ℕ → Bool) (ts : List (ℕ → Bool)) → t row ≡ true → or_more tests t ts row ≡ true
-  still_passes t [] h = h
-  still_passes t (u ∷ ts) h = still_passes (λ row. t row || u row) ts (or_left (t row) (u row) h)
+  or_more_keeps_passing : (t : ℕ → Bool) (ts : List (ℕ → Bool)) → t row ≡ true → or_more tests t ts row ≡ true
+  or_more_keeps_passing t [] h = h
+  or_more_keeps_passing t (u ∷ ts) h = or_more_keeps_passing (λ row. t row || u row) ts (or_left (t row) (u row) h)
 
   pub and_passes : (c : Conjunction (ℕ → Bool)) → Passes c → and_answer tests c row ≡ true
   and_passes c h = all_pass (c.others ++ map tests.range (intersection_for_each_column c.ranges))
-      (joined_parts Holds c.others (map tests.range (intersection_for_each_column c.ranges)) h.others (each (different (map (λ range. range.column) c.ranges))))
+      (all_of_append Holds c.others (map tests.range (intersection_for_each_column c.ranges)) h.others (each (different (map (λ range. range.column) c.ranges))))
     where
       each : (columns : List ℕ) → AllByRecursion Holds (map tests.range (map (intersection_of c.ranges) columns))
       each [] = tt
-      each (column ∷ columns) = (in_one_range c.ranges column h.ranges, each columns)
+      each (column ∷ columns) = (in_intersection c.ranges column h.ranges, each columns)
 
   -- ---- comparisons with a literal
 
@@ -194,7 +194,7 @@ module _ (tables : Tables) (entry row : ℕ) where
 
   right_column : (o : Op) (column : ColumnRef) (literal : Value) → column.from ≡ entry → compares o (value_cmp literal (column_value tables (λ e. row) column)) ≡ true
       → Passes (of_comparison tests (mirrored o) column.column literal)
-  right_column o column literal same h = left_column (mirrored o) column literal same (turned_compares o literal (column_value tables (λ e. row) column) ∙ h)
+  right_column o column literal same h = left_column (mirrored o) column literal same (mirrored_compares o literal (column_value tables (λ e. row) column) ∙ h)
 
   whole_passes : Passes (of_answer tests.whole)
   whole_passes = passes_answer (λ row. true) refl
@@ -213,84 +213,84 @@ module _ (tables : Tables) (entry row : ℕ) where
 
   -- ---- conditions
 
-  abbrev says : Cond → Bool
-  says c = cond_holds tables (λ e. row) c
+  abbrev is_true : Cond → Bool
+  is_true c = cond_holds tables (λ e. row) c
 
-  -- The induction over conditions proves this. If the condition holds for the row, the row passes the tests made of the condition. Otherwise it
-  -- passes the tests made of the opposite
-  abbrev Says : Cond → Type 0
-  Says c = AllByRecursion (λ e. e ≡ entry) (entries_named c) → (holds : Bool) → says c ≡ holds → Passes (conjunction_of tests c holds)
+  -- What the induction over conditions proves: if the condition holds for the row, the row passes the tests made of the condition. Otherwise the
+  -- row passes the tests made of the condition's opposite
+  abbrev PassesIfHolds : Cond → Type 0
+  PassesIfHolds c = AllByRecursion (λ e. e ≡ entry) (entries_named c) → (holds : Bool) → is_true c ≡ holds → Passes (conjunction_of tests c holds)
 
-  abbrev AreNamed : List ((c : Cond) × Says c) → Type 0
+  abbrev AreNamed : List ((c : Cond) × PassesIfHolds c) → Type 0
   AreNamed ys = AllByRecursion (λ e. e ≡ entry) (flat_map (λ inner. inner) (map entries_named (map (λ y. y.0) ys)))
 
-  abbrev within : List ((c : Cond) × Says c) → Bool → List (Conjunction (ℕ → Bool))
-  within ys holds = map (λ member. member holds) (map (conjunction_of tests) (map (λ y. y.0) ys))
+  abbrev member_conjunctions : List ((c : Cond) × PassesIfHolds c) → Bool → List (Conjunction (ℕ → Bool))
+  member_conjunctions ys holds = map (λ member. member holds) (map (conjunction_of tests) (map (λ y. y.0) ys))
 
-  first_named : (y : (c : Cond) × Says c) (ys : List ((c : Cond) × Says c)) → AreNamed (y ∷ ys) → AllByRecursion (λ e. e ≡ entry) (entries_named y.0)
-  first_named y ys named = front_part (λ e. e ≡ entry) (entries_named y.0) (flat_map (λ inner. inner) (map entries_named (map (λ y. y.0) ys))) named
+  first_named : (y : (c : Cond) × PassesIfHolds c) (ys : List ((c : Cond) × PassesIfHolds c)) → AreNamed (y ∷ ys) → AllByRecursion (λ e. e ≡ entry) (entries_named y.0)
+  first_named y ys named = all_of_front (λ e. e ≡ entry) (entries_named y.0) (flat_map (λ inner. inner) (map entries_named (map (λ y. y.0) ys))) named
 
-  rest_named : (y : (c : Cond) × Says c) (ys : List ((c : Cond) × Says c)) → AreNamed (y ∷ ys) → AreNamed ys
-  rest_named y ys named = back_part (λ e. e ≡ entry) (entries_named y.0) (flat_map (λ inner. inner) (map entries_named (map (λ y. y.0) ys))) named
+  rest_named : (y : (c : Cond) × PassesIfHolds c) (ys : List ((c : Cond) × PassesIfHolds c)) → AreNamed (y ∷ ys) → AreNamed ys
+  rest_named y ys named = all_of_back (λ e. e ≡ entry) (entries_named y.0) (flat_map (λ inner. inner) (map entries_named (map (λ y. y.0) ys))) named
 
-  each_true : (ys : List ((c : Cond) × Says c)) → AreNamed ys → meaning.all_of (map says (map (λ y. y.0) ys)) ≡ true → AllByRecursion Passes (within ys true)
+  each_true : (ys : List ((c : Cond) × PassesIfHolds c)) → AreNamed ys → meaning.all_of (map is_true (map (λ y. y.0) ys)) ≡ true → AllByRecursion Passes (member_conjunctions ys true)
   each_true [] named h = tt
   each_true (y ∷ ys) named h =
-      let parts = and_parts (says y.0) (meaning.all_of (map says (map (λ y. y.0) ys))) h in
+      let parts = and_parts (is_true y.0) (meaning.all_of (map is_true (map (λ y. y.0) ys))) h in
       (y.1 (first_named y ys named) true parts.0, each_true ys (rest_named y ys named) parts.1)
 
-  some_false : (so_far : ℕ → Bool) (ys : List ((c : Cond) × Says c)) → AreNamed ys → meaning.all_of (map says (map (λ y. y.0) ys)) ≡ false
-      → or_more tests so_far (map (and_answer tests) (within ys false)) row ≡ true
+  some_false : (so_far : ℕ → Bool) (ys : List ((c : Cond) × PassesIfHolds c)) → AreNamed ys → meaning.all_of (map is_true (map (λ y. y.0) ys)) ≡ false
+      → or_more tests so_far (map (and_answer tests) (member_conjunctions ys false)) row ≡ true
   some_false so_far [] named h = cc
   some_false so_far (y ∷ ys) named h =
       let here : ℕ → Bool = and_answer tests (conjunction_of tests y.0 false) in
-      elim (cases_Bool (says y.0)) [
+      elim (cases_Bool (is_true y.0)) [
         | inl t ↦ some_false (λ row. so_far row || here row) ys (rest_named y ys named) (rw t at h)
-        | inr n ↦ still_passes (λ row. so_far row || here row) (map (and_answer tests) (within ys false))
+        | inr n ↦ or_more_keeps_passing (λ row. so_far row || here row) (map (and_answer tests) (member_conjunctions ys false))
             (or_right (so_far row) (here row) (and_passes (conjunction_of tests y.0 false) (y.1 (first_named y ys named) false n)))
       ]
 
-  some_true : (so_far : ℕ → Bool) (ys : List ((c : Cond) × Says c)) → AreNamed ys → meaning.any_of (map says (map (λ y. y.0) ys)) ≡ true
-      → or_more tests so_far (map (and_answer tests) (within ys true)) row ≡ true
+  some_true : (so_far : ℕ → Bool) (ys : List ((c : Cond) × PassesIfHolds c)) → AreNamed ys → meaning.any_of (map is_true (map (λ y. y.0) ys)) ≡ true
+      → or_more tests so_far (map (and_answer tests) (member_conjunctions ys true)) row ≡ true
   some_true so_far [] named h = cc
   some_true so_far (y ∷ ys) named h =
       let here : ℕ → Bool = and_answer tests (conjunction_of tests y.0 true) in
-      elim (cases_Bool (says y.0)) [
-        | inl t ↦ still_passes (λ row. so_far row || here row) (map (and_answer tests) (within ys true))
+      elim (cases_Bool (is_true y.0)) [
+        | inl t ↦ or_more_keeps_passing (λ row. so_far row || here row) (map (and_answer tests) (member_conjunctions ys true))
             (or_right (so_far row) (here row) (and_passes (conjunction_of tests y.0 true) (y.1 (first_named y ys named) true t)))
         | inr n ↦ some_true (λ row. so_far row || here row) ys (rest_named y ys named) (rw n at h)
       ]
 
-  each_false : (ys : List ((c : Cond) × Says c)) → AreNamed ys → meaning.any_of (map says (map (λ y. y.0) ys)) ≡ false → AllByRecursion Passes (within ys false)
+  each_false : (ys : List ((c : Cond) × PassesIfHolds c)) → AreNamed ys → meaning.any_of (map is_true (map (λ y. y.0) ys)) ≡ false → AllByRecursion Passes (member_conjunctions ys false)
   each_false [] named h = tt
-  each_false (y ∷ ys) named h = elim (cases_Bool (says y.0)) [
+  each_false (y ∷ ys) named h = elim (cases_Bool (is_true y.0)) [
     | inl t ↦ (let no : true ≡ false = rw t at h in absurd (cc))
     | inr n ↦ (y.1 (first_named y ys named) false n, each_false ys (rest_named y ys named) (rw n at h))
   ]
 
-  not_says : (b holds : Bool) → not b ≡ holds → b ≡ not holds
-  not_says true true h = cc
-  not_says true false h = refl
-  not_says false true h = refl
-  not_says false false h = cc
+  value_of_negation : (b holds : Bool) → not b ≡ holds → b ≡ not holds
+  value_of_negation true true h = cc
+  value_of_negation true false h = refl
+  value_of_negation false true h = refl
+  value_of_negation false false h = cc
 
-  layers : (y : Cond-F ((c : Cond) × Says c))
-      → AllByRecursion (λ e. e ≡ entry) (entries_step (map-Cond Cond (List ℕ) entries_named (map-Cond ((c : Cond) × Says c) Cond (λ e. e.0) y)))
-      → (holds : Bool) → holds_step tables (λ e. row) (map-Cond Cond Bool says (map-Cond ((c : Cond) × Says c) Cond (λ e. e.0) y)) ≡ holds
-      → Passes (conjunction_step tests (map-Cond Cond (Bool → Conjunction (ℕ → Bool)) (conjunction_of tests) (map-Cond ((c : Cond) × Says c) Cond (λ e. e.0) y)) holds)
-  layers (layer.And ys) named true h = joined_passes (within ys true) (each_true ys named h)
-  layers (layer.And ys) named false h = passes_answer (or_answer tests (within ys false)) (some_false tests.none ys named h)
-  layers (layer.Or ys) named true h = passes_answer (or_answer tests (within ys true)) (some_true tests.none ys named h)
-  layers (layer.Or ys) named false h = joined_passes (within ys false) (each_false ys named h)
-  layers (layer.Not y) named true h = y.1 named false (not_says (says y.0) true h)
-  layers (layer.Not y) named false h = y.1 named true (not_says (says y.0) false h)
-  layers (layer.Compare o left right) named true h = operands_pass o left right named h
-  layers (layer.Compare o left right) named false h = operands_pass (negated_operator o) left right named
-      (opposite_compares o (value_cmp (operand_value tables (λ e. row) left) (operand_value tables (λ e. row) right)) h)
+  passes_by_layer : (y : Cond-F ((c : Cond) × PassesIfHolds c))
+      → AllByRecursion (λ e. e ≡ entry) (entries_step (map-Cond Cond (List ℕ) entries_named (map-Cond ((c : Cond) × PassesIfHolds c) Cond (λ e. e.0) y)))
+      → (holds : Bool) → holds_step tables (λ e. row) (map-Cond Cond Bool is_true (map-Cond ((c : Cond) × PassesIfHolds c) Cond (λ e. e.0) y)) ≡ holds
+      → Passes (conjunction_step tests (map-Cond Cond (Bool → Conjunction (ℕ → Bool)) (conjunction_of tests) (map-Cond ((c : Cond) × PassesIfHolds c) Cond (λ e. e.0) y)) holds)
+  passes_by_layer (layer.And ys) named true h = joined_passes (member_conjunctions ys true) (each_true ys named h)
+  passes_by_layer (layer.And ys) named false h = passes_answer (or_answer tests (member_conjunctions ys false)) (some_false tests.none ys named h)
+  passes_by_layer (layer.Or ys) named true h = passes_answer (or_answer tests (member_conjunctions ys true)) (some_true tests.none ys named h)
+  passes_by_layer (layer.Or ys) named false h = joined_passes (member_conjunctions ys false) (each_false ys named h)
+  passes_by_layer (layer.Not y) named true h = y.1 named false (value_of_negation (is_true y.0) true h)
+  passes_by_layer (layer.Not y) named false h = y.1 named true (value_of_negation (is_true y.0) false h)
+  passes_by_layer (layer.Compare o left right) named true h = operands_pass o left right named h
+  passes_by_layer (layer.Compare o left right) named false h = operands_pass (negated_operator o) left right named
+      (negated_compares o (value_cmp (operand_value tables (λ e. row) left) (operand_value tables (λ e. row) right)) h)
 
-  pub cond_passes : (c : Cond) → Says c
-  cond_passes = ind-Cond Says (λ x y is. subst (λ x. Says (roll-Cond x)) is (λ named holds h.
-      let inner : Cond-F Cond = map-Cond ((c : Cond) × Says c) Cond (λ e. e.0) y in
+  pub passes_if_holds : (c : Cond) → PassesIfHolds c
+  passes_if_holds = ind-Cond PassesIfHolds (λ x y is. subst (λ x. PassesIfHolds (roll-Cond x)) is (λ named holds h.
+      let inner : Cond-F Cond = map-Cond ((c : Cond) × PassesIfHolds c) Cond (λ e. e.0) y in
       subst (λ (f : Bool → Conjunction (ℕ → Bool)). Passes (f holds)) (sym (fold-roll-Cond (Bool → Conjunction (ℕ → Bool)) (conjunction_step tests) inner))
-      (layers y (subst (AllByRecursion (λ e. e ≡ entry)) (fold-roll-Cond (List ℕ) entries_step inner) named) holds
+      (passes_by_layer y (subst (AllByRecursion (λ e. e ≡ entry)) (fold-roll-Cond (List ℕ) entries_step inner) named) holds
       (sym (fold-roll-Cond Bool (holds_step tables (λ e. row)) inner) ∙ h))))

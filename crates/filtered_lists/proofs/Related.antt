@@ -1,5 +1,5 @@
--- Answers may be lists, numbers of rows or tests of a row. If answers of two kinds are related for each comparison, they are related for the
--- conjuncts of an entry.
+-- Answers may be lists, numbers of rows or tests of a row. If answers of two kinds are related for every comparison, so are the answers to an
+-- entry's conjuncts.
 use Rattle.std.proofs.Common.{◌≡◌, ℕ, Bool, true, false, List, [], ◌∷◌, ◌++◌, map, Option, None, Some, refl, ap, sym, ◌∙◌, subst}
 use Rattle.std.specs.List.{AllZip}
 use Rattle.csv_tables.specs.Values.{Value}
@@ -102,32 +102,32 @@ module _ (A B : Type 0) (R : A → B → Type 0) (a : ComparisonAnswers A) (b : 
   abbrev IsAlike : Cond → Type 0
   IsAlike c = (holds : Bool) → Alike (conjunction_of a c holds) (conjunction_of b c holds)
 
-  members : (ys : List ((c : Cond) × IsAlike c)) (holds : Bool)
+  members_alike : (ys : List ((c : Cond) × IsAlike c)) (holds : Bool)
       → AllZip Alike (map (λ member. member holds) (map (conjunction_of a) (map (λ y. y.0) ys))) (map (λ member. member holds) (map (conjunction_of b) (map (λ y. y.0) ys)))
-  members [] holds = tt
-  members (y ∷ ys) holds = (y.1 holds, members ys holds)
+  members_alike [] holds = tt
+  members_alike (y ∷ ys) holds = (y.1 holds, members_alike ys holds)
 
   abbrev within : {C : Type 0} → ComparisonAnswers C → List ((c : Cond) × IsAlike c) → Bool → List (Conjunction C)
   within answers ys holds = map (λ member. member holds) (map (conjunction_of answers) (map (λ y. y.0) ys))
 
-  layers : (y : Cond-F ((c : Cond) × IsAlike c)) (holds : Bool)
+  alike_by_layer : (y : Cond-F ((c : Cond) × IsAlike c)) (holds : Bool)
       → Alike (conjunction_step a (map-Cond Cond (Bool → Conjunction A) (conjunction_of a) (map-Cond ((c : Cond) × IsAlike c) Cond (λ e. e.0) y)) holds)
       (conjunction_step b (map-Cond Cond (Bool → Conjunction B) (conjunction_of b) (map-Cond ((c : Cond) × IsAlike c) Cond (λ e. e.0) y)) holds)
-  layers (layer.And ys) true = joined_alike (within a ys true) (within b ys true) (members ys true)
-  layers (layer.And ys) false = alike_answer (or_answer a (within a ys false)) (or_answer b (within b ys false)) (or_related (within a ys false) (within b ys false) (members ys false))
-  layers (layer.Or ys) true = alike_answer (or_answer a (within a ys true)) (or_answer b (within b ys true)) (or_related (within a ys true) (within b ys true) (members ys true))
-  layers (layer.Or ys) false = joined_alike (within a ys false) (within b ys false) (members ys false)
-  layers (layer.Not y) true = y.1 false
-  layers (layer.Not y) false = y.1 true
-  layers (layer.Compare op left right) true = comparison_or_whole_alike (comparison_of op left right)
-  layers (layer.Compare op left right) false = comparison_or_whole_alike (comparison_of (negated_operator op) left right)
+  alike_by_layer (layer.And ys) true = joined_alike (within a ys true) (within b ys true) (members_alike ys true)
+  alike_by_layer (layer.And ys) false = alike_answer (or_answer a (within a ys false)) (or_answer b (within b ys false)) (or_related (within a ys false) (within b ys false) (members_alike ys false))
+  alike_by_layer (layer.Or ys) true = alike_answer (or_answer a (within a ys true)) (or_answer b (within b ys true)) (or_related (within a ys true) (within b ys true) (members_alike ys true))
+  alike_by_layer (layer.Or ys) false = joined_alike (within a ys false) (within b ys false) (members_alike ys false)
+  alike_by_layer (layer.Not y) true = y.1 false
+  alike_by_layer (layer.Not y) false = y.1 true
+  alike_by_layer (layer.Compare op left right) true = comparison_or_whole_alike (comparison_of op left right)
+  alike_by_layer (layer.Compare op left right) false = comparison_or_whole_alike (comparison_of (negated_operator op) left right)
 
   pub cond_alike : (c : Cond) → IsAlike c
   cond_alike = ind-Cond IsAlike (λ x y is. subst (λ x. IsAlike (roll-Cond x)) is (λ holds.
       let inner : Cond-F Cond = map-Cond ((c : Cond) × IsAlike c) Cond (λ e. e.0) y in
       subst (λ (f : Bool → Conjunction A). Alike (f holds) (conjunction_of b (roll-Cond inner) holds)) (sym (fold-roll-Cond (Bool → Conjunction A) (conjunction_step a) inner))
       (subst (λ (f : Bool → Conjunction B). Alike (conjunction_step a (map-Cond Cond (Bool → Conjunction A) (conjunction_of a) inner) holds) (f holds)) (sym (fold-roll-Cond (Bool → Conjunction B) (conjunction_step b) inner))
-      (layers y holds))))
+      (alike_by_layer y holds))))
 
   conds_alike : (conds : List Cond) → AllZip Alike (map (λ c. conjunction_of a c true) conds) (map (λ c. conjunction_of b c true) conds)
   conds_alike [] = tt

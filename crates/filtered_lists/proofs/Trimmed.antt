@@ -1,4 +1,4 @@
--- A list's running sums determine it, up to zeros at its end.
+-- The running sums of a list determine the list, up to zeros at its end.
 use Rattle.std.proofs.Common.{◌≡◌, ℕ, zero, suc, ◌<◌, min, max, List, [], ◌∷◌, length, refl, ap, sym, ◌∙◌, arith}
 use Rattle.std.specs.List.{All, AllByRecursion}
 use Rattle.std.proofs.lemmas.List.Elements.{recursion_from_All}
@@ -28,23 +28,23 @@ same_sums (x ∷ s) (y ∷ t) h =
     let first : x ≡ y = omega (arith, h 1) in
     rw (first, same_sums s t (λ r. omega (arith, h (suc r)))) refl
 
-positive_whole : (s : List ℕ) → AllByRecursion (λ x. 0 < x) s → trimmed s ≡ s
-positive_whole [] h = refl
-positive_whole (zero ∷ s) h = absurd (omega (arith, h.0))
-positive_whole (suc x ∷ s) h = ap (cons_unless_zero_at_end (suc x)) (positive_whole s h.1)
+trimmed_of_positive : (s : List ℕ) → AllByRecursion (λ x. 0 < x) s → trimmed s ≡ s
+trimmed_of_positive [] h = refl
+trimmed_of_positive (zero ∷ s) h = absurd (omega (arith, h.0))
+trimmed_of_positive (suc x ∷ s) h = ap (cons_unless_zero_at_end (suc x)) (trimmed_of_positive s h.1)
 
 pub trimmed-positive : (s : List ℕ) → All (λ x. 0 < x) s → trimmed s ≡ s
-trimmed-positive s h = positive_whole s (recursion_from_All (λ x. 0 < x) s h)
+trimmed-positive s h = trimmed_of_positive s (recursion_from_All (λ x. 0 < x) s h)
 
-trimmed_again : (s : List ℕ) → trimmed (trimmed s) ≡ trimmed s
-trimmed_again s = same_sums (trimmed s) s (running_sum-trimmed s)
+trimmed_is_trimmed : (s : List ℕ) → trimmed (trimmed s) ≡ trimmed s
+trimmed_is_trimmed s = same_sums (trimmed s) s (running_sum-trimmed s)
 
-trimmed_twice : (s t : List ℕ) → trimmed (lesser s t) ≡ lesser s t
-trimmed_twice s t = trimmed_again (with_running_sums (λ r. min (running_sum s r) (running_sum t r)) (max (length s) (length t)))
+trimmed_of_lesser : (s t : List ℕ) → trimmed (lesser s t) ≡ lesser s t
+trimmed_of_lesser s t = trimmed_is_trimmed (with_running_sums (λ r. min (running_sum s r) (running_sum t r)) (max (length s) (length t)))
 
 pub is_lesser : (list s t : List ℕ) → All (λ x. 0 < x) list → ((r : ℕ) → running_sum list r ≡ min (running_sum s r) (running_sum t r)) → list ≡ lesser s t
 is_lesser list s t positive h =
-    sym (trimmed-positive list positive) ∙ same_sums list (lesser s t) (λ r. h r ∙ sym (running_sum-lesser s t r)) ∙ trimmed_twice s t
+    sym (trimmed-positive list positive) ∙ same_sums list (lesser s t) (λ r. h r ∙ sym (running_sum-lesser s t r)) ∙ trimmed_of_lesser s t
 
 pub lesser_self : (s : List ℕ) → All (λ x. 0 < x) s → lesser s s ≡ s
 lesser_self s positive = sym (is_lesser s s s positive (λ r. omega arith))

@@ -29,7 +29,7 @@ value n = Int (pos n)
 abbrev pub column_of_other : Operand
 column_of_other = operand.Column (record { from = 1; column = 0 })
 
--- X or Y compared with a number, and a number with X
+-- `x_is`: X compared with a number. `y_is`: Y compared with a number. `is_x`: a number compared with X
 abbrev pub x_is : Op → ℕ → Cond
 x_is op n = Compare op column_x (number n)
 
@@ -67,7 +67,7 @@ abbrev pub list_of_value : Value → List ℕ
 list_of_value (Int n) = if is_lt (int_cmp n (pos 2)) then 3 ∷ [] else (if is_lt (int_cmp n (pos 3)) then 2 ∷ [] else 1 ∷ [])
 list_of_value (Text t) = []
 
--- the list of the smallest node that has both leaves. This table has three nodes: leaves 0 to 15, the last leaf, and all leaves
+-- the list of the smallest node that holds both leaves. This table has three nodes: leaves 0 to 15, the last leaf, and all leaves
 abbrev pub list_of_leaves : ℕ → ℕ → List ℕ
 list_of_leaves low high = if nat_le high 15 then 3 ∷ [] else (if nat_le 31 low then 1 ∷ [] else 3 ∷ (3 ∷ []))
 

@@ -8,7 +8,7 @@ use Rattle.query_types.specs.declared.types.Cond.{Cond}
 use Rattle.query_types.specs.declared.types.Cond.TheFolds.{fold-Cond}
 use Rattle.query_types.specs.declared.types.Cond.TheOpen.{Cond-F}
 use Rattle.query_types.specs.declared.types.Cond.TheOpen as layer
-use Rattle.join_graph.specs.Conjuncts.{names_just}
+use Rattle.join_graph.specs.Conjuncts.{is_own_conjunct}
 use Rattle.filtered_lists.specs.Comparisons.{Comparison, comparison_of, negated_operator}
 use Rattle.filtered_lists.specs.Ranges.{Range, from_value, up_to_value, intersection_for_each_column}
 
@@ -73,13 +73,13 @@ of_comparison answers op.Le column literal = of_range (up_to_value column litera
 of_comparison answers op.Gt column literal = of_range (from_value column literal)
 of_comparison answers op.Ge column literal = of_range (from_value column literal)
 
--- a comparison that isn't of a column with a literal has the answer for all rows
+-- a comparison that isn't between a column and a literal has the answer for all rows
 abbrev pub of_comparison_or_whole : {A : Type 0} → ComparisonAnswers A → Option Comparison → Conjunction A
 of_comparison_or_whole answers None = of_answer answers.whole
 of_comparison_or_whole answers (Some c) = of_comparison answers c.op c.column c.literal
 
--- NOT is pushed down: `false` asks for the opposite of a condition. Then
--- AND becomes OR, OR becomes AND, and each comparison becomes its opposite
+-- NOT is pushed down: if the Boolean is false, the opposite of the condition is read. Then AND becomes OR, OR becomes AND, and each comparison
+-- becomes its opposite
 abbrev pub conjunction_step : {A : Type 0} → ComparisonAnswers A → Cond-F (Bool → Conjunction A) → Bool → Conjunction A
 conjunction_step answers (layer.And all) true = one_conjunction (map (λ member. member true) all)
 conjunction_step answers (layer.And all) false = of_answer (or_answer answers (map (λ member. member false) all))
@@ -90,13 +90,13 @@ conjunction_step answers (layer.Not inner) false = inner true
 conjunction_step answers (layer.Compare op left right) true = of_comparison_or_whole answers (comparison_of op left right)
 conjunction_step answers (layer.Compare op left right) false = of_comparison_or_whole answers (comparison_of (negated_operator op) left right)
 
--- what a condition adds to the AND around it; with `false`, what its opposite adds
+-- the ranges and answers that a condition gives to the AND around it; with `false`, those of its opposite
 abbrev pub conjunction_of : {A : Type 0} → ComparisonAnswers A → Cond → Bool → Conjunction A
 conjunction_of {A} answers = fold-Cond (Bool → Conjunction A) (conjunction_step answers)
 
 -- the conjuncts that name an entry and no other entry
 abbrev pub own_conjuncts : ℕ → List Cond → List Cond
-own_conjuncts entry conjuncts = filter (names_just entry) conjuncts
+own_conjuncts entry conjuncts = filter (is_own_conjunct entry) conjuncts
 
 -- the answer of the AND of an entry's own conjuncts, joined by `both` with the answer for all rows
 abbrev pub filtered : {A : Type 0} → ComparisonAnswers A → ℕ → List Cond → A

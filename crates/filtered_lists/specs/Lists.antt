@@ -7,14 +7,14 @@ use Rattle.query_types.specs.declared.types.Cond.{Cond}
 use Rattle.filtered_lists.specs.Filters.{ComparisonAnswers, filtered}
 use Rattle.filtered_lists.specs.Ranges.{Range}
 
--- The lists that statistics have for a joined column of an entry. There is a list for all rows, for the rows that have a value in a filter
--- column, and for the rows in a range of a filter column
+-- The lists that statistics have for a joined column of an entry: for all rows, for the rows that have a given value in a filter column, and for the
+-- rows in a given range of a filter column
 pub record ColumnLists : Type 0 where
   pub whole : List ℕ
   pub equal : ℕ → Value → List ℕ
   pub range : Range → List ℕ
 
--- AND takes the minima of running sums, OR the sum rank by rank
+-- AND takes the lesser running sum at each rank; OR adds the lists rank by rank
 abbrev pub list_answers : ColumnLists → ComparisonAnswers (List ℕ)
 list_answers lists = record { whole = lists.whole; equal = lists.equal; range = lists.range; both = lesser; none = []; either = rank_sum }
 
@@ -22,13 +22,13 @@ list_answers lists = record { whole = lists.whole; equal = lists.equal; range = 
 abbrev pub filtered_list : ColumnLists → ℕ → List Cond → List ℕ
 filtered_list lists entry conjuncts = filtered (list_answers lists) entry conjuncts
 
--- the row counts that statistics have for an entry: for all rows, for a value in a filter column, and for a range of a filter column
+-- the numbers of rows that statistics have for an entry: of all rows, of the rows with a value in a filter column, and of the rows in a range of it
 pub record RowCounts : Type 0 where
   pub whole : ℕ
   pub equal : ℕ → Value → ℕ
   pub range : Range → ℕ
 
--- AND takes the least, OR the sum
+-- AND takes the lesser number, OR the sum
 abbrev pub count_answers : RowCounts → ComparisonAnswers ℕ
 count_answers counts = record { whole = counts.whole; equal = counts.equal; range = counts.range; both = min; none = 0; either = ◌+◌ }
 

@@ -33,9 +33,9 @@ greatest_value [] = None
 greatest_value (value ∷ values) = Some (greater_of value (greatest_value values))
 
 -- the least of the values, if there are any
-abbrev pub least : List Value → Option Value
-least [] = None
-least (value ∷ values) = Some (lesser_of value (least values))
+abbrev pub least_value : List Value → Option Value
+least_value [] = None
+least_value (value ∷ values) = Some (lesser_of value (least_value values))
 
 -- the ranges of this column among `ranges`
 abbrev pub ranges_of : ℕ → List Range → List Range
@@ -46,7 +46,7 @@ abbrev pub intersection_of : List Range → ℕ → Range
 intersection_of ranges column = record {
   column = column;
   low = greatest_value (filter_map (λ range. range.low) (ranges_of column ranges));
-  high = least (filter_map (λ range. range.high) (ranges_of column ranges));
+  high = least_value (filter_map (λ range. range.high) (ranges_of column ranges));
 }
 
 -- for each column that has a range among `ranges`, the intersection of the column's ranges

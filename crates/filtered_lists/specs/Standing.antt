@@ -17,19 +17,21 @@ use Rattle.filtered_lists.specs.Ranges.{Range}
 abbrev pub value_in_row : Tables → ℕ → ℕ → ℕ → Value
 value_in_row tables entry column row = column_value tables (λ e. row) (record { from = entry; column = column })
 
--- whether a value is at least the low end, and whether it is at most the high end; either end may be missing
+-- whether a value is at least the low end, if there is a low end
 abbrev pub is_from : Option Value → Value → Bool
 is_from None value = true
 is_from (Some low) value = is_ge (value_cmp value low)
 
+-- whether a value is at most the high end, if there is a high end
 abbrev pub is_up_to : Option Value → Value → Bool
 is_up_to None value = true
 is_up_to (Some high) value = is_le (value_cmp value high)
 
--- whether an entry's row has a value in a column, and whether the row is in a range of a column
+-- whether an entry's row has this value in this column
 abbrev pub has_value : Tables → ℕ → ℕ → Value → ℕ → Bool
 has_value tables entry column value row = is_eq (value_cmp (value_in_row tables entry column row) value)
 
+-- whether the row's value in the range's column lies in the range
 abbrev pub is_in_range : Tables → ℕ → Range → ℕ → Bool
 is_in_range tables entry range row =
     is_from range.low (value_in_row tables entry range.column row) && is_up_to range.high (value_in_row tables entry range.column row)
@@ -38,14 +40,15 @@ is_in_range tables entry range row =
 abbrev pub rows_where : Tables → ℕ → (ℕ → Bool) → List ℕ
 rows_where tables entry test = filter test (range_with_len 0 (row_counts tables entry))
 
--- the lists of a joined column stand for an entry's table: each dominates the keys of its rows. `key` gives each row's key in that column
+-- The lists of a joined column stand for an entry's table: each list dominates the keys of the rows that it is for. `key` gives each row's key in
+-- that column
 pub record ListsStandFor (lists : ColumnLists) (tables : Tables) (entry : ℕ) (key : ℕ → ℕ) : Type 0 where
   pub whole : DominatesKeys lists.whole (map key (range_with_len 0 (row_counts tables entry)))
   pub equal : (column : ℕ) (value : Value)
       → DominatesKeys (lists.equal column value) (map key (rows_where tables entry (has_value tables entry column value)))
   pub range : (range : Range) → DominatesKeys (lists.range range) (map key (rows_where tables entry (is_in_range tables entry range)))
 
--- the numbers of rows stand for an entry's table: each is at least the number in the table
+-- The numbers of rows stand for an entry's table: each is at least the number of rows that it counts
 pub record CountsStandFor (counts : RowCounts) (tables : Tables) (entry : ℕ) : Type 0 where
   pub whole : row_counts tables entry ≤ counts.whole
   pub equal : (column : ℕ) (value : Value)

@@ -55,7 +55,7 @@ pub fn conditions()
 /// A table of six rows: X is 1, 1, 1, 2, 2, 3.
 pub fn tables()
     ensures thrice { list_where six_rows (Or (x_is op.Eq 1 ∷ x_is op.Eq 1 ∷ x_is op.Eq 1 ∷ [])) ≡ 3 ∷ 3 ∷ [] }
-    // NOT (X IN (1, 3)). The lists of X <> 1 and X <> 3 sum to 9 and 7 rows. The list of all rows limits their minima
+    // NOT (X IN (1, 3)). The lists of X <> 1 and X <> 3 sum to 9 and 7 rows. The list of all rows limits the result to 6
     ensures not_in { list_where six_rows (Not (Or (x_is op.Eq 1 ∷ x_is op.Eq 3 ∷ []))) ≡ 3 ∷ 3 ∷ [] }
     ensures once { list_where six_rows (x_is op.Eq 2) ≡ 2 ∷ [] }
 {}

@@ -26,8 +26,8 @@ pub fn filters_are_never_under()
         → length (scan_of tables entry conjuncts) ≤ row_bound counts entry conjuncts }
 {}
 
-/// The row bound is the sum of the filtered list. So it is the same for every joined column whose lists sum to the same numbers of rows. The row
-/// bound is at most the number of all rows.
+/// The row bound is the sum of the filtered list. So it is the same for all joined columns whose lists have the same sums. The row bound is at
+/// most the number of all rows.
 pub fn row_bounds_are_sums()
     ensures sum { (lists : ColumnLists) (counts : RowCounts) (entry : ℕ) (conjuncts : List Cond)
         → SumTo lists counts → sum (filtered_list lists entry conjuncts) ≡ row_bound counts entry conjuncts }

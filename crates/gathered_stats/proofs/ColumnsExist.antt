@@ -22,7 +22,7 @@ use Rattle.query_types.specs.declared.types.Cond.TheVariants.{rolls-And, rolls-O
 use Rattle.query_types.specs.Named.{entries_named, entries_of_operand, entries_step}
 use Rattle.query_types.proofs.CondFacts.{every_and, every_compare, every_not, every_or}
 use Rattle.query_types.specs.Typing.{IsTypedLayer, Compares}
-use Rattle.join_graph.specs.Conjuncts.{names_just}
+use Rattle.join_graph.specs.Conjuncts.{is_own_conjunct}
 use Rattle.sql_meaning.specs.Databases.{IsWellTyped, IsColumnOf, IsColumnOfKind}
 use Rattle.sql_meaning.specs.Tables.{cells_of}
 use Rattle.filtered_lists.specs.Comparisons.{comparison_of, negated_operator}
@@ -31,8 +31,8 @@ use Rattle.filtered_lists.specs.Ranges.{Range, from_value, intersection_of, inte
 use Rattle.predicate_bounds.specs.declared.steps.Step.{Step}
 use Rattle.predicate_bounds.specs.declared.steps.Step.TheVariants as step
 use Rattle.predicate_bounds.specs.Steps.{step_answers, steps_of}
-use Rattle.filtered_lists.proofs.Passing.{joined_parts, front_part, back_part}
-use Rattle.filtered_lists.proofs.Counting.{all_entry}
+use Rattle.filtered_lists.proofs.Passing.{all_of_append, all_of_front, all_of_back}
+use Rattle.filtered_lists.proofs.Counting.{names_only_entry}
 use Rattle.gathered_stats.specs.Asked.{AsksWithin}
 
 -- ---- steps that ask only for existing columns, as `step_answers` puts them together
@@ -49,10 +49,10 @@ module _ (cells : Cells) where
     pub others : AllByRecursion AskWithin c.others
 
   both_within : (x y : List Step) → AskWithin x → AskWithin y → AskWithin (x ++ (y ++ step.And ∷ []))
-  both_within x y h k = joined_parts (AsksWithin cells) x (y ++ step.And ∷ []) h (joined_parts (AsksWithin cells) y (step.And ∷ []) k (tt, tt))
+  both_within x y h k = all_of_append (AsksWithin cells) x (y ++ step.And ∷ []) h (all_of_append (AsksWithin cells) y (step.And ∷ []) k (tt, tt))
 
   either_within : (x y : List Step) → AskWithin x → AskWithin y → AskWithin (x ++ (y ++ step.Or ∷ []))
-  either_within x y h k = joined_parts (AsksWithin cells) x (y ++ step.Or ∷ []) h (joined_parts (AsksWithin cells) y (step.Or ∷ []) k (tt, tt))
+  either_within x y h k = all_of_append (AsksWithin cells) x (y ++ step.Or ∷ []) h (all_of_append (AsksWithin cells) y (step.Or ∷ []) k (tt, tt))
 
   more_within : (x : List Step) (xs : List (List Step)) → AskWithin x → AllByRecursion AskWithin xs → AskWithin (and_more step_answers x xs)
   more_within x [] h k = h
@@ -82,7 +82,7 @@ module _ (cells : Cells) where
   and_within : (c : Conjunction (List Step)) → IsWithin c → AskWithin (and_answer step_answers c)
   and_within c h =
       all_within (c.others ++ map step_answers.range (intersection_for_each_column c.ranges))
-      (joined_parts AskWithin c.others (map step_answers.range (intersection_for_each_column c.ranges)) h.others
+      (all_of_append AskWithin c.others (map step_answers.range (intersection_for_each_column c.ranges)) h.others
       (ranges_within c.ranges (different (map (λ range. range.column) c.ranges)) (different_exist (map (λ range. range.column) c.ranges) (columns_exist c.ranges h.ranges))))
 
   each_within : (cs : List (Conjunction (List Step))) → AllByRecursion IsWithin cs → AllByRecursion AskWithin (map (and_answer step_answers) cs)
@@ -98,8 +98,8 @@ module _ (cells : Cells) where
       let first : IsWithin c = h.0 in
       let rest : IsWithin (one_conjunction cs) = joined_within cs h.1 in
       record {
-        ranges = joined_parts (λ range. Exists range.column) c.ranges (one_conjunction cs).ranges first.ranges rest.ranges;
-        others = joined_parts AskWithin c.others (one_conjunction cs).others first.others rest.others;
+        ranges = all_of_append (λ range. Exists range.column) c.ranges (one_conjunction cs).ranges first.ranges rest.ranges;
+        others = all_of_append AskWithin c.others (one_conjunction cs).others first.others rest.others;
       }
 
   comparison_within : (o : Op) (column : ℕ) (value : Value) → Exists column → IsWithin (of_comparison step_answers o column value)
@@ -120,8 +120,8 @@ module _ (db : Database) (entry : ℕ) where
   abbrev AreOwn : List ℕ → Type 0
   AreOwn named = AllByRecursion (λ e. e ≡ entry) named
 
-  -- the induction over conditions proves this: if the condition can be asked of the database and names this entry alone, its steps ask for columns that
-  -- exist
+  -- what the induction over conditions proves: if the condition is well typed in the database and names only this entry, its steps ask for columns
+  -- that exist
   abbrev StepsHaveColumns : Cond → Type 0
   StepsHaveColumns c = IsWellTyped db c → AreOwn (entries_named c) → (holds : Bool) → IsIn (conjunction_of step_answers c holds)
 
@@ -157,8 +157,8 @@ module _ (db : Database) (entry : ℕ) where
       → AreOwn (flat_map (λ inner. inner) (map entries_named (conds_in ys))) → (holds : Bool) → AllByRecursion IsIn (within ys holds)
   members [] asked own holds = tt
   members (y ∷ ys) asked own holds = (
-    y.1 asked.0 (front_part (λ e. e ≡ entry) (entries_named y.0) (flat_map (λ inner. inner) (map entries_named (conds_in ys))) own) holds,
-    members ys asked.1 (back_part (λ e. e ≡ entry) (entries_named y.0) (flat_map (λ inner. inner) (map entries_named (conds_in ys))) own) holds,
+    y.1 asked.0 (all_of_front (λ e. e ≡ entry) (entries_named y.0) (flat_map (λ inner. inner) (map entries_named (conds_in ys))) own) holds,
+    members ys asked.1 (all_of_back (λ e. e ≡ entry) (entries_named y.0) (flat_map (λ inner. inner) (map entries_named (conds_in ys))) own) holds,
   )
 
   layers : (y : Cond-F ((c : Cond) × StepsHaveColumns c)) → IsWellTyped db (roll-Cond (map-Cond ((c : Cond) × StepsHaveColumns c) Cond (λ e. e.0) y))
@@ -183,21 +183,21 @@ module _ (db : Database) (entry : ℕ) where
   layers (layer.Compare o left right) asked own false =
       operands_within (negated_operator o) left right (every_compare (IsTypedLayer (IsColumnOfKind db)) o left right (subst (every-Cond (IsTypedLayer (IsColumnOfKind db))) (rolls-Compare o left right) asked)) own
 
-  cond_known : (c : Cond) → StepsHaveColumns c
-  cond_known = ind-Cond StepsHaveColumns (λ x y is. subst (λ x. StepsHaveColumns (roll-Cond x)) is (λ asked own holds.
+  steps_have_columns : (c : Cond) → StepsHaveColumns c
+  steps_have_columns = ind-Cond StepsHaveColumns (λ x y is. subst (λ x. StepsHaveColumns (roll-Cond x)) is (λ asked own holds.
       let inner : Cond-F Cond = map-Cond ((c : Cond) × StepsHaveColumns c) Cond (λ e. e.0) y in
       subst (λ (f : Bool → Conjunction (List Step)). IsIn (f holds)) (sym (fold-roll-Cond (Bool → Conjunction (List Step)) (conjunction_step step_answers) inner))
       (layers y asked (subst AreOwn (fold-roll-Cond (List ℕ) entries_step inner) own) holds)))
 
-  own_known : (conds : List Cond) → AllByRecursion (IsWellTyped db) conds
+  own_steps_have_columns : (conds : List Cond) → AllByRecursion (IsWellTyped db) conds
       → AllByRecursion IsIn (map (λ c. conjunction_of step_answers c true) (own_conjuncts entry conds))
-  own_known [] asked = tt
-  own_known (c ∷ conds) asked = elim (cases_Bool (names_just entry c)) [
+  own_steps_have_columns [] asked = tt
+  own_steps_have_columns (c ∷ conds) asked = elim (cases_Bool (is_own_conjunct entry c)) [
     | inl t ↦ rw t (
-      cond_known c asked.0 (all_entry entry (entries_named c) (and_parts (are_within (entries_named c) (entry ∷ [])) (not (are_within (entries_named c) [])) t).0) true,
-      own_known conds asked.1,
+      steps_have_columns c asked.0 (names_only_entry entry (entries_named c) (and_parts (are_within (entries_named c) (entry ∷ [])) (not (are_within (entries_named c) [])) t).0) true,
+      own_steps_have_columns conds asked.1,
     )
-    | inr n ↦ rw n (own_known conds asked.1)
+    | inr n ↦ rw n (own_steps_have_columns conds asked.1)
   ]
 
   pub steps_within : (conds : List Cond) → All (IsWellTyped db) conds → All (AsksWithin (cells_of db entry)) (steps_of entry conds)
@@ -205,4 +205,4 @@ module _ (db : Database) (entry : ℕ) where
       let members : List (Conjunction (List Step)) = map (λ c. conjunction_of step_answers c true) (own_conjuncts entry conds) in
       All-from_recursion (AsksWithin (cells_of db entry)) (steps_of entry conds)
       (both_within (cells_of db entry) (and_answer step_answers (one_conjunction members)) (step.Whole ∷ [])
-      (and_within (cells_of db entry) (one_conjunction members) (joined_within (cells_of db entry) members (own_known conds (recursion_from_All (IsWellTyped db) conds asked)))) (tt, tt))
+      (and_within (cells_of db entry) (one_conjunction members) (joined_within (cells_of db entry) members (own_steps_have_columns conds (recursion_from_All (IsWellTyped db) conds asked)))) (tt, tt))

@@ -1,4 +1,4 @@
--- Statistics are gathered entry by entry, and for each entry column by column. These lemmas are about the steps of the two loops.
+-- Steps of the two loops that gather statistics: entry by entry, and for each entry column by column.
 use Rattle.std.proofs.Common.{◌≡◌, ℕ, ◌+◌, ◌<◌, ◌≤◌, ◌^◌, List, [], ◌∷◌, ◌++◌, map, length, take, get_or, Some, slice_get, Result, Ok, Err, IfOk, replicate, ap, sym, ◌∙◌, subst, inl, inr, arith}
 use Rattle.std.proofs.lemmas.Bool.{cases_eq}
 use Rattle.std.proofs.lemmas.List.{get_or_append_left, get_or_past, get_or_push, length_push, map-append, take_more}
@@ -22,29 +22,29 @@ use Rattle.sql_meaning.specs.Databases.{AreCells, IsDatabaseOf}
 use Rattle.sql_meaning.specs.Tables.{cells_of, no_cells}
 use Rattle.sql_meaning.proofs.ColumnFacts.{column_at}
 use Rattle.csv_tables.proofs.TableFacts.{columns_long}
-use Rattle.gathered_stats.specs.Columns.{HaveLists, keys_in}
+use Rattle.gathered_stats.specs.Columns.{AreListsOfKeys, keys_in}
 use Rattle.gathered_stats.specs.Asked.{AreGathered, AreStepsOf, AsksWithin, IsGathered, asked_columns}
 use Rattle.gathered_stats.proofs.ColumnsExist.{steps_within}
 
 pub one_column : (columns : List ℕ) (i : ℕ) (old new : List ColumnSteps) (one : ColumnSteps) → i < length columns → one.column ≡ get_or columns i 0
     → map (λ g. g.column) old ≡ take i columns → new ≡ old ++ one ∷ [] → map (λ g. g.column) new ≡ take (i + 1) columns
-one_column columns i old new one low is before pushed =
+one_column columns i old new one is_below is before pushed =
     ap (map (λ g. g.column)) pushed ∙ map-append (λ (g : ColumnSteps). g.column) old (one ∷ []) ∙ ap (λ (s : List ℕ). s ++ one.column ∷ []) before
-    ∙ ap (λ (c : ℕ). take i columns ++ c ∷ []) is ∙ sym (take_more columns i 0 low)
+    ∙ ap (λ (c : ℕ). take i columns ++ c ∷ []) is ∙ sym (take_more columns i 0 is_below)
 
 pub one_made : (P : ColumnSteps → Type 0) (old new : List ColumnSteps) (one : ColumnSteps) → All P old → P one → new ≡ old ++ one ∷ [] → All P new
 one_made P old new one all here pushed = subst (All P) (sym pushed) (All-push P old one all here)
 
 -- ---- the keys of a column
 
-pub keys_high : (texts : List (List ℕ)) (cells : Cells) → AreCells texts cells → (column : ℕ) (items read : List ℕ) → column < length cells.columns → slice_get cells.columns column ≡ Some items → read ≡ items
+pub keys_as_long_as_rows : (texts : List (List ℕ)) (cells : Cells) → AreCells texts cells → (column : ℕ) (items read : List ℕ) → column < length cells.columns → slice_get cells.columns column ≡ Some items → read ≡ items
     → length read ≡ cells.rows
-keys_high texts cells are column items read low at same =
+keys_as_long_as_rows texts cells are column items read is_below at same =
     ap (λ (s : List ℕ). length s) (same ∙ sym (get_or_from_slice_get cells.columns column items [] at))
-    ∙ (column_at texts cells.rows cells.kinds cells.columns are column kind.Int [] (omega (arith, low, columns_long texts cells.rows cells.kinds cells.columns are))).height
+    ∙ (column_at texts cells.rows cells.kinds cells.columns are column kind.Int [] (omega (arith, is_below, columns_long texts cells.rows cells.kinds cells.columns are))).height
 
-pub keys_there : (cells : Cells) (column : ℕ) (items read : List ℕ) → slice_get cells.columns column ≡ Some items → read ≡ items → read ≡ keys_in cells column
-keys_there cells column items read at same = same ∙ sym (get_or_from_slice_get cells.columns column items (replicate cells.rows 0) at)
+pub keys_are_cells : (cells : Cells) (column : ℕ) (items read : List ℕ) → slice_get cells.columns column ≡ Some items → read ≡ items → read ≡ keys_in cells column
+keys_are_cells cells column items read at same = same ∙ sym (get_or_from_slice_get cells.columns column items (replicate cells.rows 0) at)
 
 pub keys_made : (cells : Cells) (column : ℕ) (keys read : List ℕ) → length cells.columns ≤ column → keys ≡ replicate cells.rows 0 → read ≡ keys → read ≡ keys_in cells column
 keys_made cells column keys read past made same = same ∙ made ∙ sym (get_or_past cells.columns column (replicate cells.rows 0) past)
@@ -54,10 +54,10 @@ if_both (Ok x) P Q S f h k = f x h k
 if_both (Err e) P Q S f h k = h
 
 pub column_made : {E : Type 0} (r : Result ColumnSteps E) (texts : List (List ℕ)) (cells : Cells) (accuracy column : ℕ) (keys : List ℕ) (steps : List Step) → keys ≡ keys_in cells column
-    → IfOk r (λ g. g.column ≡ column) → IfOk r (λ g. (lists : ColumnLists) → HaveLists texts cells accuracy keys lists → g.steps ≡ map (with_list lists) steps) → IfOk r (AreStepsOf texts cells accuracy steps)
+    → IfOk r (λ g. g.column ≡ column) → IfOk r (λ g. (lists : ColumnLists) → AreListsOfKeys texts cells accuracy keys lists → g.steps ≡ map (with_list lists) steps) → IfOk r (AreStepsOf texts cells accuracy steps)
 column_made r texts cells accuracy column keys steps is h k =
-    if_both r (λ g. g.column ≡ column) (λ g. (lists : ColumnLists) → HaveLists texts cells accuracy keys lists → g.steps ≡ map (with_list lists) steps) (AreStepsOf texts cells accuracy steps)
-    (λ g named made lists have. made lists (subst (λ (s : List ℕ). HaveLists texts cells accuracy s lists) (ap (keys_in cells) named ∙ sym is) have)) h k
+    if_both r (λ g. g.column ≡ column) (λ g. (lists : ColumnLists) → AreListsOfKeys texts cells accuracy keys lists → g.steps ≡ map (with_list lists) steps) (AreStepsOf texts cells accuracy steps)
+    (λ g named made lists have. made lists (subst (λ (s : List ℕ). AreListsOfKeys texts cells accuracy s lists) (ap (keys_in cells) named ∙ sym is) have)) h k
 
 -- ---- the loop over entries
 
@@ -66,10 +66,10 @@ module _ (query : Query) (db : Database) (accuracy : ℕ) where
       → AreGathered query db accuracy (n + 1) new
   one_gathered n old new one before here pushed = record {
     as_many = ap (λ (s : List EntryStats). length s) pushed ∙ length_push old one ∙ omega (arith, before.as_many);
-    each = λ entry low. subst (λ (s : List EntryStats). IsGathered query db accuracy entry (get_or s entry no_columns)) (sym pushed) (elim (cases_eq entry n) [
+    each = λ entry is_below. subst (λ (s : List EntryStats). IsGathered query db accuracy entry (get_or s entry no_columns)) (sym pushed) (elim (cases_eq entry n) [
       | inl same ↦ subst (λ (e : EntryStats). IsGathered query db accuracy entry e) (sym (get_or_push old one no_columns entry (before.as_many ∙ sym same)))
           (subst (λ (m : ℕ). IsGathered query db accuracy m one) (sym same) here)
-      | inr apart ↦ (let earlier : entry < n = omega (arith, low, apart) in
+      | inr apart ↦ (let earlier : entry < n = omega (arith, is_below, apart) in
           subst (λ (e : EntryStats). IsGathered query db accuracy entry e) (sym (get_or_append_left old (one ∷ []) no_columns entry (omega (arith, earlier, before.as_many)))) (before.each entry earlier))
     ]);
   }
@@ -80,14 +80,14 @@ pub cells_read : (db : Database) (entry slot : ℕ) (cells : Cells) → slice_ge
 cells_read db entry slot cells at there =
     sym (ap (λ (n : ℕ). get_or db.cells n no_cells) (get_or_from_slice_get db.slots entry slot 0 at) ∙ get_or_from_slice_get db.cells slot cells no_cells there)
 
-pub cells_sound : (query : Query) (db : Database) → IsDatabaseOf query db → (entry : ℕ) (cells : Cells) → entry < length query.from → cells ≡ cells_of db entry → AreCells db.pool cells
-cells_sound query db of entry cells low is =
-    let here : entry < length db.slots = omega (arith, low, of.entries) in
+pub cells_are_valid : (query : Query) (db : Database) → IsDatabaseOf query db → (entry : ℕ) (cells : Cells) → entry < length query.from → cells ≡ cells_of db entry → AreCells db.pool cells
+cells_are_valid query db of entry cells is_below is =
+    let here : entry < length db.slots = omega (arith, is_below, of.entries) in
     subst (AreCells db.pool) (sym is) (of.tables.cells (get_or db.slots entry 0) no_cells (of.tables.slots entry 0 here))
 
-pub steps_sound : (query : Query) (db : Database) → IsDatabaseOf query db → (entry : ℕ) (cells : Cells) (steps read : List Step) → cells ≡ cells_of db entry → steps ≡ steps_of entry query.conjuncts
+pub steps_ask_within : (query : Query) (db : Database) → IsDatabaseOf query db → (entry : ℕ) (cells : Cells) (steps read : List Step) → cells ≡ cells_of db entry → steps ≡ steps_of entry query.conjuncts
     → read ≡ steps → All (AsksWithin cells) read
-steps_sound query db of entry cells steps read is are same =
+steps_ask_within query db of entry cells steps read is are same =
     subst (λ (s : List Step). All (AsksWithin cells) s) (sym (same ∙ are))
     (subst (λ (t : Cells). All (AsksWithin t) (steps_of entry query.conjuncts)) (sym is) (steps_within db entry query.conjuncts of.conjuncts))
 

@@ -1,5 +1,5 @@
--- Statistics are asked for the joined columns of an entry, which are the columns that equalities name. If an entry has no joined column, they are asked for
--- a column that no table has.
+-- For which columns of an entry statistics are asked: for the columns that equalities name, its joined columns. If it has no joined column, they
+-- are asked for a column that no table has.
 use Rattle.std.proofs.Common.{◌≡◌, ◌⊎◌, ℕ, ◌+◌, ◌<◌, Bool, true, false, not, ◌&&◌, cond, eqb, List, [], ◌∷◌, ◌++◌, map, length, take, get_or, Some, refl, ap, sym, ◌∙◌, subst, inl, inr, arith}
 use Rattle.std.specs.Prelude.{if◌then◌else◌}
 use Rattle.std.specs.List.{All, Contains, filter}
@@ -14,10 +14,10 @@ use Rattle.csv_tables.specs.declared.types.Database.{Database}
 use Rattle.degree_lists.proofs.OneMoreKey.{different-push}
 use Rattle.degree_sequences.specs.Degrees.{different}
 use Rattle.degree_sequences.proofs.Counting.{is_in-filter}
-use Rattle.entry_sets.proofs.Listing.{in_front, in_none, in_rest, one_in}
+use Rattle.entry_sets.proofs.Listing.{in_front, not_in_empty, in_rest, in_front_or_rest}
 use Rattle.join_graph.specs.Conjuncts.{equalities_of, equality_of}
 use Rattle.level_bounds.proofs.EqualityFacts.{IsJoin, is_join}
-use Rattle.level_bounds.proofs.Lists.{from_filter, from_filter_map, from_map, in_filter, in_map, in_true, is_in, true_in}
+use Rattle.level_bounds.proofs.Lists.{from_filter, from_filter_map, from_map, in_filter, in_map, test_of_member, is_in, in_from_test}
 use Rattle.query_bounds.proofs.Holding.{places_more}
 use Rattle.query_types.specs.declared.types.ColumnRef.{ColumnRef}
 use Rattle.query_types.specs.declared.types.Operand.TheVariants as operand
@@ -37,9 +37,9 @@ is_of entry p = eqb p.entry entry
 abbrev columns_at : ℕ → List Place → List ℕ
 columns_at entry places = map (λ p. p.column) (filter (is_of entry) places)
 
-turned : {X : Type 0} (b : Bool) (x y : X) → (if (true && not b) then x else y) ≡ cond b y x
-turned true x y = refl
-turned false x y = refl
+if_not_swapped : {X : Type 0} (b : Bool) (x y : X) → (if (true && not b) then x else y) ≡ cond b y x
+if_not_swapped true x y = refl
+if_not_swapped false x y = refl
 
 one_more : (entry : ℕ) (places : List Place) (p : Place) → with_place entry (different (columns_at entry places)) p ≡ different (columns_at entry (places ++ p ∷ []))
 one_more entry places p =
@@ -51,44 +51,44 @@ one_more entry places p =
       | inl t ↦ (let kept : map (λ q. q.column) (filter (is_of entry) (p ∷ [])) ≡ p.column ∷ [] = rw t refl in
           let all : different (columns_at entry (places ++ p ∷ [])) ≡ cond (is_in (different L) p.column) (different L) (different L ++ p.column ∷ []) =
           ap different (mapped ∙ ap (λ (s : List ℕ). L ++ s) kept) ∙ different-push L p.column in
-          rw t (turned (is_in (different L) p.column) (different L ++ p.column ∷ []) (different L) ∙ sym all))
+          rw t (if_not_swapped (is_in (different L) p.column) (different L ++ p.column ∷ []) (different L) ∙ sym all))
       | inr n ↦ (let dropped : map (λ q. q.column) (filter (is_of entry) (p ∷ [])) ≡ [] = rw n refl in
           rw n (ap different (sym (mapped ∙ ap (λ (s : List ℕ). L ++ s) dropped ∙ append-nil L))))
     ]
 
 pub pair_more : (entry : ℕ) (es items : List Edge) (i : ℕ) (d : Edge) (old mid new : List ℕ) → items ≡ es → i < length items → old ≡ joined_columns entry (take i es)
     → mid ≡ with_place entry old (get_or items i d).left → new ≡ with_place entry mid (get_or items i d).right → new ≡ joined_columns entry (take (i + 1) es)
-pair_more entry es items i d old mid new is low before first second =
+pair_more entry es items i d old mid new is is_below before first second =
     let left : Place = (get_or items i d).left in
     let right : Place = (get_or items i d).right in
     let places : List Place = places_of (take i es) in
     let one : mid ≡ different (columns_at entry (places ++ left ∷ [])) = first ∙ ap (λ (s : List ℕ). with_place entry s left) before ∙ one_more entry places left in
-    second ∙ ap (λ (s : List ℕ). with_place entry s right) one ∙ one_more entry (places ++ left ∷ []) right ∙ ap (λ (s : List Place). different (columns_at entry s)) (sym (places_more es items i d is low))
+    second ∙ ap (λ (s : List ℕ). with_place entry s right) one ∙ one_more entry (places ++ left ∷ []) right ∙ ap (λ (s : List Place). different (columns_at entry s)) (sym (places_more es items i d is is_below))
 
 -- ---- a column is joined exactly if an equality names it
 
 in_different : (L : List ℕ) (x : ℕ) → Contains L x → Contains (different L) x
-in_different [] x k = absurd (in_none x k)
+in_different [] x k = absurd (not_in_empty x k)
 in_different (y ∷ L) x k = elim (cases_eq x y) [
   | inl same ↦ in_front y (filter (λ z. not (eqb z y)) (different L)) x same
-  | inr apart ↦ elim (one_in y L x k) [
+  | inr apart ↦ elim (in_front_or_rest y L x k) [
     | inl later ↦ (let passes : not (eqb x y) ≡ true = rw (ne_eqb x y apart) refl in
         in_rest y (filter (λ z. not (eqb z y)) (different L)) x
-        (true_in (filter (λ z. not (eqb z y)) (different L)) x (is_in-filter (λ z. not (eqb z y)) (different L) x passes (in_true (different L) x (in_different L x later)))))
+        (in_from_test (filter (λ z. not (eqb z y)) (different L)) x (is_in-filter (λ z. not (eqb z y)) (different L) x passes (test_of_member (different L) x (in_different L x later)))))
     | inr is ↦ absurd (apart is)
   ]
 ]
 
 from_different : (L : List ℕ) (x : ℕ) → Contains (different L) x → Contains L x
-from_different [] x k = absurd (in_none x k)
-from_different (y ∷ L) x k = elim (one_in y (filter (λ z. not (eqb z y)) (different L)) x k) [
+from_different [] x k = absurd (not_in_empty x k)
+from_different (y ∷ L) x k = elim (in_front_or_rest y (filter (λ z. not (eqb z y)) (different L)) x k) [
   | inl later ↦ in_rest y L x (from_different L x (from_filter (λ z. not (eqb z y)) (different L) x later).0)
   | inr is ↦ in_front y L x is
 ]
 
-or_more : (L : List ℕ) (x : ℕ) → Contains L x → Contains (or_no_column L) x
-or_more [] x k = absurd (in_none x k)
-or_more (y ∷ L) x k = k
+in_or_no_column : (L : List ℕ) (x : ℕ) → Contains L x → Contains (or_no_column L) x
+in_or_no_column [] x k = absurd (not_in_empty x k)
+in_or_no_column (y ∷ L) x k = k
 
 pub place_joined : (es : List Edge) (p : Place) → Contains (places_of es) p → Contains (joined_columns p.entry es) p.column
 place_joined es p k =
@@ -96,7 +96,7 @@ place_joined es p k =
     (in_map (λ (q : Place). q.column) (filter (is_of p.entry) (places_of es)) p (in_filter (is_of p.entry) (places_of es) p k (eq-eqb p.entry p.entry refl)))
 
 pub place_asked : (es : List Edge) (p : Place) → Contains (places_of es) p → Contains (asked_columns p.entry es) p.column
-place_asked es p k = or_more (joined_columns p.entry es) p.column (place_joined es p k)
+place_asked es p k = in_or_no_column (joined_columns p.entry es) p.column (place_joined es p k)
 
 pub joined_place : (entry : ℕ) (es : List Edge) (column : ℕ) → Contains (joined_columns entry es) column
     → (p : Place) × Contains (places_of es) p × (p.entry ≡ entry) × (column ≡ p.column)
@@ -112,11 +112,11 @@ asked_place entry es column k = by (joined_columns entry es) refl k
   where
     by : (L : List ℕ) → L ≡ joined_columns entry es → Contains (or_no_column L) column
         → ((p : Place) × Contains (places_of es) p × (p.entry ≡ entry) × (column ≡ p.column)) ⊎ (column ≡ no_column)
-    by [] is k = elim (one_in no_column [] column k) [ inl later ↦ absurd (in_none column later) | inr first ↦ inr first ]
+    by [] is k = elim (in_front_or_rest no_column [] column k) [ inl later ↦ absurd (not_in_empty column later) | inr first ↦ inr first ]
     by (c ∷ L) is k = inl (joined_place entry es column (subst (λ (s : List ℕ). Contains s column) is k))
 
-pub some_asked : (entry : ℕ) (es : List Edge) → 0 < length (asked_columns entry es)
-some_asked entry es = by (joined_columns entry es)
+pub asked_not_empty : (entry : ℕ) (es : List Edge) → 0 < length (asked_columns entry es)
+asked_not_empty entry es = by (joined_columns entry es)
   where
     by : (L : List ℕ) → 0 < length (or_no_column L)
     by [] = omega arith
@@ -125,9 +125,9 @@ some_asked entry es = by (joined_columns entry es)
 -- ---- joined columns exist in their tables
 
 edge_of : (es : List Edge) (p : Place) → Contains (places_of es) p → (e : Edge) × Contains es e × ((p ≡ e.left) ⊎ (p ≡ e.right))
-edge_of [] p k = absurd (in_none p k)
-edge_of (e ∷ es) p k = elim (one_in e.left (e.right ∷ places_of es) p k) [
-  | inl later ↦ elim (one_in e.right (places_of es) p later) [
+edge_of [] p k = absurd (not_in_empty p k)
+edge_of (e ∷ es) p k = elim (in_front_or_rest e.left (e.right ∷ places_of es) p k) [
+  | inl later ↦ elim (in_front_or_rest e.right (places_of es) p later) [
     | inl rest ↦ (let found = edge_of es p rest in (found.0, in_rest e es found.0 found.1, found.2))
     | inr is ↦ (e, in_front e es e refl, inr is)
   ]
@@ -151,9 +151,9 @@ place_exists query db of p k =
 
 pub joined_exist : (query : Query) (db : Database) → IsDatabaseOf query db → (entry : ℕ)
     → All (λ column. column < length (cells_of db entry).kinds) (joined_columns entry (equalities_of query))
-joined_exist query db of entry i d low =
+joined_exist query db of entry i d is_below =
     let column : ℕ = get_or (joined_columns entry (equalities_of query)) i d in
-    let at = joined_place entry (equalities_of query) column (Contains-get_or (joined_columns entry (equalities_of query)) i d low) in
+    let at = joined_place entry (equalities_of query) column (Contains-get_or (joined_columns entry (equalities_of query)) i d is_below) in
     subst (λ (c : ℕ). c < length (cells_of db entry).kinds) (sym at.3)
     (subst (λ (e : ℕ). at.0.column < length (cells_of db e).kinds) at.2 (place_exists query db of at.0 at.1).exists)
 

@@ -7,16 +7,16 @@ use Rattle.cond_stats.specs.Columns.{CellColumn}
 use Rattle.cond_stats.specs.Frequency.{frequent}
 use Rattle.cond_stats.specs.Lists.{list_of_value, rest}
 use Rattle.cond_stats.proofs.OnDemand.{filter_values-zip}
-use Rattle.cond_stats.proofs.ValueLists.{of_none, of_others}
+use Rattle.cond_stats.proofs.ValueLists.{list_without_cell, list_of_other_value}
 use Rattle.gathered_stats.specs.declared.entry_table.EntryTable.{EntryTable}
 use Rattle.gathered_stats.specs.declared.rests.RestList.{RestList}
 use Rattle.gathered_stats.specs.Filters.{IsColumnIn}
 use Rattle.gathered_stats.specs.ShownCells.{shown_cells}
 use Rattle.gathered_stats.specs.Rests.{IsRestOf, among_frequent, is_kept, rest_in, with_rest}
 
-module _ (table : EntryTable) (keys : List ℕ) (column : ℕ) (sorted : CellColumn) (is : IsColumnIn table.pool.now (shown_cells table) column sorted) where
+module _ (table : EntryTable) (keys : List ℕ) (column : ℕ) (sorted : CellColumn) (is_column : IsColumnIn table.pool.now (shown_cells table) column sorted) where
   rest_made : rest table.accuracy (zip sorted.cells keys) ≡ rest_in table keys column
-  rest_made = ap (λ (s : CellColumn). rest table.accuracy (zip s.cells keys)) is.is
+  rest_made = ap (λ (s : CellColumn). rest table.accuracy (zip s.cells keys)) is_column.is
 
   pub one_kept : (list : List ℕ) (old new : List RestList) → list ≡ rest table.accuracy (zip sorted.cells keys)
       → is_kept old column ≡ false → new ≡ old ++ (record { column = column; list = list }) ∷ [] → new ≡ with_rest table keys column old
@@ -25,10 +25,10 @@ module _ (table : EntryTable) (keys : List ℕ) (column : ℕ) (sorted : CellCol
 
   pub rest_of_value : (cell : Option ℕ) (list : List ℕ) → length keys ≡ length sorted.cells → among_frequent sorted.cells cell ≡ false
       → list ≡ rest_in table keys column → list ≡ list_of_value table.accuracy (zip sorted.cells keys) cell
-  rest_of_value None list same other made = made ∙ sym rest_made ∙ sym (of_none table.accuracy (zip sorted.cells keys))
+  rest_of_value None list same other made = made ∙ sym rest_made ∙ sym (list_without_cell table.accuracy (zip sorted.cells keys))
   rest_of_value (Some v) list same other made =
       made ∙ sym rest_made
-      ∙ sym (of_others table.accuracy (zip sorted.cells keys) v
+      ∙ sym (list_of_other_value table.accuracy (zip sorted.cells keys) v
       (ap (λ (s : List ℕ). list_any (λ value. eqb value v) (frequent s)) (filter_values-zip sorted.cells keys same) ∙ other))
 
 pub all_kept : (table : EntryTable) (keys : List ℕ) (column : ℕ) (old new : List RestList) → new ≡ with_rest table keys column old

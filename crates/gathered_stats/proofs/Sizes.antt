@@ -10,28 +10,28 @@ use Rattle.cond_stats.specs.Leaves.{leaf_of, in_node}
 use Rattle.cond_stats.specs.Lists.{greatest, is_frequent, list_of_node, list_of_value, rest}
 use Rattle.cond_stats.specs.Rows.{filter_values}
 use Rattle.cond_stats.proofs.Sums.{sum-list_of_node, sum-list_of_value, sum-rest}
-use Rattle.cond_stats.proofs.ValueLists.{of_none}
+use Rattle.cond_stats.proofs.ValueLists.{list_without_cell}
 
-no_more : (column : List ℕ) (a : ℕ) → degree column a ≤ length column
-no_more column a = count_by-le-length (λ key. eqb key a) column
+degree_at_most_length : (column : List ℕ) (a : ℕ) → degree column a ≤ length column
+degree_at_most_length column a = count_by-le-length (λ key. eqb key a) column
 
 greatest_within : (column values : List ℕ) → greatest (map (degree column) values) ≤ length column
 greatest_within column [] = omega arith
-greatest_within column (v ∷ values) = omega (arith, no_more column v, greatest_within column values)
+greatest_within column (v ∷ values) = omega (arith, degree_at_most_length column v, greatest_within column values)
 
 module _ (k : ℕ) (rows : List (ℕ × ℕ)) where
-  as_many : length (filter_values rows) ≡ length rows
-  as_many = length-map rows (λ row. row.0)
+  filter_values_length : length (filter_values rows) ≡ length rows
+  filter_values_length = length-map rows (λ row. row.0)
 
   rest_within : sum (rest k rows) ≤ length rows
-  rest_within = omega (arith, sum-rest k rows, greatest_within (filter_values rows) (remaining (filter_values rows)), as_many)
+  rest_within = omega (arith, sum-rest k rows, greatest_within (filter_values rows) (remaining (filter_values rows)), filter_values_length)
 
   pub value_within : (cell : Option ℕ) → sum (list_of_value k rows cell) ≤ length rows
-  value_within None = omega (arith, ap sum (of_none k rows), rest_within)
+  value_within None = omega (arith, ap sum (list_without_cell k rows), rest_within)
   value_within (Some v) = omega (arith, sum-list_of_value k rows v, by (is_frequent rows v))
     where
       by : (b : Bool) → cond b (degree (filter_values rows) v) (sum (rest k rows)) ≤ length rows
-      by true = omega (arith, no_more (filter_values rows) v, as_many)
+      by true = omega (arith, degree_at_most_length (filter_values rows) v, filter_values_length)
       by false = rest_within
 
   pub node_within : (at_most : ℕ → ℕ → Bool) (size leaf : ℕ) → sum (list_of_node at_most k rows size leaf) ≤ length rows
@@ -40,7 +40,7 @@ module _ (k : ℕ) (rows : List (ℕ × ℕ)) where
         arith,
         sum-list_of_node at_most k rows size leaf,
         count_by-le-length (λ v. in_node size leaf (leaf_of at_most (filter_values rows) v)) (filter_values rows),
-        as_many,
+        filter_values_length,
       )
 
 pub zipped_within : (filter keys : List ℕ) (n : ℕ) → length keys ≤ n → length (zip filter keys) ≤ n

@@ -21,7 +21,7 @@ use Rattle.predicate_bounds.specs.Steps.{steps_of}
 use Rattle.predicate_bounds.specs.StatsLists.{no_columns}
 use Rattle.query_types.specs.declared.types.Query.{Query}
 use Rattle.sql_meaning.specs.Tables.{cells_of}
-use Rattle.gathered_stats.specs.Columns.{HaveLists, keys_in}
+use Rattle.gathered_stats.specs.Columns.{AreListsOfKeys, keys_in}
 
 -- ---- joined columns
 
@@ -49,13 +49,13 @@ with_place entry columns place = if place.entry == entry && not (list_any (λ co
 -- ---- filter columns
 
 -- the column that a step compares with literals, if it compares one
-abbrev pub column_asked : Step → Option ℕ
-column_asked step.Whole = None
-column_asked (step.Equal column literal) = Some column
-column_asked (step.Within range) = Some range.column
-column_asked step.And = None
-column_asked step.NoRows = None
-column_asked step.Or = None
+abbrev pub compared_column : Step → Option ℕ
+compared_column step.Whole = None
+compared_column (step.Equal column literal) = Some column
+compared_column (step.Within range) = Some range.column
+compared_column step.And = None
+compared_column step.NoRows = None
+compared_column step.Or = None
 
 -- the step asks for the list of all rows
 abbrev pub asks_for_all_rows : Step → Bool
@@ -68,14 +68,14 @@ asks_for_all_rows step.Or = false
 
 -- if the step asks for a column, the column is a column of the table
 abbrev pub AsksWithin : Cells → Step → Type 0
-AsksWithin cells step = IfSome (column_asked step) (λ column. column < length cells.kinds)
+AsksWithin cells step = IfSome (compared_column step) (λ column. column < length cells.kinds)
 
 -- ---- the statistics gathered for columns and entries
 
--- `gathered` has these steps for its column, each step with the list that it has for the column's keys
+-- `gathered` has these steps, each with the list that it asks for, made of the keys of `gathered`'s column
 abbrev pub AreStepsOf : List (List ℕ) → Cells → ℕ → List Step → ColumnSteps → Type 0
 AreStepsOf texts cells accuracy steps gathered = (lists : ColumnLists)
-    → HaveLists texts cells accuracy (keys_in cells gathered.column) lists → gathered.steps ≡ map (with_list lists) steps
+    → AreListsOfKeys texts cells accuracy (keys_in cells gathered.column) lists → gathered.steps ≡ map (with_list lists) steps
 
 -- for each column that is asked for, an entry's statistics have the steps of its own conjuncts. The entry's table has fewer than 2^32 rows
 pub record IsGathered (query : Query) (db : Database) (accuracy entry : ℕ) (stats : EntryStats) : Type 0 where

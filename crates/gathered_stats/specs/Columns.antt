@@ -11,10 +11,11 @@ use Rattle.filtered_lists.specs.Lists.{ColumnLists}
 use Rattle.filtered_lists.specs.Ranges.{Range}
 use Rattle.table_stats.specs.Cells.{IsCellFor}
 
--- the kind of a column, and its cells
+-- the kind of a column
 abbrev pub kind_in : Cells → ℕ → Kind
 kind_in cells column = slice_index_or cells.kinds column kind.Int
 
+-- the cells of a column
 abbrev pub cells_in : Cells → ℕ → List ℕ
 cells_in cells column = slice_index_or cells.columns column []
 
@@ -23,7 +24,7 @@ abbrev pub keys_in : Cells → ℕ → List ℕ
 keys_in cells column = slice_index_or cells.columns column (replicate cells.rows 0)
 
 -- keys, one for each row of a table, have these lists: the list for all rows, and for each column of the table the lists for its values and ranges
-pub record HaveLists (texts : List (List ℕ)) (cells : Cells) (accuracy : ℕ) (keys : List ℕ) (lists : ColumnLists) : Type 0 where
+pub record AreListsOfKeys (texts : List (List ℕ)) (cells : Cells) (accuracy : ℕ) (keys : List ℕ) (lists : ColumnLists) : Type 0 where
   pub whole : compressed_degrees accuracy keys ≡ lists.whole
   pub equal : (column : ℕ) (value : Value) (cell : Option ℕ) → column < length cells.kinds
       → IsCellFor texts (kind_in cells column) value cell
@@ -32,6 +33,6 @@ pub record HaveLists (texts : List (List ℕ)) (cells : Cells) (accuracy : ℕ) 
       → list_between texts (kind_in cells range.column) accuracy (zip (cells_in cells range.column) keys) range.low range.high
       ≡ lists.range range
 
--- there are lists that the column's keys have (`HaveLists`)
+-- there are lists that the column's keys have (`AreListsOfKeys`)
 abbrev pub KeysHaveLists : List (List ℕ) → Cells → ℕ → ℕ → Type 0
-KeysHaveLists texts cells accuracy column = (lists : ColumnLists) × HaveLists texts cells accuracy (keys_in cells column) lists
+KeysHaveLists texts cells accuracy column = (lists : ColumnLists) × AreListsOfKeys texts cells accuracy (keys_in cells column) lists

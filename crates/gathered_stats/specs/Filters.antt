@@ -7,9 +7,9 @@ use Rattle.filtered_lists.specs.Lists.{ColumnLists}
 use Rattle.predicate_bounds.specs.declared.steps.Step.{Step}
 use Rattle.sql_meaning.specs.Databases.{AreCells}
 use Rattle.gathered_stats.specs.declared.entry_table.EntryTable.{EntryTable}
-use Rattle.gathered_stats.specs.declared.filters.Filter.{Filter}
-use Rattle.gathered_stats.specs.Asked.{column_asked}
-use Rattle.gathered_stats.specs.Columns.{HaveLists, cells_in, kind_in}
+use Rattle.gathered_stats.specs.declared.filters.SortedColumn.{SortedColumn}
+use Rattle.gathered_stats.specs.Asked.{compared_column}
+use Rattle.gathered_stats.specs.Columns.{AreListsOfKeys, cells_in, kind_in}
 use Rattle.gathered_stats.specs.ShownCells.{shown_cells}
 
 -- the sorted column is the table's column with this number
@@ -18,16 +18,16 @@ pub record IsColumnIn (texts : List (List ℕ)) (cells : Cells) (column : ℕ) (
   pub is : sorted ≡ record { texts = texts; kind = kind_in cells column; cells = cells_in cells column }
 
 -- the filter is a column of the table, sorted
-abbrev pub IsFilterOf : List (List ℕ) → Cells → Filter → Type 0
+abbrev pub IsFilterOf : List (List ℕ) → Cells → SortedColumn → Type 0
 IsFilterOf texts cells filter = IsColumnIn texts cells filter.column filter.sorted
 
 -- some filter is the filter of this column
-abbrev pub has_filter : List Filter → ℕ → Bool
+abbrev pub has_filter : List SortedColumn → ℕ → Bool
 has_filter filters column = list_any (λ filter. filter.column == column) filters
 
 -- if the step compares a column with literals, some filter is the filter of this column
-abbrev pub HasFilterFor : List Filter → Step → Type 0
-HasFilterFor filters step = IfSome (column_asked step) (λ column. has_filter filters column ≡ true)
+abbrev pub HasFilterFor : List SortedColumn → Step → Type 0
+HasFilterFor filters step = IfSome (compared_column step) (λ column. has_filter filters column ≡ true)
 
 -- each column has a cell of its kind for each row. There are fewer than 2^32 rows, and each filter is a column of the table
 pub record IsReady (table : EntryTable) : Type 0 where
@@ -37,4 +37,4 @@ pub record IsReady (table : EntryTable) : Type 0 where
 
 -- keys, one for each row that the table shows, have these lists
 abbrev pub AreColumnListsOf : EntryTable → List ℕ → ColumnLists → Type 0
-AreColumnListsOf table keys lists = HaveLists table.pool.now (shown_cells table) table.accuracy keys lists
+AreColumnListsOf table keys lists = AreListsOfKeys table.pool.now (shown_cells table) table.accuracy keys lists

@@ -25,7 +25,7 @@ IsRestOf table keys kept = kept.list ≡ rest_in table keys kept.column
 abbrev pub is_kept : List RestList → ℕ → Bool
 is_kept rests column = list_any (λ kept. kept.column == column) rests
 
--- the kept lists. If none of them is the filter column's rest list, this list is added at the end
+-- the kept lists, with the filter column's rest list added at the end if it isn't kept yet
 abbrev pub with_rest : EntryTable → List ℕ → ℕ → List RestList → List RestList
 with_rest table keys column rests = if is_kept rests column then rests
     else rests ++ (record { column = column; list = rest_in table keys column }) ∷ []

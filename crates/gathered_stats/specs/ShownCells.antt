@@ -1,4 +1,4 @@
--- The cells that an entry's table shows: those of all its rows, or of the rows with given numbers.
+-- The cells that an entry's table shows: the cells of all its rows, or of the rows with given numbers.
 use Rattle.std.specs.Prelude.{ℕ, ◌<◌, All, if◌then◌else◌, List, length, map, slice_index}
 use Rattle.csv_tables.specs.declared.types.Cells.{Cells}
 use Rattle.gathered_stats.specs.declared.entry_table.EntryTable.{EntryTable}
@@ -15,6 +15,6 @@ cells_at rows cells = record { kinds = cells.kinds; columns = map (picked rows) 
 abbrev pub AreRowNumbersOf : Cells → List ℕ → Type 0
 AreRowNumbersOf cells rows = All (λ row. row < cells.rows) rows
 
--- the cells that an entry's table shows: all, or those in the given rows
+-- the cells that an entry's table shows
 abbrev pub shown_cells : EntryTable → Cells
 shown_cells table = if table.shows_all_rows then table.cells.now else cells_at table.rows.now table.cells.now

@@ -16,7 +16,7 @@ fn has(columns: &[u32], column: u32) -> bool
 }
 
 // Appends the column of `place` to `columns` if it is a column of this entry and isn't there yet. A `Place` is an entry and one of its columns.
-fn add(columns: &mut Seq<u32>, place: Place, entry: u8) -> Result<(), NoMemory>
+fn add_joined_column(columns: &mut Seq<u32>, place: Place, entry: u8) -> Result<(), NoMemory>
     ensures { OnOk result (columns.new ≡ with_place entry columns.old place) }
 {
     if place.entry != entry || has(columns.as_slice(), place.column) {
@@ -31,8 +31,8 @@ pub fn joined_columns(alloc: Global, equalities: &[Edge], entry: u8) -> Result<S
 {
     let mut columns = Seq::new(alloc);
     for edge in equalities {
-        add(&mut columns, edge.left, entry)?;
-        add(&mut columns, edge.right, entry)?;
+        add_joined_column(&mut columns, edge.left, entry)?;
+        add_joined_column(&mut columns, edge.right, entry)?;
     }
     Ok(columns)
 }

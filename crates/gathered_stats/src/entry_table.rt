@@ -2,20 +2,20 @@
 ghost use Rattle.std.specs.Prelude.{◌≡◌, ◌<◌, length, slice_index};
 ghost use Rattle.sql_meaning.specs.Tables.{cells_of};
 
-use crate::filters::Filter;
+use crate::filters::SortedColumn;
 use base_io::Seq;
 use csv_tables::{Cells, Database, Pool};
 use limits::Accuracy;
 
-/// The table of a FROM entry, the columns that the entry's own conjuncts compare with literals, and the accuracy of lists. If `shows_all_rows` is true, the
-/// table shows all its rows. Otherwise it shows only the rows whose numbers are in `rows`, in the order of `rows`.
+/// The table of a FROM entry, the columns that the entry's own conjuncts compare with literals, and the accuracy of lists. If `shows_all_rows` is
+/// true, the table shows all its rows. Otherwise it shows only the rows whose numbers are in `rows`, in the order of `rows`.
 #[derive(Drop)]
 pub(crate) struct EntryTable<'a> {
     pub pool: &'a Pool,
     pub cells: &'a Cells,
     pub shows_all_rows: bool,
     pub rows: &'a [u32],
-    pub filters: Seq<Filter<'a>>,
+    pub filters: Seq<SortedColumn<'a>>,
     pub accuracy: Accuracy,
 }
 

@@ -3,7 +3,7 @@
 ghost use Rattle.std.specs.Prelude.{◌≡◌, ◌<◌, ℕ, List, All, length, true, IfOk, OnOk};
 ghost use Rattle.predicate_bounds.specs.declared.steps.Step.{Step};
 ghost use Rattle.sql_meaning.specs.Databases.{AreCells};
-ghost use Rattle.gathered_stats.specs.Asked.{AsksWithin, column_asked};
+ghost use Rattle.gathered_stats.specs.Asked.{AsksWithin, compared_column};
 ghost use Rattle.gathered_stats.specs.Filters.{IsColumnIn, IsFilterOf, HasFilterFor, has_filter};
 
 use crate::entry_table::row_count;
@@ -15,14 +15,14 @@ use std::alloc::Global;
 
 /// A filter column, sorted. `column` is its number in the table.
 #[derive(Drop)]
-pub(crate) struct Filter<'a> {
+pub(crate) struct SortedColumn<'a> {
     pub column: u32,
     pub sorted: FilterColumn<'a>,
 }
 
 /// The column that a step compares with literals, if it compares one.
-pub fn column_asked(step: &Step) -> Option<u32>
-    ensures { result ≡ column_asked step.now }
+pub fn compared_column(step: &Step) -> Option<u32>
+    ensures { result ≡ compared_column step.now }
 {
     match step {
         Step::Equal { column, .. } => Some(*column),
@@ -32,7 +32,7 @@ pub fn column_asked(step: &Step) -> Option<u32>
 }
 
 // Whether `filters` has the column with this number.
-fn has_filter(filters: &[Filter<'_>], column: u32) -> bool
+fn has_filter(filters: &[SortedColumn<'_>], column: u32) -> bool
     ensures { result ≡ has_filter filters.now column }
 {
     filters.iter().any(|filter| filter.column == column)
@@ -44,7 +44,7 @@ fn sorted<'a>(
     pool: &'a Pool,
     cells: &'a Cells,
     column: u32,
-) -> Result<Filter<'a>, NoMemory>
+) -> Result<SortedColumn<'a>, NoMemory>
     requires cells { AreCells pool.now cells.now }
     requires exists { column < length cells.now.kinds }
     ensures { IfOk result (λ filter. (filter.column ≡ column) × IsFilterOf pool.now cells.now filter) }
@@ -53,7 +53,7 @@ fn sorted<'a>(
     let at = column as usize;
     let kind = *cells.kinds.get(at);
     let sorted = FilterColumn::new(alloc, pool, kind, cells.columns.get(at).as_slice())?;
-    Ok(Filter { column, sorted })
+    Ok(SortedColumn { column, sorted })
 }
 
 // Adds the column that a step compares with literals, if there is one and it isn't in `filters` yet.
@@ -62,16 +62,16 @@ fn add_filter<'a>(
     pool: &'a Pool,
     cells: &'a Cells,
     step: &Step,
-    filters: &mut Seq<Filter<'a>>,
+    filters: &mut Seq<SortedColumn<'a>>,
 ) -> Result<(), NoMemory>
     requires cells { AreCells pool.now cells.now }
     requires exists { AsksWithin cells.now step.now }
     requires filters { All (IsFilterOf pool.now cells.now) filters.old }
     ensures filters { OnOk result (All (IsFilterOf pool.now cells.now) filters.new) }
-    ensures served { OnOk result (HasFilterFor filters.new step.now) }
+    ensures has_column { OnOk result (HasFilterFor filters.new step.now) }
     ensures kept { OnOk result ((other : Step) → HasFilterFor filters.old other → HasFilterFor filters.new other) }
 {
-    let Some(column) = column_asked(step) else {
+    let Some(column) = compared_column(step) else {
         return Ok(());
     };
     if has_filter(filters.as_slice(), column) {
@@ -86,11 +86,11 @@ pub(crate) fn filters_of<'a>(
     pool: &'a Pool,
     cells: &'a Cells,
     steps: &[Step],
-) -> Result<Seq<Filter<'a>>, NoMemory>
+) -> Result<Seq<SortedColumn<'a>>, NoMemory>
     requires cells { AreCells pool.now cells.now }
     requires exist { All (AsksWithin cells.now) steps.now }
     ensures filters { IfOk result (λ filters. All (IsFilterOf pool.now cells.now) filters) }
-    ensures served { IfOk result (λ filters. All (HasFilterFor filters) steps.now) }
+    ensures has_column { IfOk result (λ filters. All (HasFilterFor filters) steps.now) }
 {
     let mut filters = Seq::new(alloc);
     for step in steps {
@@ -100,7 +100,7 @@ pub(crate) fn filters_of<'a>(
 }
 
 /// The sorted column with this number. `filters` must contain it.
-pub(crate) fn find<'a, 'b>(filters: &'b [Filter<'a>], column: u32) -> &'b FilterColumn<'a>
+pub(crate) fn find<'a, 'b>(filters: &'b [SortedColumn<'a>], column: u32) -> &'b FilterColumn<'a>
     requires { has_filter filters.now column ≡ true }
     ensures { (texts : List (List ℕ)) (cells : Cells) → All (IsFilterOf texts cells) filters.now
         → IsColumnIn texts cells column result.now }

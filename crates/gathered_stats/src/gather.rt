@@ -1,4 +1,4 @@
-//! Makes the statistics for the bounds of a query: first those of a joined column, then of a FROM entry, then of the query.
+//! Makes the statistics for the bounds of a query: of a joined column, of a FROM entry, and of the whole query.
 ghost use Rattle.std.specs.Prelude.{◌≡◌, ◌<◌, All, length, map, replicate, true, IfOk};
 ghost use Rattle.join_graph.specs.Conjuncts.{equalities_of, local_of};
 ghost use Rattle.level_bounds.specs.Keys.{HaveDifferentCharacters};
@@ -39,7 +39,7 @@ fn gather_column(
 ) -> Result<ColumnSteps, NoMemory>
     requires ready { IsReady table.now }
     requires whole { table.now.shows_all_rows ≡ true }
-    requires served { All (HasFilterFor table.now.filters) steps.now }
+    requires has_column { All (HasFilterFor table.now.filters) steps.now }
     ensures column { IfOk result (λ gathered. gathered.column ≡ column) }
     ensures steps { IfOk result (AreStepsOf table.now.pool.now (shown_cells table.now) table.now.accuracy steps.now) }
 {
@@ -61,7 +61,7 @@ fn gather_columns(
 ) -> Result<EntryStats, NoMemory>
     requires ready { IsReady table.now }
     requires whole { table.now.shows_all_rows ≡ true }
-    requires served { All (HasFilterFor table.now.filters) steps.now }
+    requires has_column { All (HasFilterFor table.now.filters) steps.now }
     ensures columns { IfOk result (λ stats. map (λ gathered. gathered.column) stats.columns ≡ columns.now) }
     ensures steps { IfOk result (λ stats.
         All (AreStepsOf table.now.pool.now (shown_cells table.now) table.now.accuracy steps.now) stats.columns) }
@@ -112,9 +112,9 @@ pub fn characters_differ(pool: &Pool)
     let _ = pool.len();
 }
 
-/// The statistics that the bounds of a query need (SafeBound, SIGMOD 2023). For each FROM entry and each of its joined columns they have the steps of
-/// the entry's own conjuncts, each step with its list. `parts` is the result of `split` for the query. `accuracy` is the accuracy of compression: a
-/// larger one makes lists that are nearer to the degree sequences and have more runs. On `NoMemory` nothing is kept.
+/// The statistics that the bounds of a query need (SafeBound, SIGMOD 2023). For each FROM entry and each of its joined columns they have the steps
+/// of the entry's own conjuncts, each step with its list. `parts` is the result of `split` for the query. `accuracy` is the accuracy of compression:
+/// at a larger accuracy the lists are nearer to the degree sequences and have more runs. On `NoMemory` nothing is kept.
 pub fn gather_query(
     alloc: Global,
     query: &Query,

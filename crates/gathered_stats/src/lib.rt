@@ -8,7 +8,7 @@
 //! joined column, the rest list of a filter column is made for the first value that needs it, and copied for further values.
 //!
 //! `gather_paired` is for conditions that are carried along a reference to a key. Each row of one entry is paired with the row of another entry to
-//! which it refers. The filter columns are those of the second entry, and the joined columns are those of the first. If the rows are all rows of the
+//! which it refers. The filter columns belong to the second entry, and the joined columns to the first. If the rows are all rows of the
 //! first entry's table, the list of all rows isn't made again: it is taken from the first entry's own steps, if they have it.
 //!
 //! In contracts `statistics_of` (in `specs/Statistics.antt`) says what the statistics tell. `IsGatheredForPaired` says what `gather_paired` returns.
@@ -31,6 +31,6 @@ mod rests;
 mod wholes;
 
 pub use columns::{asked_columns, joined_columns};
-pub use filters::column_asked;
+pub use filters::compared_column;
 pub use gather::{characters_differ, gather_query};
 pub use paired_rows::{PairedRows, gather_paired};

@@ -31,7 +31,7 @@ pub(crate) fn asks_for_all_rows(step: &Step) -> bool
     }
 }
 
-fn asks_for_whole(steps: &[Step]) -> bool
+fn any_asks_for_all_rows(steps: &[Step]) -> bool
     ensures { result ≡ list_any asks_for_all_rows steps.now }
 {
     steps.iter().any(|step| asks_for_all_rows(step))
@@ -130,7 +130,7 @@ impl EntryTable<'_> {
         ensures whole { IfOk result (λ list. list_any asks_for_all_rows steps.now ≡ true → list ≡ compressed_degrees self.now.accuracy keys.now) }
         ensures small { IfOk result (λ list. sum list ≤ 2 ^ 32) }
     {
-        if asks_for_whole(steps) {
+        if any_asks_for_all_rows(steps) {
             return whole_list(alloc, keys, self.accuracy);
         }
         Ok(Pieces::empty(alloc))
@@ -148,7 +148,7 @@ impl EntryTable<'_> {
         requires keys { length keys.now ≡ (shown_cells self.now).rows }
         requires whole { asks_for_all_rows step.now ≡ true → whole.now ≡ compressed_degrees self.now.accuracy keys.now }
         requires rows { sum whole.now ≤ 2 ^ 32 }
-        requires served { HasFilterFor self.now.filters step.now }
+        requires has_column { HasFilterFor self.now.filters step.now }
         requires rests { All (IsRestOf self.now keys.now) rests.old }
         ensures list { IfOk result (λ listed_step. (lists : ColumnLists)
             → AreColumnListsOf self.now keys.now lists → listed_step ≡ with_list lists step.now) }
@@ -178,7 +178,7 @@ impl EntryTable<'_> {
     ) -> Result<ColumnSteps, NoMemory>
         requires ready { IsReady self.now }
         requires keys { length keys.now ≡ (shown_cells self.now).rows }
-        requires served { All (HasFilterFor self.now.filters) steps.now }
+        requires has_column { All (HasFilterFor self.now.filters) steps.now }
         ensures column { IfOk result (λ gathered. gathered.column ≡ column) }
         ensures steps { IfOk result (λ gathered. (lists : ColumnLists)
             → AreColumnListsOf self.now keys.now lists → gathered.steps ≡ map (with_list lists) steps.now) }
@@ -200,7 +200,7 @@ impl EntryTable<'_> {
         requires keys { length keys.now ≡ (shown_cells self.now).rows }
         requires whole { list_any asks_for_all_rows steps.now ≡ true → whole.now ≡ compressed_degrees self.now.accuracy keys.now }
         requires rows { sum whole.now ≤ 2 ^ 32 }
-        requires served { All (HasFilterFor self.now.filters) steps.now }
+        requires has_column { All (HasFilterFor self.now.filters) steps.now }
         ensures column { IfOk result (λ gathered. gathered.column ≡ column) }
         ensures steps { IfOk result (λ gathered. (lists : ColumnLists)
             → AreColumnListsOf self.now keys.now lists → gathered.steps ≡ map (with_list lists) steps.now) }

@@ -1,5 +1,5 @@
-//! Gathers the steps of an entry's own conjuncts over chosen rows of its table, with lists for the joined columns of another entry. Each of these
-//! rows is paired with a row of the other entry (`PairedRows`).
+//! Gathers the steps of an entry's own conjuncts over chosen rows of its table, with lists for the joined columns of another entry. Each chosen row
+//! is paired with a row of the other entry (`PairedRows`).
 ghost use Rattle.std.specs.Prelude.{◌≡◌, ℕ, ◌==◌, ◌<◌, ◌^◌, All, length, map, slice_index, true, false, IfOk, IfSome, OnOk};
 ghost use Rattle.std.specs.List.{list_any, range_with_len};
 ghost use Rattle.join_graph.specs.Conjuncts.{equalities_of, local_of};
@@ -7,7 +7,7 @@ ghost use Rattle.predicate_bounds.specs.declared.steps.Step.{Step};
 ghost use Rattle.sql_meaning.specs.Databases.{AreCells, IsDatabaseOf};
 ghost use Rattle.sql_meaning.specs.Tables.{cells_of};
 ghost use Rattle.cond_stats.specs.Lists.{compressed_degrees};
-ghost use Rattle.gathered_stats.specs.Asked.{AreStepsOf, AsksWithin, IsGathered, column_asked};
+ghost use Rattle.gathered_stats.specs.Asked.{AreStepsOf, AsksWithin, IsGathered, compared_column};
 ghost use Rattle.gathered_stats.specs.PairedRows.{ArePicked, AreGatheredForPaired, AreStepsOfPaired, IsGatheredForPaired, IsPicked, HasColumnFor};
 ghost use Rattle.gathered_stats.specs.Columns.{KeysHaveLists, keys_in};
 ghost use Rattle.gathered_stats.specs.Filters.{IsFilterOf, IsReady, HasFilterFor};
@@ -15,7 +15,7 @@ ghost use Rattle.gathered_stats.specs.ShownCells.{AreRowNumbersOf, cells_at, sho
 
 use crate::columns::joined_columns;
 use crate::entry_table::{EntryTable, cells_in_entry};
-use crate::filters::{Filter, column_asked};
+use crate::filters::{SortedColumn, compared_column};
 use crate::gather::characters_differ;
 use crate::wholes::whole_of;
 use base_io::{NoMemory, Seq};
@@ -93,10 +93,10 @@ fn add_picked(
     requires rows { AreRowNumbersOf cells.now rows.now }
     requires columns { ArePicked cells.now rows.now columns.old }
     ensures columns { OnOk result (ArePicked cells.now rows.now columns.new) }
-    ensures served { OnOk result (HasColumnFor columns.new step.now) }
+    ensures has_column { OnOk result (HasColumnFor columns.new step.now) }
     ensures kept { OnOk result ((other : Step) → HasColumnFor columns.old other → HasColumnFor columns.new other) }
 {
-    let Some(column) = column_asked(step) else {
+    let Some(column) = compared_column(step) else {
         return Ok(());
     };
     if is_picked(columns.as_slice(), column) {
@@ -117,7 +117,7 @@ fn picked_columns(
     requires exist { All (AsksWithin cells.now) steps.now }
     requires rows { AreRowNumbersOf cells.now rows.now }
     ensures columns { IfOk result (ArePicked cells.now rows.now) }
-    ensures served { IfOk result (λ columns. All (HasColumnFor columns) steps.now) }
+    ensures has_column { IfOk result (λ columns. All (HasColumnFor columns) steps.now) }
 {
     let mut columns = Seq::new(alloc);
     for step in steps {
@@ -133,18 +133,18 @@ fn sorted_columns<'a>(
     cells: &Cells,
     rows: &[u32],
     columns: &'a [PickedColumn],
-) -> Result<Seq<Filter<'a>>, NoMemory>
+) -> Result<Seq<SortedColumn<'a>>, NoMemory>
     requires cells { AreCells pool.now cells.now }
     requires rows { AreRowNumbersOf cells.now rows.now }
     requires few { length rows.now < 2 ^ 32 }
     requires columns { ArePicked cells.now rows.now columns.now }
     ensures filters { IfOk result (λ filters. All (IsFilterOf pool.now (cells_at rows.now cells.now)) filters) }
-    ensures served { IfOk result (λ filters. (step : Step) → HasColumnFor columns.now step → HasFilterFor filters step) }
+    ensures has_column { IfOk result (λ filters. (step : Step) → HasColumnFor columns.now step → HasFilterFor filters step) }
 {
     let mut filters = Seq::new(alloc);
     for one in columns {
         let sorted = FilterColumn::new(alloc, pool, one.kind, one.cells.as_slice())?;
-        filters.push(Filter {
+        filters.push(SortedColumn {
             column: one.column,
             sorted,
         })?;
@@ -190,7 +190,7 @@ fn gather_other(
     whole: Option<&Pieces>,
 ) -> Result<ColumnSteps, NoMemory>
     requires ready { IsReady table.now }
-    requires served { All (HasFilterFor table.now.filters) steps.now }
+    requires has_column { All (HasFilterFor table.now.filters) steps.now }
     requires rows { AreRowNumbersOf cells.now rows.now }
     requires beside { length rows.now ≡ length table.now.rows.now }
     requires at_rows { table.now.shows_all_rows ≡ false }
@@ -220,30 +220,30 @@ fn gather_for_other_entry(
     rows: &[u32],
     columns: &[u32],
     own_steps: &[Step],
-    own: &EntryStats,
+    other_stats: &EntryStats,
 ) -> Result<EntryStats, NoMemory>
     requires ready { IsReady table.now }
-    requires served { All (HasFilterFor table.now.filters) steps.now }
+    requires has_column { All (HasFilterFor table.now.filters) steps.now }
     requires rows { AreRowNumbersOf cells.now rows.now }
     requires beside { length rows.now ≡ length table.now.rows.now }
     requires at_rows { table.now.shows_all_rows ≡ false }
     requires cells { AreCells table.now.pool.now cells.now }
     requires columns { All (λ column. column < length cells.now.kinds) columns.now }
     requires lists { (column : ℕ) → column < length cells.now.kinds → KeysHaveLists table.now.pool.now cells.now table.now.accuracy column }
-    requires own { All (AreStepsOf table.now.pool.now cells.now table.now.accuracy own_steps.now) own.now.columns }
+    requires other_stats { All (AreStepsOf table.now.pool.now cells.now table.now.accuracy own_steps.now) other_stats.now.columns }
     ensures { IfOk result (AreGatheredForPaired table.now cells.now rows.now steps.now columns.now) }
 {
     let mut gathered = Seq::new(alloc);
     for column in columns {
-        let whole = whole_of(own_steps, own, *column);
+        let whole = whole_of(own_steps, other_stats, *column);
         gathered.push(gather_other(alloc, table, steps, cells, rows, *column, whole)?)?;
     }
     Ok(EntryStats { columns: gathered })
 }
 
-/// Gathers the steps of an entry's own conjuncts over chosen rows of its table. For each joined column of another entry, each step has a list. Each
-/// of these rows is paired with a row of the other entry (SafeBound, SIGMOD 2023: the statistics of a dimension's filters for the columns of a fact
-/// table).
+/// Gathers the steps of an entry's own conjuncts over chosen rows of its table. Each chosen row is paired with a row of another entry. For each
+/// joined column of the other entry, each step has a list. (SafeBound, SIGMOD 2023: the statistics of a dimension's filters for the columns of a
+/// fact table.)
 ///
 /// `parts` is what `split` gives for the query. Only cells of the columns that are asked for are copied. If the other entry's rows are all rows of
 /// its table in ascending order, its lists of all rows are taken from `other_stats`, where that has them.

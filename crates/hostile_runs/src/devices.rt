@@ -19,12 +19,14 @@ const PLAN: &[u8] = b"scan R 6\nscan S 5\nlevel 1 S 5\nlevel 2 R 12\n";
 
 const ROWS: &[u8] = b"X\r\n1\r\n1\r\n1\r\n1\r\n1\r\n1\r\n";
 
-const CUT: &[u8] = b"scan R 6\nscan S 5\nlevel 1 S 5\nlevel 2 R 12\nerror write out\n";
+const NOTES_IF_OUT_FAILS: &[u8] =
+    b"scan R 6\nscan S 5\nlevel 1 S 5\nlevel 2 R 12\nerror write out\n";
 
-const PLAN_CUT: &[u8] = b"error write notes\n";
+const LINE_IF_NOTES_FAIL: &[u8] = b"error write notes\n";
 
-// The answers while the store's calls fail one after another. Each answer is the code, the notes, a bar, and what `out` took.
-const READS: &[u8] =
+// The answers of the runs in which the store's first call fails, then its second, and so on. Each answer is the exit code, the notes, a bar, and what
+// `out` took.
+const ANSWERS_IF_STORE_FAILS: &[u8] =
     b"\x03error read schema.sql\n|\x03error read query.sql\n|\x03error read r.csv\n|\x03error read s.csv\n|\x00scan R 6\nscan S 5\nlevel 1 S 5\nlevel 2 R 12\n|X\r\n1\r\n1\r\n1\r\n1\r\n1\r\n1\r\n";
 
 // Which call of each device fails, counted from 1. With 0 no call fails.
@@ -43,7 +45,7 @@ const NO_CALL_FAILS: Failing = Failing {
 
 // What a run answered and wrote, and how often it called the store.
 #[derive(Debug, Drop)]
-struct Ran {
+struct RunResult {
     code: u8,
     calls: u64,
     notes: Vec<u8>,
@@ -68,7 +70,7 @@ fn sink(alloc: Global, failing: u64) -> Result<MemSink, NoMemory> {
 }
 
 // The exit status of a run over these devices.
-fn code<S: Store, O: Sink, N: Sink>(
+fn run_code<S: Store, O: Sink, N: Sink>(
     alloc: Global,
     store: &mut S,
     out: &mut O,
@@ -85,8 +87,8 @@ fn what_was_written(
     calls: u64,
     out: &MemSink,
     notes: &MemSink,
-) -> Result<Ran, NoMemory> {
-    Ok(Ran {
+) -> Result<RunResult, NoMemory> {
+    Ok(RunResult {
         code,
         calls,
         notes: Vec::from_slice(alloc, notes.written())?,
@@ -94,24 +96,24 @@ fn what_was_written(
     })
 }
 
-fn run_whole(alloc: Global, failing: Failing) -> Result<Ran, NoMemory> {
+fn run_whole(alloc: Global, failing: Failing) -> Result<RunResult, NoMemory> {
     let mut store = store(alloc, failing)?;
     let mut out = sink(alloc, failing.out)?;
     let mut notes = sink(alloc, failing.notes)?;
-    let code = code(alloc, &mut store, &mut out, &mut notes);
+    let code = run_code(alloc, &mut store, &mut out, &mut notes);
     what_was_written(alloc, code, store.calls, &out, &notes)
 }
 
 // A run over devices that transfer one byte a call.
-fn run_slowly(alloc: Global, failing: Failing) -> Result<Ran, NoMemory> {
+fn run_slowly(alloc: Global, failing: Failing) -> Result<RunResult, NoMemory> {
     let mut store = SlowStore::new(store(alloc, failing)?, 1);
     let mut out = SlowSink::new(sink(alloc, failing.out)?, 1);
     let mut notes = SlowSink::new(sink(alloc, failing.notes)?, 1);
-    let code = code(alloc, &mut store, &mut out, &mut notes);
+    let code = run_code(alloc, &mut store, &mut out, &mut notes);
     what_was_written(alloc, code, store.inner.calls, &out.inner, &notes.inner)
 }
 
-fn run(alloc: Global, slowly: bool, failing: Failing) -> Result<Ran, NoMemory> {
+fn run(alloc: Global, slowly: bool, failing: Failing) -> Result<RunResult, NoMemory> {
     if slowly {
         run_slowly(alloc, failing)
     } else {
@@ -119,7 +121,7 @@ fn run(alloc: Global, slowly: bool, failing: Failing) -> Result<Ran, NoMemory> {
     }
 }
 
-fn answer(alloc: Global, ran: &Ran) -> Result<Vec<u8>, NoMemory> {
+fn answer(alloc: Global, ran: &RunResult) -> Result<Vec<u8>, NoMemory> {
     let mut answer = Vec::new(alloc);
     answer.push(ran.code)?;
     answer.extend_from_slice(ran.notes.as_slice())?;
@@ -131,8 +133,8 @@ fn answer(alloc: Global, ran: &Ran) -> Result<Vec<u8>, NoMemory> {
 // The answers while the store fails at its first call, then at its second, and so on, until a run is done. If equal answers follow each other,
 // only the first is kept.
 fn read_answers(alloc: Global, slowly: bool) -> Result<Vec<u8>, NoMemory> {
-    let mut told = Vec::new(alloc);
-    let mut last = Vec::new(alloc);
+    let mut answers = Vec::new(alloc);
+    let mut last_answer = Vec::new(alloc);
     for k in 1u64..1000 {
         let ran = run(
             alloc,
@@ -143,15 +145,15 @@ fn read_answers(alloc: Global, slowly: bool) -> Result<Vec<u8>, NoMemory> {
             },
         )?;
         let answer = answer(alloc, &ran)?;
-        if answer.as_slice() != last.as_slice() {
-            told.extend_from_slice(answer.as_slice())?;
-            last = answer;
+        if answer.as_slice() != last_answer.as_slice() {
+            answers.extend_from_slice(answer.as_slice())?;
+            last_answer = answer;
         }
         if ran.code == 0 {
             break;
         }
     }
-    Ok(told)
+    Ok(answers)
 }
 
 // Each file takes one call for each transfer, and one more that finds its end. The four files have 148 bytes.
@@ -168,33 +170,37 @@ fn each_file_is_read_once(rt: HostRuntime) -> Result<(), Fail> {
 fn each_failing_read_names_its_file(rt: HostRuntime) -> Result<(), Fail> {
     for slowly in [false, true] {
         let told = read_answers(rt.alloc(), slowly)?;
-        assert_eq!(rt; told.as_slice(), READS, "slowly: {slowly}");
+        assert_eq!(rt; told.as_slice(), ANSWERS_IF_STORE_FAILS, "slowly: {slowly}");
     }
     Ok(())
 }
 
-fn is_done(ran: &Ran) -> bool {
+fn is_done(ran: &RunResult) -> bool {
     ran.code == 0 && ran.notes.as_slice() == PLAN && ran.out.as_slice() == ROWS
 }
 
 // The rows end where the k-th call failed: after k - 1 bytes, if each call takes one byte.
-fn is_cut(ran: &Ran, slowly: bool, k: u64) -> bool {
-    let place = !slowly || (ran.out.len() as u64).saturating_add(1) == k;
-    ran.code == 10 && ran.notes.as_slice() == CUT && ROWS.starts_with(ran.out.as_slice()) && place
+fn rows_end_at_failed_call(ran: &RunResult, slowly: bool, k: u64) -> bool {
+    let ends_there = !slowly || (ran.out.len() as u64).saturating_add(1) == k;
+    ran.code == 10
+        && ran.notes.as_slice() == NOTES_IF_OUT_FAILS
+        && ROWS.starts_with(ran.out.as_slice())
+        && ends_there
 }
 
 // The notes have the plan up to the k-th call, and then the line on the failure. No row is written.
-fn is_plan_cut(ran: &Ran, slowly: bool, k: u64) -> bool {
-    match ran.notes.as_slice().strip_suffix(PLAN_CUT) {
+fn plan_ends_at_failed_call(ran: &RunResult, slowly: bool, k: u64) -> bool {
+    match ran.notes.as_slice().strip_suffix(LINE_IF_NOTES_FAIL) {
         Some(front) => {
-            let place = !slowly || (front.len() as u64).saturating_add(1) == k;
-            ran.code == 10 && ran.out.is_empty() && PLAN.starts_with(front) && place
+            let ends_there = !slowly || (front.len() as u64).saturating_add(1) == k;
+            ran.code == 10 && ran.out.is_empty() && PLAN.starts_with(front) && ends_there
         }
         None => false,
     }
 }
 
-// Calls of `out` fail one after another, until a run is done. Tells whether each run before this run is cut, and whether there is such a run.
+// Makes the first call of `out` fail, then the second, and so on, until a run is done. Returns whether there was a run before the
+// done one, and each such run was cut.
 fn rows_are_cut(alloc: Global, slowly: bool) -> Result<bool, NoMemory> {
     for k in 1u64..1000 {
         let ran = run(
@@ -208,14 +214,14 @@ fn rows_are_cut(alloc: Global, slowly: bool) -> Result<bool, NoMemory> {
         if is_done(&ran) {
             return Ok(k > 1);
         }
-        if !is_cut(&ran, slowly, k) {
+        if !rows_end_at_failed_call(&ran, slowly, k) {
             break;
         }
     }
     Ok(false)
 }
 
-// As `rows_are_cut`, for calls of `notes`: a run in which one fails has written the beginning of the plan.
+// As `rows_are_cut`, for calls of `notes`: a run in which such a call fails has written the beginning of the plan.
 fn plans_are_cut(alloc: Global, slowly: bool) -> Result<bool, NoMemory> {
     for k in 1u64..1000 {
         let ran = run(
@@ -229,7 +235,7 @@ fn plans_are_cut(alloc: Global, slowly: bool) -> Result<bool, NoMemory> {
         if is_done(&ran) {
             return Ok(k > 1);
         }
-        if !is_plan_cut(&ran, slowly, k) {
+        if !plan_ends_at_failed_call(&ran, slowly, k) {
             break;
         }
     }

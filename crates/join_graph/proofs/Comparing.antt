@@ -9,7 +9,7 @@ use Rattle.query_types.specs.declared.types.Operand.{Operand}
 use Rattle.query_types.specs.declared.types.Cond.{Cond, And, Or, Not, Compare, out-roll-Cond}
 use Rattle.query_types.specs.declared.types.Cond.TheOpen as layer
 use Rattle.query_types.specs.declared.types.Cond.TheVariants.{rolls-And, rolls-Or, rolls-Not, rolls-Compare}
-use Rattle.join_graph.specs.Conjuncts.{column_of, column_operand, joining, compared, equality_in, equality_of}
+use Rattle.join_graph.specs.Conjuncts.{column_of, column_operand, equality_between, compared, equality_in, equality_of}
 
 pub equality_and : (members : List Cond) → equality_of (And members) ≡ None
 equality_and members = ap equality_of (sym (rolls-And members)) ∙ ap equality_in (out-roll-Cond (layer.And members))
@@ -23,15 +23,15 @@ equality_not member = ap equality_of (sym (rolls-Not member)) ∙ ap equality_in
 equality_compare : (o : Op) (left right : Operand) → equality_of (Compare o left right) ≡ compared o (column_of left) (column_of right)
 equality_compare o left right = ap equality_of (sym (rolls-Compare o left right)) ∙ ap equality_in (out-roll-Cond (layer.Compare o left right))
 
-no_column : (left : Option ColumnRef) → joining left None ≡ None
+no_column : (left : Option ColumnRef) → equality_between left None ≡ None
 no_column None = refl
 no_column (Some left) = refl
 
 pub equality_literal : (left right : Operand) → column_of right ≡ None → equality_of (Compare op.Eq left right) ≡ None
-equality_literal left right e = equality_compare op.Eq left right ∙ ap (joining (column_of left)) e ∙ no_column (column_of left)
+equality_literal left right e = equality_compare op.Eq left right ∙ ap (equality_between (column_of left)) e ∙ no_column (column_of left)
 
 pub equality_literal_left : (left right : Operand) → column_of left ≡ None → equality_of (Compare op.Eq left right) ≡ None
-equality_literal_left left right e = equality_compare op.Eq left right ∙ ap (λ c. joining c (column_of right)) e
+equality_literal_left left right e = equality_compare op.Eq left right ∙ ap (λ c. equality_between c (column_of right)) e
 
 pub equality_one : (entry a b : ℕ) → equality_of (Compare op.Eq (column_operand entry a) (column_operand entry b)) ≡ None
 equality_one entry a b = equality_compare op.Eq (column_operand entry a) (column_operand entry b) ∙ rw (eq-eqb entry entry refl) refl

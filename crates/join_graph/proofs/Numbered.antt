@@ -10,8 +10,8 @@ first_or_later : (x y : ℕ) (xs : List ℕ) (k : ℕ) → k < length (x ∷ xs)
 first_or_later x y xs zero h e = inl e
 first_or_later x y xs (suc k) h e = inr (k, omega arith, e)
 
-later : (x y : ℕ) (xs : List ℕ) → Contains xs y → Contains (x ∷ xs) y
-later x y xs c = let h : c.0 < length xs = c.1 in (suc c.0, omega arith, c.2)
+contains_later : (x y : ℕ) (xs : List ℕ) → Contains xs y → Contains (x ∷ xs) y
+contains_later x y xs c = let h : c.0 < length xs = c.1 in (suc c.0, omega arith, c.2)
 
 abbrev PassesAt : (Cond → Bool) → List Cond → ℕ → Type 0
 PassesAt test conds k = IsSomeAnd (slice_get conds k) (λ cond. IsTrue (test cond))
@@ -36,19 +36,19 @@ passes_from test first n (cond ∷ conds) c = elim (cases_Bool (test cond)) [
 pub number_passes : (test : Cond → Bool) (conds : List Cond) (k : ℕ) → Contains (numbers_where test 0 conds) k → PassesAt test conds k
 number_passes test conds k c = let none : k - 0 ≡ k = omega arith in subst (PassesAt test conds) none (passes_from test 0 k conds c).1
 
-listed_from : (test : Cond → Bool) (first k : ℕ) (conds : List Cond) → PassesAt test conds k → Contains (numbers_where test first conds) (first + k)
-listed_from test first k [] p = absurd p
-listed_from test first zero (cond ∷ conds) p =
+numbered_from : (test : Cond → Bool) (first k : ℕ) (conds : List Cond) → PassesAt test conds k → Contains (numbers_where test first conds) (first + k)
+numbered_from test first k [] p = absurd p
+numbered_from test first zero (cond ∷ conds) p =
     let none : first + 0 ≡ first = omega arith in
     let front : Contains (first ∷ numbers_where test (first + 1) conds) first = (0, omega arith, refl) in
     rw (none, p) front
-listed_from test first (suc k) (cond ∷ conds) p =
+numbered_from test first (suc k) (cond ∷ conds) p =
     let more : first + suc k ≡ first + 1 + k = omega arith in
-    let rest : Contains (numbers_where test (first + 1) conds) (first + 1 + k) = listed_from test (first + 1) k conds p in
+    let rest : Contains (numbers_where test (first + 1) conds) (first + 1 + k) = numbered_from test (first + 1) k conds p in
     rw more (elim (cases_Bool (test cond)) [
-      | inl t ↦ rw t (later first (first + 1 + k) (numbers_where test (first + 1) conds) rest)
+      | inl t ↦ rw t (contains_later first (first + 1 + k) (numbers_where test (first + 1) conds) rest)
       | inr f ↦ rw f rest
     ])
 
 pub passing_is_numbered : (test : Cond → Bool) (conds : List Cond) (k : ℕ) → PassesAt test conds k → Contains (numbers_where test 0 conds) k
-passing_is_numbered test conds k p = let none : 0 + k ≡ k = omega arith in subst (Contains (numbers_where test 0 conds)) none (listed_from test 0 k conds p)
+passing_is_numbered test conds k p = let none : 0 + k ≡ k = omega arith in subst (Contains (numbers_where test 0 conds)) none (numbered_from test 0 k conds p)

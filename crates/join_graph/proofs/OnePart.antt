@@ -7,10 +7,10 @@ use Rattle.query_types.specs.declared.types.Cond.{Cond}
 use Rattle.query_types.specs.declared.types.Query.{Query}
 use Rattle.join_graph.specs.declared.naming.EntriesNamed.{EntriesNamed}
 use Rattle.join_graph.specs.declared.naming.EntriesNamed.TheVariants as named
-use Rattle.join_graph.specs.Conjuncts.{equality_of, names_just, once_if, count_of_parts}
+use Rattle.join_graph.specs.Conjuncts.{equality_of, is_own_conjunct, once_if, count_of_parts}
 use Rattle.query_types.specs.Named.{NamesItsEntries, entries_named}
 use Rattle.join_graph.specs.Naming.{named_of, together}
-use Rattle.join_graph.proofs.NamedEntries.{tells_just, tells_one, just_named, one_named, equality_several}
+use Rattle.join_graph.proofs.NamedEntries.{names_no_other_entry, names_one_entry, only_named_is, one_named, equality_several}
 
 filter_same : (p q : ℕ → Bool) → ((e : ℕ) → p e ≡ q e) → (es : List ℕ) → filter p es ≡ filter q es
 filter_same p q same [] = refl
@@ -34,7 +34,7 @@ filter_one own from (suc n) h l = elim (cases_Bool (eqb own from)) [
 
 -- the conjunct is given by its equality, if it has one, and by the entries that it names (`EntriesNamed`)
 in_one_part : (entries : ℕ) (equality : Option Edge) (n : EntriesNamed) → ((edge : Edge) → equality ≡ Some edge → n ≡ named.Several) → ((own : ℕ) → n ≡ named.OneEntry own → own < entries)
-    → once_if (is_some equality) + length (filter (λ e. tells_just e n) (range_with_len 0 entries)) + once_if (is_none equality && not (tells_one n)) ≡ 1
+    → once_if (is_some equality) + length (filter (λ e. names_no_other_entry e n) (range_with_len 0 entries)) + once_if (is_none equality && not (names_one_entry n)) ≡ 1
 in_one_part entries (Some edge) n several below = rw (several edge refl, filter_none (range_with_len 0 entries)) refl
 in_one_part entries None named.NoEntry several below = rw (filter_none (range_with_len 0 entries)) refl
 in_one_part entries None named.Several several below = rw (filter_none (range_with_len 0 entries)) refl
@@ -54,7 +54,7 @@ own_below entries (x ∷ xs) all own e = first_named entries x (named_of xs) own
 
 one_part : (entries : ℕ) (c : Cond) → All (λ e. e < entries) (entries_named c) → count_of_parts entries c ≡ 1
 one_part entries c all =
-    rw (filter_same (λ e. names_just e c) (λ e. tells_just e (named_of (entries_named c))) (λ e. just_named e (entries_named c)) (range_with_len 0 entries), one_named (entries_named c))
+    rw (filter_same (λ e. is_own_conjunct e c) (λ e. names_no_other_entry e (named_of (entries_named c))) (λ e. only_named_is e (entries_named c)) (range_with_len 0 entries), one_named (entries_named c))
     (in_one_part entries (equality_of c) (named_of (entries_named c)) (equality_several c) (own_below entries (entries_named c) all))
 
 pub all_in_one_part : (query : Query) → NamesItsEntries query → All (λ c. count_of_parts (length query.from) c ≡ 1) query.conjuncts

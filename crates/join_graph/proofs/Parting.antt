@@ -10,20 +10,20 @@ use Rattle.berge_tree.specs.declared.edges.Edge.{Edge}
 use Rattle.berge_tree.specs.Testing.{merged_components}
 use Rattle.join_graph.specs.Kept.{equalities_within, joins_within, order_of_turn, kept_by_names, kept_in_order, kept_of}
 use Rattle.join_graph.specs.Names.{HasEntriesBelow16, HaveEntriesBelow16}
-use Rattle.join_graph.proofs.Turning.{append_all, are_named}
+use Rattle.join_graph.proofs.Turning.{append_all, have_entries_below_16}
 
 -- the state of the loop that joins two components. The names with indices below i are done
-pub record Joining (before now : List ℕ) (i old new : ℕ) : Type 0 where
+pub record MergeSoFar (before now : List ℕ) (i old new : ℕ) : Type 0 where
   pub done : (x : ℕ) → x < i → get_or now x 0 ≡ cond (eqb (get_or before x 0) old) new (get_or before x 0)
   pub left : (x : ℕ) → i ≤ x → get_or now x 0 ≡ get_or before x 0
 
-pub kept_agree : (g h : ℕ → ℕ) → ((x : ℕ) → x < greatest_entries → g x ≡ h x) → (es : List Edge) → HaveEntriesBelow16 es → kept_by_names g es ≡ kept_by_names h es
-kept_agree g h same [] named = refl
-kept_agree g h same (e ∷ es) named = rw (same e.left.entry named.0.0, same e.right.entry named.0.1)
+pub same_names_same_kept : (g h : ℕ → ℕ) → ((x : ℕ) → x < greatest_entries → g x ≡ h x) → (es : List Edge) → HaveEntriesBelow16 es → kept_by_names g es ≡ kept_by_names h es
+same_names_same_kept g h same [] named = refl
+same_names_same_kept g h same (e ∷ es) named = rw (same e.left.entry named.0.0, same e.right.entry named.0.1)
     (elim (eqb (h e.left.entry) (h e.right.entry)) as (λ t. cond t (kept_by_names g es) (e ∷ kept_by_names (merged_components g e.left.entry e.right.entry) es)
     ≡ cond t (kept_by_names h es) (e ∷ kept_by_names (merged_components h e.left.entry e.right.entry) es)) [
-      | true ↦ kept_agree g h same es named.1
-      | false ↦ ap (λ s. e ∷ s) (kept_agree (merged_components g e.left.entry e.right.entry) (merged_components h e.left.entry e.right.entry) more es named.1)
+      | true ↦ same_names_same_kept g h same es named.1
+      | false ↦ ap (λ s. e ∷ s) (same_names_same_kept (merged_components g e.left.entry e.right.entry) (merged_components h e.left.entry e.right.entry) more es named.1)
     ])
   where
     more : (x : ℕ) → x < greatest_entries → merged_components g e.left.entry e.right.entry x ≡ merged_components h e.left.entry e.right.entry x
@@ -39,13 +39,13 @@ equality_is_kept e names more kept longer rest small named differ is_longer is_m
     let t : eqb (g e.left.entry) (g e.right.entry) ≡ false = ne_eqb (g e.left.entry) (g e.right.entry) differ in
     ap (λ l. l ++ kept_by_names (λ x. get_or more x 0) rest) is_longer
     ∙ append_assoc kept (e ∷ []) (kept_by_names (λ x. get_or more x 0) rest)
-    ∙ ap (λ s. kept ++ e ∷ s) (kept_agree (λ x. get_or more x 0) (merged_components g e.left.entry e.right.entry) is_more rest named)
+    ∙ ap (λ s. kept ++ e ∷ s) (same_names_same_kept (λ x. get_or more x 0) (merged_components g e.left.entry e.right.entry) is_more rest named)
     ∙ ap (λ b. kept ++ cond b (kept_by_names g rest) (e ∷ kept_by_names (merged_components g e.left.entry e.right.entry) rest)) (sym t)
 
 -- ---- the walk through the equalities of a set
 
--- the state of the walk. The walk still goes through the set's equalities in `es`, and then through `rest`. At its end the kept equalities are `whole
--- rest`, and they include the equalities kept so far
+-- the state of the walk. The walk still goes through the set's equalities in `es`, and then through `rest`. `whole rest` has the equalities kept so
+-- far (`kept`), followed by those that the walk still keeps
 abbrev pub WalkEndsWith : ℕ → List ℕ → List Edge → List Edge → (List Edge → List Edge) → Type 0
 WalkEndsWith subset names kept es whole = (rest : List Edge) → HaveEntriesBelow16 rest → kept ++ kept_by_names (λ x. get_or names x 0) (equalities_within subset es ++ rest) ≡ whole rest
 
@@ -54,9 +54,9 @@ set_front : (subset i : ℕ) (es : List Edge) (d : Edge) → i < length es
 set_front subset i es d h = rw add-one (ap (equalities_within subset) (drop-cons es i d h))
 
 -- an equality that doesn't join entries of the set is skipped
-pub passes_by : (subset i : ℕ) (es : List Edge) (d : Edge) (names : List ℕ) (kept : List Edge) (whole : List Edge → List Edge) → i < length es → joins_within subset (get_or es i d) ≡ false
+pub equality_is_skipped : (subset i : ℕ) (es : List Edge) (d : Edge) (names : List ℕ) (kept : List Edge) (whole : List Edge → List Edge) → i < length es → joins_within subset (get_or es i d) ≡ false
     → WalkEndsWith subset names kept (drop i es) whole → WalkEndsWith subset names kept (drop (i + 1) es) whole
-passes_by subset i es d names kept whole h out leads rest named =
+equality_is_skipped subset i es d names kept whole h out leads rest named =
     let front : equalities_within subset (drop i es) ≡ equalities_within subset (drop (i + 1) es) = rw out at (set_front subset i es d h) in
     ap (λ s. kept ++ kept_by_names (λ x. get_or names x 0) (s ++ rest)) (sym front) ∙ leads rest named
 
@@ -66,22 +66,22 @@ pub equality_is_considered : (subset i : ℕ) (es : List Edge) (d : Edge) (names
     → WalkEndsWith subset names kept (drop i es) whole → WalkEndsWith subset more longer (drop (i + 1) es) whole
 equality_is_considered subset i es d names more kept longer whole h inside step leads rest named =
     let front : equalities_within subset (drop i es) ≡ get_or es i d ∷ equalities_within subset (drop (i + 1) es) = rw inside at (set_front subset i es d h) in
-    step (equalities_within subset (drop (i + 1) es) ++ rest) (append_all HasEntriesBelow16 (equalities_within subset (drop (i + 1) es)) rest (are_named subset (drop (i + 1) es)) named)
+    step (equalities_within subset (drop (i + 1) es) ++ rest) (append_all HasEntriesBelow16 (equalities_within subset (drop (i + 1) es)) rest (have_entries_below_16 subset (drop (i + 1) es)) named)
     ∙ ap (λ s. kept ++ kept_by_names (λ x. get_or names x 0) (s ++ rest)) (sym front) ∙ leads rest named
 
 -- a turn goes through the equalities from index i to the last, and then through those before index i
-pub goes_round : (subset turn i : ℕ) (es front back start kept kept' : List Edge) (own names names' : List ℕ)
+pub turn_wraps_around : (subset turn i : ℕ) (es front back start kept kept' : List Edge) (own names names' : List ℕ)
     → front ≡ take i es → back ≡ drop i es
     → equalities_within subset (take i es) ≡ take turn (equalities_within subset es) → equalities_within subset (drop i es) ≡ drop turn (equalities_within subset es)
     → ((x : ℕ) → x < greatest_entries → get_or own x 0 ≡ x) → start ≡ []
     → ((rest : List Edge) → HaveEntriesBelow16 rest → kept ++ kept_by_names (λ x. get_or names x 0) rest ≡ start ++ kept_by_names (λ x. get_or own x 0) (equalities_within subset back ++ rest))
     → ((rest : List Edge) → HaveEntriesBelow16 rest → kept' ++ kept_by_names (λ x. get_or names' x 0) rest ≡ kept ++ kept_by_names (λ x. get_or names x 0) (equalities_within subset front ++ rest))
     → kept' ≡ kept_of subset turn es
-goes_round subset turn i es front back start kept kept' own names names' is_front is_back before from is_own empty first second =
+turn_wraps_around subset turn i es front back start kept kept' own names names' is_front is_back before from is_own empty first second =
     let part : List Edge = equalities_within subset front ++ [] in
-    let named : HaveEntriesBelow16 part = append_all HasEntriesBelow16 (equalities_within subset front) [] (are_named subset front) tt in
+    let named : HaveEntriesBelow16 part = append_all HasEntriesBelow16 (equalities_within subset front) [] (have_entries_below_16 subset front) tt in
     let round : equalities_within subset back ++ part ≡ order_of_turn subset turn es = rw (append-nil, is_front, is_back, before, from) refl in
     sym (append-nil kept') ∙ second [] tt ∙ first part named
     ∙ ap (λ s. s ++ kept_by_names (λ x. get_or own x 0) (equalities_within subset back ++ part)) empty
-    ∙ kept_agree (λ x. get_or own x 0) (λ x. x) is_own (equalities_within subset back ++ part) (append_all HasEntriesBelow16 (equalities_within subset back) part (are_named subset back) named)
+    ∙ same_names_same_kept (λ x. get_or own x 0) (λ x. x) is_own (equalities_within subset back ++ part) (append_all HasEntriesBelow16 (equalities_within subset back) part (have_entries_below_16 subset back) named)
     ∙ ap kept_in_order round

@@ -59,23 +59,23 @@ kept_within subset turn es =
     has_within subset (kept_of subset turn es) (have_entries subset (kept_of subset turn es)
     (kept_all P (λ x. x) (order_of_turn subset turn es) (append_all P (drop turn of_set) (take turn of_set) (drop_all P turn of_set all) (take_all P turn of_set all))))
 
-joining_named : (subset : ℕ) (e : Edge) → joins_within subset e ≡ true → HasEntriesBelow16 e
-joining_named subset e t =
+joining_has_entries_below_16 : (subset : ℕ) (e : Edge) → joins_within subset e ≡ true → HasEntriesBelow16 e
+joining_has_entries_below_16 subset e t =
     let k : (has_entry subset e.left.entry ≡ true) × (has_entry subset e.right.entry ≡ true) = and_parts (has_entry subset e.left.entry) (has_entry subset e.right.entry) t in
     (entry_named e.left.entry k.0, entry_named e.right.entry k.1)
   where
     entry_named : (x : ℕ) → has_entry subset x ≡ true → x < greatest_entries
     entry_named x t = ltb-true x greatest_entries (and_parts _ _ t).0
 
-pub is_named : (subset : ℕ) (e : Edge) → joins_within subset e ≡ true → HasEntriesBelow16 e
-is_named = joining_named
+pub has_entries_below_16 : (subset : ℕ) (e : Edge) → joins_within subset e ≡ true → HasEntriesBelow16 e
+has_entries_below_16 = joining_has_entries_below_16
 
-pub are_named : (subset : ℕ) (es : List Edge) → HaveEntriesBelow16 (equalities_within subset es)
-are_named subset es = names (equalities_within subset es) (filter_all subset es)
+pub have_entries_below_16 : (subset : ℕ) (es : List Edge) → HaveEntriesBelow16 (equalities_within subset es)
+have_entries_below_16 subset es = names (equalities_within subset es) (filter_all subset es)
   where
     names : (es : List Edge) → AreJoining subset es → HaveEntriesBelow16 es
     names [] h = tt
-    names (e ∷ es) h = (joining_named subset e h.0, names es h.1)
+    names (e ∷ es) h = (joining_has_entries_below_16 subset e h.0, names es h.1)
 
 -- if exactly `turn` equalities of the set come before index i, the turn begins at index i
 pub turn_begins : (subset turn i : ℕ) (es : List Edge) → turn ≡ length (equalities_within subset (take i es))

@@ -18,8 +18,8 @@ use Rattle.query_types.specs.declared.types.Query.{Query}
 -- ---- the part of a conjunct
 
 -- the condition names this entry and no other entry
-abbrev pub names_just : ℕ → Cond → Bool
-names_just entry cond = is_only_named (entries_named cond) entry
+abbrev pub is_own_conjunct : ℕ → Cond → Bool
+is_own_conjunct entry cond = is_only_named (entries_named cond) entry
 
 abbrev pub column_operand : ℕ → ℕ → Operand
 column_operand from column = operand.Column (record { from = from; column = column })
@@ -30,14 +30,14 @@ column_of (operand.Int number) = None
 column_of (operand.Text text) = None
 
 -- the equality of two columns, if both exist and their entries differ
-abbrev pub joining : Option ColumnRef → Option ColumnRef → Option Edge
-joining None right = None
-joining (Some left) None = None
-joining (Some left) (Some right) =
+abbrev pub equality_between : Option ColumnRef → Option ColumnRef → Option Edge
+equality_between None right = None
+equality_between (Some left) None = None
+equality_between (Some left) (Some right) =
     if left.from == right.from then None else Some (record { left = place left.from left.column; right = place right.from right.column })
 
 abbrev pub compared : Op → Option ColumnRef → Option ColumnRef → Option Edge
-compared op.Eq left right = joining left right
+compared op.Eq left right = equality_between left right
 compared op.Ne left right = None
 compared op.Lt left right = None
 compared op.Le left right = None
@@ -54,12 +54,12 @@ equality_in (Cond-F.Compare op left right) = compared op (column_of left) (colum
 abbrev pub equality_of : Cond → Option Edge
 equality_of cond = equality_in (out-Cond cond)
 
--- whether the list has just one entry, which it may have several times
+-- whether the list isn't empty, and all its elements are the same entry
 abbrev pub have_one_entry : List ℕ → Bool
 have_one_entry [] = false
 have_one_entry (entry ∷ entries) = list_all (λ e. e == entry) entries
 
--- whether the condition is residual: it isn't an equality of two entries, and it names no entry or several
+-- whether the condition is residual: it isn't an equality of two entries, and it names no entry or several entries
 abbrev pub is_residual : Cond → Bool
 is_residual cond = is_none (equality_of cond) && not (have_one_entry (entries_named cond))
 
@@ -68,11 +68,11 @@ is_residual cond = is_none (equality_of cond) && not (have_one_entry (entries_na
 abbrev pub once_if : Bool → ℕ
 once_if holds = if holds then 1 else 0
 
--- how many parts have a condition. The parts are the equalities, the own conjuncts of each of the FROM entries (there are `entries` of them), and the
+-- in how many parts a condition is. The parts are the equalities, the own conjuncts of each FROM entry (the query has `entries` of them), and the
 -- residual conjuncts
 abbrev pub count_of_parts : ℕ → Cond → ℕ
 count_of_parts entries cond =
-    once_if (is_some (equality_of cond)) + length (filter (λ entry. names_just entry cond) (range_with_len 0 entries))
+    once_if (is_some (equality_of cond)) + length (filter (λ entry. is_own_conjunct entry cond) (range_with_len 0 entries))
     + once_if (is_residual cond)
 
 -- the numbers of the elements that pass the test. The list's elements are numbered from `first`
@@ -82,7 +82,7 @@ numbers_where test first (x ∷ xs) = if test x then first ∷ numbers_where tes
 
 -- for each FROM entry, the numbers of the conjuncts that name it and no other entry
 abbrev pub local_of : Query → List (List ℕ)
-local_of query = map (λ entry. numbers_where (names_just entry) 0 query.conjuncts) (range_with_len 0 (length query.from))
+local_of query = map (λ entry. numbers_where (is_own_conjunct entry) 0 query.conjuncts) (range_with_len 0 (length query.from))
 
 -- the equalities that join two entries, in text order
 abbrev pub equalities_of : Query → List Edge

@@ -1,4 +1,4 @@
--- The equalities that a set of entries keeps for its bound, turn by turn.
+-- The kept equalities of a set of entries, in each of its turns.
 use Rattle.std.specs.Prelude.{◌≡◌, ℕ, Bool, ◌&&◌, ◌==◌, if◌then◌else◌, List, [], ◌∷◌, ◌++◌, filter, length, take, drop, min, max}
 use Rattle.std.specs.List.{AllByRecursion}
 use Rattle.limits.specs.Profile.{most_turns}
@@ -63,6 +63,6 @@ kept_by_names name (e ∷ es) =
 abbrev pub kept_in_order : List Edge → List Edge
 kept_in_order es = kept_by_names (λ entry. entry) es
 
--- the equalities that a set keeps in a turn
+-- the kept equalities of a set in a turn
 abbrev pub kept_of : ℕ → ℕ → List Edge → List Edge
 kept_of subset turn es = kept_in_order (order_of_turn subset turn es)

@@ -1,4 +1,5 @@
--- Equalities whose entries have numbers below `greatest_entries`. A list of `greatest_entries` names has a name for each of these entries.
+-- Equalities whose entries have numbers below `greatest_entries`. So each of these entries is an index in a list of `greatest_entries` component
+-- names.
 use Rattle.std.specs.Prelude.{◌<◌, List}
 use Rattle.std.specs.List.{AllByRecursion}
 use Rattle.limits.specs.Profile.{greatest_entries}

@@ -1,4 +1,4 @@
--- Whether a list of entries has no entry, just one entry, or several.
+-- Whether a list of entries has no entry, just one entry, or several entries.
 use Rattle.std.specs.Prelude.{ℕ, Bool, true, false, ◌==◌, if◌then◌else◌, List, [], ◌∷◌, Option, Some, None}
 use Rattle.berge_tree.specs.declared.edges.Edge.{Edge}
 use Rattle.query_types.specs.declared.types.Cond.{Cond}

@@ -1,4 +1,4 @@
-//! Finds the equalities that a set of entries keeps in a turn.
+//! Finds the kept equalities of a set of entries in a turn.
 ghost use Rattle.std.specs.Prelude.{◌≡◌, ◌<◌, ◌≤◌, ◌++◌, ◌∷◌, List, take, drop, length, slice_index, IfOk, ℕ};
 ghost use Rattle.limits.specs.Profile.{greatest_entries};
 ghost use Rattle.berge_tree.specs.declared.edges.Edge.{Edge};
@@ -33,7 +33,7 @@ pub fn count_within(edges: &[Edge], subset: EntrySet) -> usize
 }
 
 /// How many turns a set has: one for each equality that joins two of its entries, but at least 1 and at most `MOST_TURNS`. The call takes no memory.
-pub fn turns(parts: &Parts, subset: EntrySet) -> u32
+pub fn count_turns(parts: &Parts, subset: EntrySet) -> u32
     ensures { result ≡ turn_count subset parts.now.equalities }
 {
     let count = count_within(parts.equalities.as_slice(), subset);
@@ -117,8 +117,8 @@ fn consider_all(
     Ok(())
 }
 
-/// The equalities that a set of entries keeps in a turn. The turn goes through the equalities that join two entries of the set: first from number
-/// `turn` to the last, then from number 0 to `turn` - 1. It keeps each equality whose two entries the kept equalities don't connect yet.
+/// The kept equalities of a set of entries in a turn. The turn goes through the equalities that join two entries of the set: first from number
+/// `turn` to the last, then from number 0 to `turn` - 1. An equality is kept if the equalities kept so far don't connect its two entries.
 ///
 /// The result may be passed to `rooted` of berge_tree, with the entries of this set.
 pub fn kept(

@@ -8,7 +8,7 @@ ghost use Rattle.entry_sets.specs.Sets.{entries_of_set};
 ghost use Rattle.berge_tree.specs.Testing.{edge_of};
 ghost use Rattle.query_grammar.specs.declared.tree.Op.TheVariants as op;
 ghost use Rattle.schema_types.specs.declared.types.Schema.{Schema};
-ghost use Rattle.query_types.specs.Validity.{IsOf};
+ghost use Rattle.query_types.specs.Validity.{IsQueryOf};
 ghost use Rattle.query_types.specs.declared.types.Cond.{Cond};
 ghost use Rattle.query_types.specs.declared.types.Cond.TheVariants as cond;
 ghost use Rattle.query_types.specs.declared.types.Operand.{Operand};
@@ -20,11 +20,11 @@ ghost use Rattle.join_graph.specs.Examples.{first_side, pair, second_side, seven
 ghost use Rattle.join_graph.specs.Kept.{AreConnected, Keeps, kept_in_order, kept_of, turn_count};
 
 /// For equalities in a given order there is exactly one list of kept equalities. `kept_in_order` computes this list.
-pub fn kept_equalities_are_one()
+pub fn kept_equalities_are_unique()
     ensures { (es kept : List Edge) → Keeps es kept ↔ (kept ≡ kept_in_order es) }
 {}
 
-/// The equalities that a set keeps in a turn join only entries of the set, and close no cycle. No class that they make has two columns of one entry.
+/// The kept equalities of a set in a turn join only entries of the set, and close no cycle. No class that they make has two columns of one entry.
 /// Their entries and classes make no cycle.
 pub fn kept_equalities_make_no_cycle()
     ensures within { (subset turn : ℕ) (es : List Edge) → AreWithin (entries_of_set subset) (kept_of subset turn es) }
@@ -32,13 +32,13 @@ pub fn kept_equalities_make_no_cycle()
     ensures classes { (subset turn : ℕ) (es : List Edge) → HasNoCycle (class_of (kept_of subset turn es)) }
 {}
 
-/// If the conjuncts name only FROM entries, each conjunct is in exactly one part. In a query over a schema they do.
+/// The conjuncts of a query over a schema name only FROM entries. If conjuncts name only FROM entries, each conjunct is in exactly one part.
 pub fn conjuncts_are_in_one_part()
-    ensures of_schema { (schema : Schema) (query : Query) → IsOf schema query → NamesItsEntries query }
+    ensures of_schema { (schema : Schema) (query : Query) → IsQueryOf schema query → NamesItsEntries query }
     ensures one { (query : Query) → NamesItsEntries query → All (λ cond. count_of_parts (length query.from) cond ≡ 1) query.conjuncts }
 {}
 
-/// `numbers_where`, counting from 0, lists exactly the indices of the conjuncts that pass the test.
+/// If conjuncts are numbered from 0, `numbers_where` has exactly the indices of the conjuncts that pass the test.
 pub fn numbers_are_indices()
     ensures { (test : Cond → Bool) (conds : List Cond) (k : ℕ)
         → Contains (numbers_where test 0 conds) k ↔ IsSomeAnd (slice_get conds k) (λ cond. IsTrue (test cond)) }

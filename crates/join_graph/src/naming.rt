@@ -1,4 +1,4 @@
-//! Finds whether a condition names no entry, one entry or several.
+//! Finds whether a condition names no entry, one entry or several entries.
 ghost use Rattle.std.specs.Prelude.{◌≡◌, map};
 ghost use Rattle.std.specs.List.{flat_map};
 ghost use Rattle.join_graph.specs.Conjuncts.{column_of};
@@ -72,7 +72,7 @@ fn named_by_all(members: &[Cond]) -> EntriesNamed
     names
 }
 
-/// Whether a condition names no entry, just one entry, or several.
+/// Whether a condition names no entry, just one entry, or several entries.
 #[cycle(naming)]
 pub(crate) fn named_by(cond: &Cond) -> EntriesNamed
     ensures { result ≡ named_of (entries_named cond.now) }

@@ -1,7 +1,7 @@
 //! Puts each conjunct of a query into a part: the own conjuncts of one FROM entry, the equalities, or all others.
 ghost use Rattle.std.specs.Prelude.{◌≡◌, ◌^◌, ◌<◌, length, map, IfOk, Some};
 ghost use Rattle.std.specs.List.{filter_map, range_with_len};
-ghost use Rattle.join_graph.specs.Conjuncts.{equalities_of, equality_of, joining, local_of, numbers_where, residual_of};
+ghost use Rattle.join_graph.specs.Conjuncts.{equalities_of, equality_of, equality_between, local_of, numbers_where, residual_of};
 ghost use Rattle.join_graph.specs.Naming.{edge_in, is_same_part, part_of};
 ghost use Rattle.join_graph.specs.declared.splitting.Part.TheVariants as part;
 
@@ -32,8 +32,8 @@ fn place_of(column: ColumnRef) -> Place
 }
 
 // The equality of two columns, if they are columns of different entries.
-fn joining(left: ColumnRef, right: ColumnRef) -> Option<Edge>
-    ensures { result ≡ joining (Some left) (Some right) }
+fn equality_between(left: ColumnRef, right: ColumnRef) -> Option<Edge>
+    ensures { result ≡ equality_between (Some left) (Some right) }
 {
     if left.from == right.from {
         return None;
@@ -54,7 +54,7 @@ fn equality_of(cond: &Cond) -> Option<Edge>
     if *op != Op::Eq {
         return None;
     }
-    joining(column_of(left)?, column_of(right)?)
+    equality_between(column_of(left)?, column_of(right)?)
 }
 
 fn part_of(cond: &Cond) -> Part

@@ -1,1 +1,2 @@
+mod OrderLevels
 mod TreeNodes

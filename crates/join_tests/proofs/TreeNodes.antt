@@ -1,15 +1,15 @@
 -- When a plan's tree has been joined, there are as many nodes as the tree has.
 use Rattle.std.proofs.Common.{◌≡◌, ℕ, ◌<◌, List, length, sym, subst, arith}
 use Rattle.std.specs.List.{AllByRecursion}
-use Rattle.tree_plans.specs.declared.bushy.BushyPlan.{BushyPlan}
-use Rattle.tree_plans.specs.TreePlans.{IsTreePlan}
+use Rattle.plans.specs.declared.bushy.BushyPlan.{BushyPlan}
+use Rattle.plans.specs.TreePlans.{IsTreePlan}
 use Rattle.tree_rows.specs.Nodes.{node_at, Node}
 use Rattle.tree_rows.specs.Trees.{entries_at, node_count}
 use Rattle.tree_rows.proofs.Once.{plan_once}
 use Rattle.join_tests.specs.Examples.{HasNodes}
 
-pub own_size : (n : ℕ) (plan : BushyPlan) → IsTreePlan n plan → IsTreePlan (length plan.scans) plan
-own_size n plan is = subst (λ (m : ℕ). IsTreePlan m plan) (sym is.scans) is
+pub plan_is_over_its_scans : (n : ℕ) (plan : BushyPlan) → IsTreePlan n plan → IsTreePlan (length plan.scans) plan
+plan_is_over_its_scans n plan is = subst (λ (m : ℕ). IsTreePlan m plan) (sym is.scans) is
 
 pub has_nodes : (n : ℕ) (plan : BushyPlan) (nodes : List Node) → IsTreePlan n plan → length nodes ≡ node_count plan
     → ((node : ℕ) → node < node_count plan → (node_at nodes node).entries ≡ entries_at plan node) → HasNodes n nodes

@@ -6,7 +6,7 @@ use limits::Accuracy;
 use std::alloc::Global;
 use std::test::Fail;
 
-fn found(alloc: Global) -> Result<(Seq<u64>, Seq<u128>), NoMemory> {
+fn bounds_of_triangle(alloc: Global) -> Result<(Seq<u64>, Seq<u128>), NoMemory> {
     let query = query(alloc)?;
     let db = database(alloc)?;
     let scans = scan_bounds(alloc, &query, &db, Accuracy::of(1))?;
@@ -16,7 +16,7 @@ fn found(alloc: Global) -> Result<(Seq<u64>, Seq<u128>), NoMemory> {
 
 #[test]
 fn two_sides_have_five_rows_and_all_three_nine(rt: HostRuntime) -> Result<(), Fail> {
-    let (scans, sets) = found(rt.alloc())?;
+    let (scans, sets) = bounds_of_triangle(rt.alloc())?;
     assert!(rt; scans.as_slice() == [3, 3, 3].as_slice());
     assert!(rt; sets.as_slice() == [1, 3, 3, 5, 3, 5, 5, 9].as_slice());
     Ok(())

@@ -1,5 +1,6 @@
-//! Tests of calls that the program makes in other ways. They compute the bounds of a query's scans and sets from its database, and join trees over
-//! whole scans with their rows. All are over three tables that are joined in a triangle. These calls have contracts of their own.
+//! Tests of bounds from a query's database, of the best join tree, and of the rows of its nodes over whole scans. In `orders` memory is reserved for
+//! an order, and the order is joined as its tree. All tests are over three tables that are joined in a triangle. The program makes these steps by
+//! other calls; the calls of this crate have contracts of their own.
 //!
 //! The tests have a crate of their own, so that no crate that they test is proved a second time.
 #![tactic(auto)]
@@ -10,6 +11,8 @@ mod bounds;
 mod bounds_of_queries;
 #[cfg(test)]
 mod leaves;
+#[cfg(test)]
+mod orders;
 #[cfg(test)]
 mod planned_trees;
 #[cfg(test)]

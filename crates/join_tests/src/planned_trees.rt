@@ -5,7 +5,7 @@ ghost use Rattle.order_search.specs.declared.refusal.PlanError.TheVariants as er
 ghost use Rattle.sql_meaning.specs.Databases.{IsDatabaseOf};
 ghost use Rattle.sql_meaning.specs.Tables.{tables_of};
 ghost use Rattle.planning.specs.Bounds.{scan_bounds_of, set_bounds_of};
-ghost use Rattle.tree_answers.specs.TreeAnswer.{tree_answer};
+ghost use Rattle.plan_answers.specs.TreeAnswer.{tree_answer};
 ghost use Rattle.join_steps.specs.Lists.{scans_of};
 ghost use Rattle.bushy_join.specs.Trees.{IsTreePlanOf};
 
@@ -14,9 +14,9 @@ use csv_tables::Database;
 use limits::Accuracy;
 use order_search::PlanError;
 use planning::from_statistics;
+use plans::BushyPlan;
 use query_types::Query;
 use std::alloc::Global;
-use tree_plans::BushyPlan;
 
 /// Gathers the statistics of a query's tables once, and finds the join tree that is best by the bounds from these statistics. The plan has a bound in
 /// rows for each scan and each inner node.

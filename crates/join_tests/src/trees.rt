@@ -14,13 +14,13 @@ use csv_tables::Database;
 use join_steps::scan_all;
 use limits::{Accuracy, MOST_ROWS};
 use order_search::PlanError;
+use plans::{BushyPlan, Join};
 use query_types::Query;
 use std::alloc::{AllocError, Global};
-use tree_plans::{BushyPlan, Join};
 use tree_rows::{BushyResult, reserve_bushy};
 
 #[derive(Debug, Drop)]
-struct Failed;
+pub(crate) struct Failed;
 
 impl From<NoMemory> for Failed {
     fn from(_: NoMemory) -> Self {
@@ -60,7 +60,12 @@ fn joined(alloc: Global, query: &Query, db: &Database) -> Result<JoinedTree, Fai
 }
 
 // The rows of a node, one after another. Each has the row number of each entry, and 9 for an entry that the node doesn't have.
-fn rows_of(alloc: Global, done: &BushyResult, node: u8, entries: usize) -> Result<Vec<u32>, Failed>
+pub(crate) fn rows_of(
+    alloc: Global,
+    done: &BushyResult,
+    node: u8,
+    entries: usize,
+) -> Result<Vec<u32>, Failed>
     requires node { node < length done.now.nodes }
     requires within { AllByRecursion (λ entry. entry < entries) (node_at done.now.nodes node).entries }
 {

@@ -131,7 +131,7 @@ pub fn database(alloc: Global) -> Result<Database, NoMemory>
     })
 }
 
-fn found(alloc: Global) -> Result<Seq<Seq<u32>>, NoMemory> {
+fn choices_of_triangle(alloc: Global) -> Result<Seq<Seq<u32>>, NoMemory> {
     let query = query(alloc)?;
     let db = database(alloc)?;
     answer_slow(alloc, &query, &db)
@@ -139,7 +139,7 @@ fn found(alloc: Global) -> Result<Seq<Seq<u32>>, NoMemory> {
 
 #[test]
 fn a_triangle_has_four_choices(rt: HostRuntime) -> Result<(), Failed> {
-    let found = found(rt.alloc())?;
+    let found = choices_of_triangle(rt.alloc())?;
     assert_eq!(rt; found.len(), 4);
     let wanted = [[0, 0, 0], [0, 1, 1], [1, 0, 2], [2, 2, 0]];
     for (choice, want) in found.as_slice().iter().zip(&wanted) {

@@ -1,4 +1,4 @@
--- These lemmas are about bounds of 64 bits. The greatest number of 64 bits excludes nothing.
+-- Facts about bounds of 64 bits. The greatest number of 64 bits, as a bound, excludes nothing.
 use Rattle.std.proofs.Common.{ℕ, ◌+◌, ◌≤◌, min, inl, inr, arith}
 use Rattle.std.proofs.lemmas.Bool.{cases_lt}
 use Rattle.safebound_bounds.specs.Meaning.{in_64_bits, no_bound}

@@ -4,8 +4,8 @@ use Rattle.safebound_bounds.specs.Meaning.{no_bound}
 use Rattle.joined_tables.specs.declared.joins.Join.{Join}
 use Rattle.joined_tables.specs.declared.joins.Join.TheVariants.{Anti, Full, Left, Right, Semi}
 
--- The most rows of a joined table. The inner join has at most `inner` rows, the left table `left`, and the right table `right`. An outer join
--- adds rows of a table to the inner join. A semi-join has a row of the left table once, however many pairs the row is in
+-- The most rows of a joined table. `inner` bounds the rows of the inner join, `left` those of the left table, and `right` those of the right table.
+-- An outer join adds rows of a table to the inner join. A semi-join has a row of the left table once, however many pairs the row is in
 abbrev pub most_joined : Join → ℕ → ℕ → ℕ → ℕ
 most_joined Left inner left right = inner + left
 most_joined Right inner left right = inner + right

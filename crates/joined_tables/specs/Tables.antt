@@ -26,23 +26,24 @@ nulls columns = replicate columns None
 abbrev pub inner_join : Condition → Table → Table → List RowWithNulls
 inner_join is_true left right = flat_map (λ row. map (λ other. row ++ other) (filter (is_true row) right.rows)) left.rows
 
--- the rows of the left table that are in a pair of the inner join, and those that are in no pair
+-- the rows of the left table that are in a pair of the inner join
 abbrev pub left_paired : Condition → Table → Table → List RowWithNulls
 left_paired is_true left right = filter (λ row. list_any (is_true row) right.rows) left.rows
 
-abbrev pub left_alone : Condition → Table → Table → List RowWithNulls
-left_alone is_true left right = filter (λ row. not (list_any (is_true row) right.rows)) left.rows
+-- the rows of the left table that are in no pair
+abbrev pub left_unpaired : Condition → Table → Table → List RowWithNulls
+left_unpaired is_true left right = filter (λ row. not (list_any (is_true row) right.rows)) left.rows
 
 -- the rows of the right table that are in no pair
-abbrev pub right_alone : Condition → Table → Table → List RowWithNulls
-right_alone is_true left right = filter (λ other. not (list_any (λ row. is_true row other) left.rows)) right.rows
+abbrev pub right_unpaired : Condition → Table → Table → List RowWithNulls
+right_unpaired is_true left right = filter (λ other. not (list_any (λ row. is_true row other) left.rows)) right.rows
 
--- the rows that are in no pair, with null values for the columns of the other table
+-- the rows of a table that are in no pair, with null values for the columns of the other table
 abbrev pub left_with_nulls : Condition → Table → Table → List RowWithNulls
-left_with_nulls is_true left right = map (λ row. row ++ nulls right.columns) (left_alone is_true left right)
+left_with_nulls is_true left right = map (λ row. row ++ nulls right.columns) (left_unpaired is_true left right)
 
 abbrev pub right_with_nulls : Condition → Table → Table → List RowWithNulls
-right_with_nulls is_true left right = map (λ other. nulls left.columns ++ other) (right_alone is_true left right)
+right_with_nulls is_true left right = map (λ other. nulls left.columns ++ other) (right_unpaired is_true left right)
 
 -- the rows of a joined table. Equal rows are all kept
 abbrev pub joined : Join → Condition → Table → Table → List RowWithNulls
@@ -50,4 +51,4 @@ joined Left is_true left right = inner_join is_true left right ++ left_with_null
 joined Right is_true left right = inner_join is_true left right ++ right_with_nulls is_true left right
 joined Full is_true left right = inner_join is_true left right ++ (left_with_nulls is_true left right ++ right_with_nulls is_true left right)
 joined Semi is_true left right = left_paired is_true left right
-joined Anti is_true left right = left_alone is_true left right
+joined Anti is_true left right = left_unpaired is_true left right

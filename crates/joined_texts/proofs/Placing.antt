@@ -1,5 +1,5 @@
--- The row numbers of a choice are written at the indexes of their entries. They are then a choice in FROM order, and the printed record is the record
--- of the choice.
+-- The row numbers of a choice are written at the indexes of their entries. So they are a choice in FROM order, and the printed record is the record
+-- of this choice.
 use Rattle.std.proofs.Common.{◌≡◌, ℕ, ◌<◌, ◌≤◌, true, false, eqb, List, [], ◌∷◌, length, slice_index, refl, ap, sym, ◌∙◌, subst, arith, inl, inr}
 use Rattle.std.specs.List.{AllByRecursion, IsDistinct}
 use Rattle.std.proofs.Math.Path.{fun_ext}
@@ -23,7 +23,7 @@ use Rattle.join_steps.specs.Lists.{IsOrderOf}
 use Rattle.join_steps.specs.Sides.{is_in}
 use Rattle.tree_rows.specs.Nodes.{with_choice}
 use Rattle.tree_rows.proofs.NodeFacts.{put_length}
-use Rattle.bushy_join.proofs.Putting.{choice_in, put_row}
+use Rattle.bushy_join.proofs.Putting.{chosen_row_exists, number_at_entry_is_chosen}
 use Rattle.printed_texts.specs.Lines.{IsChoice, choice_text}
 use Rattle.printed_texts.specs.Texts.{row_text, value_text}
 use Rattle.joined_texts.specs.JoinedRows.{choice_record}
@@ -53,46 +53,46 @@ has_each n order low once all x below = elim (cases_Bool (is_in order x)) [
   | inr gone ↦ (let more : length (x ∷ order) ≤ n = few_entries n (x ∷ order) (below, low) (IsDistinct-cons eqb x order (unlike order x gone) once) in absurd (omega (arith, more, all)))
 ]
 
-row_out : (order choice : List ℕ) (x : ℕ) → is_in order x ≡ false → row_in order choice x ≡ 0
-row_out [] choice x gone = refl
-row_out (e ∷ order) [] x gone = refl
-row_out (e ∷ order) (row ∷ choice) x gone = elim (cases_Bool (eqb x e)) [
+row_of_other_entry : (order choice : List ℕ) (x : ℕ) → is_in order x ≡ false → row_in order choice x ≡ 0
+row_of_other_entry [] choice x gone = refl
+row_of_other_entry (e ∷ order) [] x gone = refl
+row_of_other_entry (e ∷ order) (row ∷ choice) x gone = elim (cases_Bool (eqb x e)) [
   | inl t ↦ absurd (false≢true (sym (rw t at gone)))
-  | inr n ↦ (let rest : is_in order x ≡ false = rw n at gone in rw n (row_out order choice x rest))
+  | inr n ↦ (let rest : is_in order x ≡ false = rw n at gone in rw n (row_of_other_entry order choice x rest))
 ]
 
 -- ---- the row numbers of a choice, written at the indexes of their entries
 
 module _ (query : Query) (db : Database) (is : IsDatabaseOf query db) (entries : List ℕ) (order : IsOrderOf query entries) (choice rows : List ℕ)
     (whole : IsChoiceOf (row_counts (tables_of db)) entries choice) (size : length rows ≡ length query.from) where
-  within : AllByRecursion (λ entry. entry < length rows) entries
-  within = subst (λ (n : ℕ). AllByRecursion (λ entry. entry < n) entries) (sym size) order.entries
+  entries_below : AllByRecursion (λ entry. entry < length rows) entries
+  entries_below = subst (λ (n : ℕ). AllByRecursion (λ entry. entry < n) entries) (sym size) order.entries
 
-  long : length choice ≡ length entries
-  long = choice_length (row_counts (tables_of db)) entries choice whole
+  choice_long : length choice ≡ length entries
+  choice_long = choice_length (row_counts (tables_of db)) entries choice whole
 
-  here : (x : ℕ) → x < length query.from → is_in entries x ≡ true
-  here x low = has_each (length query.from) entries order.entries order.once order.all x low
+  in_entries : (x : ℕ) → x < length query.from → is_in entries x ≡ true
+  in_entries x low = has_each (length query.from) entries order.entries order.once order.all x low
 
-  put_size : length (with_choice entries choice rows) ≡ length query.from
-  put_size = put_length entries choice rows ∙ size
+  written_row_is_as_long : length (with_choice entries choice rows) ≡ length query.from
+  written_row_is_as_long = put_length entries choice rows ∙ size
 
   row_at : (x : ℕ) → slice_index (with_choice entries choice rows) x ≡ row_in entries choice x
   row_at x = elim (cases_Bool (is_in entries x)) [
-    | inl there ↦ put_row entries choice rows x order.once long within there
+    | inl there ↦ number_at_entry_is_chosen entries choice rows x order.once choice_long entries_below there
     | inr gone ↦ elim (cases_lt x (length query.from)) [
-      | inl low ↦ absurd (false≢true (sym gone ∙ here x low))
-      | inr high ↦ get_or_past (with_choice entries choice rows) x 0 (omega (arith, high, put_size)) ∙ sym (row_out entries choice x gone)
+      | inl low ↦ absurd (false≢true (sym gone ∙ in_entries x low))
+      | inr high ↦ get_or_past (with_choice entries choice rows) x 0 (omega (arith, high, written_row_is_as_long)) ∙ sym (row_of_other_entry entries choice x gone)
     ]
   ]
 
   pub is_choice : IsChoice db (with_choice entries choice rows)
   is_choice = record {
-    one_each = omega (arith, put_size, is.entries);
+    one_each = omega (arith, written_row_is_as_long, is.entries);
     exists = λ entry low. omega (
       arith,
       row_at entry,
-      choice_in (row_counts (tables_of db)) entries choice entry whole (here entry (omega (arith, low, is.entries))),
+      chosen_row_exists (row_counts (tables_of db)) entries choice entry whole (in_entries entry (omega (arith, low, is.entries))),
       rows_are db entry,
     );
   }

@@ -8,7 +8,7 @@ use Rattle.sql_meaning.specs.Answers.{conjuncts_of, selected}
 use Rattle.sql_meaning.specs.Levels.{all_hold, row_in}
 use Rattle.sql_meaning.specs.Tables.{Tables, tables_of}
 use Rattle.join_steps.specs.Levels.{query_level}
-use Rattle.tree_plans.specs.Orders.{level_node}
+use Rattle.plans.specs.Orders.{level_node}
 use Rattle.tree_rows.specs.Nodes.{Node, node_at}
 
 -- the values of the query's outputs for a choice of rows for the entries of this order
@@ -23,7 +23,7 @@ selected_rows query db entries choices = map (λ choice. selected_in query db en
 abbrev pub printed_rows : Query → Database → List ℕ → List Row
 printed_rows query db order = selected_rows query db order (query_level query db order (length order))
 
--- every conjunct that names no entry holds
+-- every conjunct that names no entry (such as 1 = 1) holds
 abbrev pub constants_of : Query → Tables → Bool
 constants_of query tables = all_hold (conjuncts_of query tables) [] (row_in [] [])
 

@@ -1,10 +1,9 @@
 //! Writes the audit text of an order.
 ghost use Rattle.std.specs.Prelude.{ℕ, ◌≡◌, ◌≤◌, ◌<◌, ◌+◌, ◌*◌, length};
-ghost use Rattle.std.specs.List.{AllByRecursion};
 ghost use Rattle.limits.specs.Profile.{most_entries};
 ghost use Rattle.base_io.specs.Devices.{growth};
 ghost use Rattle.base_io.specs.Writes.{WroteBuffered, Wrote};
-ghost use Rattle.plans.specs.LeftDeep.{IsPlan};
+ghost use Rattle.plans.specs.Orders.{level_node as node_along, order_of_tree, IsOrderTree};
 ghost use Rattle.printed_texts.specs.Plans.{audit_line, audit_lines, level_audits, rows_and_line_end};
 ghost use Rattle.sql_meaning.specs.Databases.{IsDatabaseOf};
 ghost use Rattle.joined_texts.specs.Printed.{constants_of, level_counts, rows_of_level};
@@ -14,10 +13,9 @@ use base_io::{Buffer, Failed, Sink};
 use csv_tables::Database;
 use join_steps::constants_hold;
 use limits::MOST_ENTRIES;
-use plans::Plan;
+use plans::{BushyPlan, entry_in_order, level_bound, level_node};
 use printed_texts::{alias_at, put_level_bound};
 use query_types::{Query, Source};
-use tree_plans::level_node;
 use tree_rows::BushyResult;
 
 const SPACE: &[u8] = b" ";
@@ -51,42 +49,53 @@ fn put_level<N: Sink>(
     put_row_count(rows, buffer, sink)
 }
 
-// How many rows level `k` of an order has. A leaf has the rows of its list. Level 1 has these rows if `constants` is true, and otherwise none.
-fn level_row_count(done: &BushyResult, order: &[u8], k: u8, constants: bool) -> u32
-    requires level { (1 ≤ k) × (k ≤ length order.now) }
-    requires few { length order.now ≤ most_entries }
-    requires entries { AllByRecursion (λ entry. entry < length order.now) order.now }
-    requires nodes { length done.now.nodes + 1 ≡ 2 * length order.now }
-    ensures { result ≡ length (rows_of_level constants order.now done.now.nodes k) }
+// The node of level `k` in the tree of an order.
+fn node_of_level(plan: &BushyPlan, k: u8) -> u8
+    requires plan { IsOrderTree (length plan.now.scans) plan.now }
+    requires few { length plan.now.scans ≤ most_entries }
+    requires level { (1 ≤ k) × (k ≤ length plan.now.scans) }
+    ensures node { let order = (order_of_tree plan.now).order in result ≡ node_along (length order) order k }
+    ensures there { result + 1 < 2 * length plan.now.scans }
+{
+    let n = plan.scans.len() as u8;
+    level_node(n, entry_in_order(plan, 0), k)
+}
+
+// How many rows level `k` has, in the order whose tree was joined: the number of rows of its node. But level 1 has no rows if `constants` is false;
+// its leaf keeps its list.
+fn level_row_count(done: &BushyResult, plan: &BushyPlan, k: u8, constants: bool) -> u32
+    requires plan { IsOrderTree (length plan.now.scans) plan.now }
+    requires few { length plan.now.scans ≤ most_entries }
+    requires level { (1 ≤ k) × (k ≤ length plan.now.scans) }
+    requires nodes { length done.now.nodes + 1 ≡ 2 * length plan.now.scans }
+    ensures { result ≡ length (rows_of_level constants (order_of_tree plan.now).order done.now.nodes k) }
 {
     if k == 1 && !constants {
         return 0;
     }
-    done.len(level_node(order.len() as u8, order, k))
+    done.len(node_of_level(plan, k))
 }
 
-// Writes a line for each level, in the order of the levels. `constants` says whether all conjuncts that name no entry hold.
+// Writes a line for each level, in the order of the levels. `constants` says whether all conjuncts that name no entry (such as 1 = 1) hold.
 fn put_levels<N: Sink>(
     done: &BushyResult,
+    plan: &BushyPlan,
     constants: bool,
     sources: &[Source],
-    order: &[u8],
-    bounds: &[u64],
     buffer: &mut Buffer,
     sink: &mut N,
 ) -> Result<(), Failed>
-    requires entries { AllByRecursion (λ entry. entry < length order.now) order.now }
-    requires all { length order.now ≡ length sources.now }
-    requires few { length order.now ≤ most_entries }
-    requires bounds { length bounds.now ≡ length order.now }
-    requires nodes { length done.now.nodes + 1 ≡ 2 * length order.now }
-    ensures { WroteBuffered (growth N.taken N.faults sink.old sink.new) buffer.old buffer.new
-        (level_audits 1 sources.now order.now bounds.now (level_counts constants order.now done.now.nodes)) result }
+    requires plan { IsOrderTree (length sources.now) plan.now }
+    requires few { length sources.now ≤ most_entries }
+    requires nodes { length done.now.nodes + 1 ≡ 2 * length sources.now }
+    ensures { let order = order_of_tree plan.now in WroteBuffered (growth N.taken N.faults sink.old sink.new) buffer.old buffer.new
+        (level_audits 1 sources.now order.order order.levels (level_counts constants order.order done.now.nodes)) result }
 {
-    'levels: for i in 0..order.len() {
-        let alias = alias_at(sources, order[i]);
-        let rows = level_row_count(done, order, i as u8 + 1, constants);
-        put_level(i as u64 + 1, alias, bounds[i], rows, buffer, sink)?;
+    'levels: for i in 0..sources.len() {
+        let alias = alias_at(sources, entry_in_order(plan, i));
+        let rows = level_row_count(done, plan, i as u8 + 1, constants);
+        let bound = level_bound(plan, i);
+        put_level(i as u64 + 1, alias, bound, rows, buffer, sink)?;
     }
     Ok(())
 }
@@ -96,22 +105,21 @@ fn put_levels<N: Sink>(
 /// of the text.
 pub fn write_audit<N: Sink>(
     done: &BushyResult,
-    plan: &Plan,
+    plan: &BushyPlan,
     query: &Query,
     db: &Database,
     sink: &mut N,
 ) -> Result<(), Failed>
     requires database { IsDatabaseOf query.now db.now }
-    requires plan { IsPlan (length query.now.from) plan.now }
+    requires plan { IsOrderTree (length query.now.from) plan.now }
     requires nodes { length done.now.nodes + 1 ≡ 2 * length query.now.from }
-    ensures { Wrote (growth N.taken N.faults sink.old sink.new)
-        (audit_lines query.now.from plan.now (level_counts (constants_of query.now (tables_of db.now)) plan.now.order done.now.nodes)) result }
+    ensures { let order = order_of_tree plan.now in Wrote (growth N.taken N.faults sink.old sink.new)
+        (audit_lines query.now.from order (level_counts (constants_of query.now (tables_of db.now)) order.order done.now.nodes)) result }
 {
     let mut buffer = Buffer::new();
     let sources = query.from.as_slice();
-    let (order, levels) = (plan.order.as_slice(), plan.levels.as_slice());
     let rows = [0; MOST_ENTRIES];
     let constants = constants_hold(query, db, &rows[..sources.len()]);
-    put_levels(done, constants, sources, order, levels, &mut buffer, sink)?;
+    put_levels(done, plan, constants, sources, &mut buffer, sink)?;
     buffer.flush(sink)
 }

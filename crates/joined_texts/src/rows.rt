@@ -58,8 +58,7 @@ fn put_rows<N: Sink>(
     Ok(())
 }
 
-// Writes the rows text: a header of the outputs' names, and a record of the outputs for each joined row, in the order of
-// the level or node.
+// Writes the rows text: a header with the outputs' names, and then a record for each joined row, in the order of these rows.
 fn write_listed<N: Sink>(
     query: &Query,
     db: &Database,
@@ -82,9 +81,8 @@ fn write_listed<N: Sink>(
     buffer.flush(sink)
 }
 
-/// Writes the rows text (RFC 4180) of a query whose entries were joined by a tree. It has a header of the outputs' names, and a record of the outputs
-/// for each row of the tree's root, in the order in which they are listed. If the sink fails, this returns `Failed`, and the sink has a prefix of the
-/// text.
+/// Writes the rows text (RFC 4180) of a query whose entries were joined by a tree. It has a header with the outputs' names, and then a record for
+/// each row of the tree's root, in the order of these rows. If the sink fails, this returns `Failed`, and the sink has a prefix of the text.
 pub fn write_rows<N: Sink>(
     done: &BushyResult,
     query: &Query,

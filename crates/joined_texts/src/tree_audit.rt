@@ -2,14 +2,14 @@
 ghost use Rattle.std.specs.Prelude.{◌≡◌, ◌≤◌, ◌+◌, length};
 ghost use Rattle.base_io.specs.Devices.{growth};
 ghost use Rattle.base_io.specs.Writes.{WroteBuffered, Wrote};
-ghost use Rattle.tree_plans.specs.TreePlans.{IsTreePlan};
+ghost use Rattle.plans.specs.TreePlans.{IsTreePlan};
 ghost use Rattle.printed_texts.specs.TreePlans.{node_audit, node_audits, tree_audits};
 ghost use Rattle.joined_texts.specs.Printed.{node_counts};
 
 use crate::audit::put_row_count;
 use base_io::{Buffer, Failed, Sink};
+use plans::{BushyPlan, Join};
 use printed_texts::put_node_bound;
-use tree_plans::{BushyPlan, Join};
 use tree_rows::BushyResult;
 
 fn put_node<N: Sink>(

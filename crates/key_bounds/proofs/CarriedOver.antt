@@ -1,10 +1,10 @@
--- The lists of statistics that are gathered for the rows of the widened table are the lists that are carried along an equality.
+-- Statistics that are gathered over the widened table's rows have exactly the lists that are carried along the equality.
 use Rattle.std.proofs.Common.{◌≡◌, ℕ, ◌+◌, ◌-◌, ◌^◌, ◌<◌, ◌≤◌, min, eqb, List, [], ◌∷◌, ◌++◌, length, map, take, get_or, Option, Some, option_map, find, slice_get, sum, refl, ap, sym, ◌∙◌, subst, inl, inr, ◌⊎◌, arith}
 use Rattle.std.specs.Prelude.{slice_index_or}
 use Rattle.std.specs.List.{All, Contains, IsDistinct, filter}
 use Rattle.std.proofs.lemmas.List.{get_or-map, length-map, map-append, take_more}
 use Rattle.std.proofs.lemmas.List.Elements.{All-contains, All-push, Contains-get_or}
-use Rattle.entry_sets.proofs.Listing.{in_front, in_none, in_rest, one_in}
+use Rattle.entry_sets.proofs.Listing.{in_front, not_in_empty, in_rest, in_front_or_rest}
 use Rattle.berge_tree.specs.declared.edges.Edge.{Edge}
 use Rattle.berge_tree.specs.declared.edges.Place.{Place}
 use Rattle.berge_tree.specs.Equalities.{places_of}
@@ -22,56 +22,56 @@ use Rattle.sql_meaning.specs.Databases.{IsDatabaseOf}
 use Rattle.sql_meaning.specs.Tables.{Tables, cells_of, row_counts, tables_of}
 use Rattle.sql_meaning.proofs.LoopFacts.{rows_are}
 use Rattle.level_bounds.specs.Keys.{HaveDifferentCharacters}
-use Rattle.level_bounds.proofs.Lists.{all_from, from_filter, from_map, in_map}
+use Rattle.level_bounds.proofs.Lists.{from_members, from_filter, from_map, in_map}
 use Rattle.reduced_scans.proofs.OfQuery.{JoinsKinds, joins_kinds}
 use Rattle.filtered_lists.specs.Lists.{ColumnLists}
 use Rattle.predicate_bounds.specs.declared.columns.ColumnSteps.{ColumnSteps}
 use Rattle.predicate_bounds.specs.declared.columns.EntryStats.{EntryStats}
 use Rattle.predicate_bounds.specs.declared.columns.QueryStats.{QueryStats}
 use Rattle.predicate_bounds.specs.declared.running.ListStep.{ListStep}
-use Rattle.predicate_bounds.specs.ListRuns.{after_list_steps, top_of}
+use Rattle.predicate_bounds.specs.ListRuns.{after_list_steps, top_list}
 use Rattle.predicate_bounds.specs.StatsLists.{steps_with_lists, columns_of, first_steps, list_on_top, list_in_stats, row_bound_in_stats}
 use Rattle.predicate_bounds.proofs.Answering.{lists_answer}
 use Rattle.gathered_stats.specs.Asked.{joined_columns}
 use Rattle.gathered_stats.specs.PairedRows.{IsGatheredForPaired}
 use Rattle.gathered_stats.specs.ShownCells.{AreRowNumbersOf}
 use Rattle.gathered_stats.proofs.Joined.{joined_exist, place_exists, place_joined}
-use Rattle.gathered_stats.proofs.StatisticsOfTables.{first_one, found_one}
-use Rattle.key_carriers.specs.Carriers.{with_exchanged_sides, carriers, carries, exchanged}
+use Rattle.gathered_stats.proofs.StatisticsOfTables.{first_has, found_has}
+use Rattle.key_carriers.specs.Carriers.{with_exchanged_sides, carrying_equalities, carries, exchanged}
 use Rattle.key_carriers.specs.Cells.{AreOfOneKind}
 use Rattle.key_carriers.specs.Widened.{referred, referring, tables_at}
-use Rattle.key_carriers.proofs.Referring.{as_many, few_referring, referred_low, referring_low}
+use Rattle.key_carriers.proofs.Referring.{as_many, referring_at_most_rows, referred_rows_exist, referring_rows_exist}
 use Rattle.key_stats.specs.declared.carried.CarriedBounds.{CarriedBounds}
-use Rattle.key_stats.specs.Carrying.{TellAlong, TellsCarried}
+use Rattle.key_stats.specs.Carrying.{HaveCarriedBounds, HasCarriedBounds}
 use Rattle.key_stats.specs.Lists.{carried_list, carried_lists, carried_rows}
 use Rattle.key_stats.proofs.CarriedLists.{carried_sum}
-use Rattle.key_bounds.specs.Carrying.{AddUp, IsEqualityEitherWay}
+use Rattle.key_bounds.specs.Carrying.{ListsSumToRows, IsEqualityEitherWay}
 use Rattle.key_bounds.proofs.CellsBeside.{lists_beside}
 
 -- ---- an equality of the query, perhaps with its sides exchanged
 
-from_both : (es : List Edge) (e : Edge) → Contains (with_exchanged_sides es) e → ((f : Edge) × Contains es f × (e ≡ f)) ⊎ ((f : Edge) × Contains es f × (e ≡ exchanged f))
-from_both [] e has = absurd (in_none e has)
-from_both (f ∷ es) e has = elim (one_in f (exchanged f ∷ with_exchanged_sides es) e has) [
+from_both_ways : (es : List Edge) (e : Edge) → Contains (with_exchanged_sides es) e → ((f : Edge) × Contains es f × (e ≡ f)) ⊎ ((f : Edge) × Contains es f × (e ≡ exchanged f))
+from_both_ways [] e has = absurd (not_in_empty e has)
+from_both_ways (f ∷ es) e has = elim (in_front_or_rest f (exchanged f ∷ with_exchanged_sides es) e has) [
   | inr is ↦ inl (f, in_front f es f refl, is)
-  | inl later ↦ elim (one_in (exchanged f) (with_exchanged_sides es) e later) [
+  | inl later ↦ elim (in_front_or_rest (exchanged f) (with_exchanged_sides es) e later) [
     | inr is ↦ inr (f, in_front f es f refl, is)
-    | inl rest ↦ elim (from_both es e rest) [
+    | inl rest ↦ elim (from_both_ways es e rest) [
       | inl at ↦ inl (at.0, in_rest f es at.0 at.1, at.2)
       | inr at ↦ inr (at.0, in_rest f es at.0 at.1, at.2)
     ]
   ]
 ]
 
-of_both : (P : Edge → Type 0) (es : List Edge) (e : Edge) → ((f : Edge) → Contains es f → P f × P (exchanged f)) → Contains (with_exchanged_sides es) e → P e
-of_both P es e each has = elim (from_both es e has) [
+of_both_ways : (P : Edge → Type 0) (es : List Edge) (e : Edge) → ((f : Edge) → Contains es f → P f × P (exchanged f)) → Contains (with_exchanged_sides es) e → P e
+of_both_ways P es e each has = elim (from_both_ways es e has) [
   | inl at ↦ subst P (sym at.2) (each at.0 at.1).0
   | inr at ↦ subst P (sym at.2) (each at.0 at.1).1
 ]
 
 edge_places : (es : List Edge) (f : Edge) → Contains es f → Contains (places_of es) f.left × Contains (places_of es) f.right
-edge_places [] f has = absurd (in_none f has)
-edge_places (e ∷ es) f has = elim (one_in e es f has) [
+edge_places [] f has = absurd (not_in_empty f has)
+edge_places (e ∷ es) f has = elim (in_front_or_rest e es f has) [
   | inl later ↦ (let rest = edge_places es f later in (
     in_rest e.left (e.right ∷ places_of es) f.left (in_rest e.right (places_of es) f.left rest.0),
     in_rest e.left (e.right ∷ places_of es) f.right (in_rest e.right (places_of es) f.right rest.1),
@@ -82,35 +82,35 @@ edge_places (e ∷ es) f has = elim (one_in e es f has) [
   )
 ]
 
-below : (x y : ℕ) → min x y ≤ y
-below x y = omega arith
+min_at_most_right : (x y : ℕ) → min x y ≤ y
+min_at_most_right x y = omega arith
 
 module _ (query : Query) (db : Database) (of : IsDatabaseOf query db) (e : Edge) (joined : IsEqualityEitherWay query e) where
   pub of_one_kind : AreOfOneKind db e
-  of_one_kind = of_both (AreOfOneKind db) (equalities_of query) e (λ f has.
+  of_one_kind = of_both_ways (AreOfOneKind db) (equalities_of query) e (λ f has.
       let kinds : JoinsKinds db f = joins_kinds query db f of has in
       (record { text = kinds.text; left = kinds.left; right = kinds.right }, record { text = kinds.text; left = kinds.right; right = kinds.left })) joined
 
-  pub left_low : e.left.entry < length query.from
-  left_low = omega (arith, of_one_kind.left.exists.entry, of.entries)
+  pub left_entry_in_range : e.left.entry < length query.from
+  left_entry_in_range = omega (arith, of_one_kind.left.exists.entry, of.entries)
 
-  pub right_low : e.right.entry < length query.from
-  right_low = omega (arith, of_one_kind.right.exists.entry, of.entries)
+  pub right_entry_in_range : e.right.entry < length query.from
+  right_entry_in_range = omega (arith, of_one_kind.right.exists.entry, of.entries)
 
   pub rows_of_left : AreRowNumbersOf (cells_of db e.left.entry) (referring (tables_of db) e)
-  rows_of_left = subst (λ (n : ℕ). All (λ row. row < n) (referring (tables_of db) e)) (rows_are db e.left.entry) (referring_low (tables_of db) e)
+  rows_of_left = subst (λ (n : ℕ). All (λ row. row < n) (referring (tables_of db) e)) (rows_are db e.left.entry) (referring_rows_exist (tables_of db) e)
 
   pub rows_of_right : AreRowNumbersOf (cells_of db e.right.entry) (referred (tables_of db) e)
-  rows_of_right = subst (λ (n : ℕ). All (λ row. row < n) (referred (tables_of db) e)) (rows_are db e.right.entry) (referred_low (tables_of db) e)
+  rows_of_right = subst (λ (n : ℕ). All (λ row. row < n) (referred (tables_of db) e)) (rows_are db e.right.entry) (referred_rows_exist (tables_of db) e)
 
   left_joined : Contains (joined_columns e.left.entry (equalities_of query)) e.left.column
-  left_joined = of_both (λ f. Contains (joined_columns f.left.entry (equalities_of query)) f.left.column) (equalities_of query) e (λ f has.
+  left_joined = of_both_ways (λ f. Contains (joined_columns f.left.entry (equalities_of query)) f.left.column) (equalities_of query) e (λ f has.
       let places = edge_places (equalities_of query) f has in
       (place_joined (equalities_of query) f.left places.0, place_joined (equalities_of query) f.right places.1)) joined
 
   -- ---- statistics that were gathered for the rows of the widened table
 
-  module _ (differ : HaveDifferentCharacters db.pool) (few_rows : row_counts (tables_of db) e.left.entry ≤ most_rows) (accuracy : ℕ) (gathered : EntryStats)
+  module _ (differ : HaveDifferentCharacters db.pool) (rows_within_limit : row_counts (tables_of db) e.left.entry ≤ most_rows) (accuracy : ℕ) (gathered : EntryStats)
       (is : IsGatheredForPaired query db accuracy e.right.entry (referred (tables_of db) e) e.left.entry (referring (tables_of db) e) gathered) where
     abbrev stats : QueryStats
     stats = record { entries = gathered ∷ [] }
@@ -128,26 +128,26 @@ module _ (query : Query) (db : Database) (of : IsDatabaseOf query db) (e : Edge)
     numbers = map (λ g. g.column) gathered.columns
 
     column_exists : (k : ℕ) (d : ColumnSteps) → k < length gathered.columns → (get_or gathered.columns k d).column < length (cells_of db e.left.entry).kinds
-    column_exists k d low =
+    column_exists k d k_in_range =
         let same : (get_or gathered.columns k d).column ≡ get_or (joined_columns e.left.entry (equalities_of query)) k 0 =
-        sym (get_or-map (λ (g : ColumnSteps). g.column) gathered.columns k d 0 low) ∙ ap (λ (s : List ℕ). get_or s k 0) is.columns_are in
+        sym (get_or-map (λ (g : ColumnSteps). g.column) gathered.columns k d 0 k_in_range) ∙ ap (λ (s : List ℕ). get_or s k 0) is.columns_are in
         let within : k < length (joined_columns e.left.entry (equalities_of query)) =
-        omega (arith, low, ap (λ (s : List ℕ). length s) is.columns_are, length-map gathered.columns (λ (g : ColumnSteps). g.column)) in
+        omega (arith, k_in_range, ap (λ (s : List ℕ). length s) is.columns_are, length-map gathered.columns (λ (g : ColumnSteps). g.column)) in
         omega (arith, same, joined_exist query db of e.left.entry k 0 within)
 
     all_carried : All IsCarried gathered.columns
-    all_carried k d low =
-        is.steps_are k d low (lists_at (get_or gathered.columns k d).column)
+    all_carried k d k_in_range =
+        is.steps_are k d k_in_range (lists_at (get_or gathered.columns k d).column)
         (lists_beside db of.tables differ e.right.entry e.left.entry of_one_kind.right.exists.entry of_one_kind.left.exists.entry (referred (tables_of db) e) (referring (tables_of db) e)
-        rows_of_right rows_of_left (as_many (tables_of db) e) accuracy (get_or gathered.columns k d).column (column_exists k d low))
+        rows_of_right rows_of_left (as_many (tables_of db) e) accuracy (get_or gathered.columns k d).column (column_exists k d k_in_range))
 
-    left_of : (steps : List ListStep) (column : ℕ) → steps ≡ steps_with_lists query e.right.entry (lists_at column) → top_of (after_list_steps steps []) ≡ list_at column
+    left_of : (steps : List ListStep) (column : ℕ) → steps ≡ steps_with_lists query e.right.entry (lists_at column) → top_list (after_list_steps steps []) ≡ list_at column
     left_of steps column are =
-        ap (λ (s : List ListStep). top_of (after_list_steps s [])) are ∙ ap top_of (lists_answer (lists_at column) e.right.entry query.conjuncts)
+        ap (λ (s : List ListStep). top_list (after_list_steps s [])) are ∙ ap top_list (lists_answer (lists_at column) e.right.entry query.conjuncts)
 
     list_is : (column : ℕ) → Contains numbers column → list_in_stats stats 0 column ≡ list_at column
     list_is column has =
-        let one = found_one IsCarried gathered.columns column has all_carried in
+        let one = found_has IsCarried gathered.columns column has all_carried in
         ap (λ (o : Option ColumnSteps). list_on_top (option_map (λ (g : ColumnSteps). g.steps) o)) one.1
         ∙ left_of one.0.steps column (one.3 ∙ ap (λ (c : ℕ). steps_with_lists query e.right.entry (lists_at c)) one.2)
 
@@ -158,34 +158,34 @@ module _ (query : Query) (db : Database) (of : IsDatabaseOf query db) (e : Edge)
     few =
         let row_of : ℕ → Row = λ row. slice_index_or (tables_of db e.right.entry) row [] in
         let least : carried_rows query (tables_of db) e ≤ row_counts (tables_at (tables_of db) (referred (tables_of db) e)) e.right.entry =
-        below _ (row_counts (tables_at (tables_of db) (referred (tables_of db) e)) e.right.entry) in
-        omega (arith, least, length-map (referred (tables_of db) e) row_of, as_many (tables_of db) e, few_referring (tables_of db) e, few_rows)
+        min_at_most_right _ (row_counts (tables_at (tables_of db) (referred (tables_of db) e)) e.right.entry) in
+        omega (arith, least, length-map (referred (tables_of db) e) row_of, as_many (tables_of db) e, referring_at_most_rows (tables_of db) e, rows_within_limit)
 
     rows_is : row_bound_in_stats stats 0 ≡ carried_rows query (tables_of db) e
     rows_is =
-        let first = first_one IsCarried gathered.columns some all_carried in
+        let first = first_has IsCarried gathered.columns some all_carried in
         let list : list_on_top (first_steps stats 0) ≡ list_at first.0.column =
         ap (λ (o : Option ColumnSteps). list_on_top (option_map (λ (g : ColumnSteps). g.steps) o)) first.1 ∙ left_of first.0.steps first.0.column first.3 in
         let all : sum (list_on_top (first_steps stats 0)) ≡ carried_rows query (tables_of db) e = ap sum list ∙ carried_sum query (tables_of db) e accuracy first.0.column in
         omega (arith, all, few)
 
-    pub add_up : AddUp stats
-    add_up = record {
+    pub lists_sum_to_rows : ListsSumToRows stats
+    lists_sum_to_rows = record {
       there = omega arith;
       some = some;
       apart = subst (IsDistinct eqb) (sym is.columns_are) (IsDistinct-different (map (λ (p : Place). p.column) (filter (λ (p : Place). eqb p.entry e.left.entry) (places_of (equalities_of query)))));
-      sums = λ k d low.
+      sums = λ k d k_in_range.
           let g : ColumnSteps = get_or gathered.columns k d in
-          ap sum (list_is g.column (in_map (λ (g : ColumnSteps). g.column) gathered.columns g (Contains-get_or gathered.columns k d low)))
+          ap sum (list_is g.column (in_map (λ (g : ColumnSteps). g.column) gathered.columns g (Contains-get_or gathered.columns k d k_in_range)))
           ∙ carried_sum query (tables_of db) e accuracy g.column ∙ sym rows_is;
     }
 
     pub told : (made : EntryLists) → row_bound_of made e.left.entry ≡ Some (row_bound_in_stats stats 0)
         → All (λ g. list_of made e.left.entry g.column ≡ Some (list_in_stats stats 0 g.column)) gathered.columns
-        → TellsCarried query (tables_of db) accuracy (record { edge = e; lists = made })
+        → HasCarriedBounds query (tables_of db) accuracy (record { edge = e; lists = made })
     told made rows lists = record {
       rows = rows ∙ ap Some rows_is;
-      lists = all_from (λ (p : Place). p.entry ≡ e.left.entry → list_of made p.entry p.column ≡ Some (list_at p.column)) (places_of (equalities_of query)) (λ p has same.
+      lists = from_members (λ (p : Place). p.entry ≡ e.left.entry → list_of made p.entry p.column ≡ Some (list_at p.column)) (places_of (equalities_of query)) (λ p has same.
           let there : Contains numbers p.column = subst (λ (s : List ℕ). Contains s p.column) (sym is.columns_are)
           (subst (λ (n : ℕ). Contains (joined_columns n (equalities_of query)) p.column) same (place_joined (equalities_of query) p has)) in
           let at = from_map (λ (g : ColumnSteps). g.column) gathered.columns p.column there in
@@ -198,12 +198,12 @@ module _ (query : Query) (db : Database) (of : IsDatabaseOf query db) (e : Edge)
       abbrev of_entries : List EntryStats → QueryStats
       of_entries s = record { entries = s }
 
-      pub entries_add_up : AddUp (of_entries entries)
-      entries_add_up = subst (λ (s : List EntryStats). AddUp (of_entries s)) (sym only) add_up
+      pub entries_add_up : ListsSumToRows (of_entries entries)
+      entries_add_up = subst (λ (s : List EntryStats). ListsSumToRows (of_entries s)) (sym only) lists_sum_to_rows
 
       pub entries_told : (made : EntryLists) → row_bound_of made e.left.entry ≡ Some (row_bound_in_stats (of_entries entries) 0)
           → All (λ g. list_of made e.left.entry g.column ≡ Some (list_in_stats (of_entries entries) 0 g.column)) (columns_of (of_entries entries) 0)
-          → TellsCarried query (tables_of db) accuracy (record { edge = e; lists = made })
+          → HasCarriedBounds query (tables_of db) accuracy (record { edge = e; lists = made })
       entries_told made rows lists =
           told made (rows ∙ ap (λ (s : List EntryStats). Some (row_bound_in_stats (of_entries s) 0)) only)
           (subst (λ (s : List EntryStats). All (λ g. list_of made e.left.entry g.column ≡ Some (list_in_stats (of_entries s) 0 g.column)) (columns_of (of_entries s) 0)) only lists)
@@ -219,19 +219,19 @@ as_widened query db accuracy e others rows gathered is same made =
 
 pub entries_named : (query : Query) (db : Database) → IsDatabaseOf query db → EachNamedColumn (λ entry column. entry < length query.from) (equalities_of query)
 entries_named query db of =
-    all_from (λ (p : Place). p.entry < length query.from) (places_of (equalities_of query)) (λ p has. omega (arith, (place_exists query db of p has).entry, of.entries))
+    from_members (λ (p : Place). p.entry < length query.from) (places_of (equalities_of query)) (λ p has. omega (arith, (place_exists query db of p has).entry, of.entries))
 
-pub carriers_joined : (schema : Schema) (query : Query) (es read : List Edge) → es ≡ carriers schema query → read ≡ es → All (IsEqualityEitherWay query) read
+pub carriers_joined : (schema : Schema) (query : Query) (es read : List Edge) → es ≡ carrying_equalities schema query → read ≡ es → All (IsEqualityEitherWay query) read
 carriers_joined schema query es read are same =
-    subst (All (IsEqualityEitherWay query)) (sym (same ∙ are)) (λ k d low.
-    (from_filter (carries schema query) (with_exchanged_sides (equalities_of query)) (get_or (carriers schema query) k d) (Contains-get_or (carriers schema query) k d low)).0)
+    subst (All (IsEqualityEitherWay query)) (sym (same ∙ are)) (λ k d k_in_range.
+    (from_filter (carries schema query) (with_exchanged_sides (equalities_of query)) (get_or (carrying_equalities schema query) k d) (Contains-get_or (carrying_equalities schema query) k d k_in_range)).0)
 
 -- ---- the loop over the equalities
 
-pub told_more : (query : Query) (tables : Tables) (accuracy : ℕ) (es : List Edge) (i : ℕ) (d : Edge) (old new : List CarriedBounds) (one : CarriedBounds) → i < length es → one.edge ≡ get_or es i d
-    → TellsCarried query tables accuracy one → TellAlong query tables accuracy (take i es) old → new ≡ old ++ one ∷ [] → TellAlong query tables accuracy (take (i + 1) es) new
-told_more query tables accuracy es i d old new one low at here before pushed = record {
+pub tell_along_after_step : (query : Query) (tables : Tables) (accuracy : ℕ) (es : List Edge) (i : ℕ) (d : Edge) (old new : List CarriedBounds) (one : CarriedBounds) → i < length es → one.edge ≡ get_or es i d
+    → HasCarriedBounds query tables accuracy one → HaveCarriedBounds query tables accuracy (take i es) old → new ≡ old ++ one ∷ [] → HaveCarriedBounds query tables accuracy (take (i + 1) es) new
+tell_along_after_step query tables accuracy es i d old new one i_in_range at here before pushed = record {
   edges = ap (map (λ (c : CarriedBounds). c.edge)) pushed ∙ map-append (λ (c : CarriedBounds). c.edge) old (one ∷ []) ∙ ap (λ (s : List Edge). s ++ one.edge ∷ []) before.edges
-      ∙ ap (λ (x : Edge). take i es ++ x ∷ []) at ∙ sym (take_more es i d low);
-  tell = subst (All (TellsCarried query tables accuracy)) (sym pushed) (All-push (TellsCarried query tables accuracy) old one before.tell here);
+      ∙ ap (λ (x : Edge). take i es ++ x ∷ []) at ∙ sym (take_more es i d i_in_range);
+  tell = subst (All (HasCarriedBounds query tables accuracy)) (sym pushed) (All-push (HasCarriedBounds query tables accuracy) old one before.tell here);
 }

@@ -1,5 +1,5 @@
--- With carried conjuncts, a part of a set has the same bounds as in the set. The reason is that a carrier is joined with the entry to which it
--- carries, so both are in the same part.
+-- A part's bound is the same, whether conjuncts are carried within the whole set or only within the part. The reason is that a carrier is joined with
+-- the entry to which it carries, so both are in the same part.
 use Rattle.std.proofs.Common.{◌≡◌, ℕ, ◌<◌, ◌≤◌, Bool, true, false, not, ◌&&◌, cond, eqb, List, [], ◌∷◌, length, get_or, refl, ap, sym, ◌∙◌, subst, arith, inl, inr}
 use Rattle.std.specs.Prelude.{if◌then◌else◌, nat_lt}
 use Rattle.std.specs.List.{Contains, filter}
@@ -16,15 +16,15 @@ use Rattle.join_graph.specs.Kept.{equalities_within, joins_within}
 use Rattle.tree_bounds.specs.Columns.{EachNamedColumn}
 use Rattle.tree_bounds.specs.SetBounds.{SetHasLists, bound_of_set}
 use Rattle.tree_bounds.specs.TreeBounds.{EntryBounds, HasList}
-use Rattle.bound_fold.proofs.TestedSets.{each_in_set, each_named}
+use Rattle.bound_fold.proofs.TestedSets.{each_in_set, each_named_column}
 use Rattle.set_bounds.specs.AllSets.{bound_in_128_bits}
 use Rattle.set_bounds.specs.Parts.{AreUnjoined, ConsistsOfParts, DependsOnPartsOnly}
 use Rattle.sql_meaning.specs.Tables.{Tables}
-use Rattle.level_bounds.proofs.Lists.{all_from, each_of, from_filter, in_filter}
+use Rattle.level_bounds.proofs.Lists.{from_members, at_member, from_filter, in_filter}
 use Rattle.query_bounds.specs.Bounds.{is_among, joined_columns}
 use Rattle.query_bounds.proofs.Holding.{pair_at}
 use Rattle.query_bounds.proofs.Sets.{both_among}
-use Rattle.key_carriers.specs.Carriers.{with_exchanged_sides, carriers, carriers_to, carries}
+use Rattle.key_carriers.specs.Carriers.{with_exchanged_sides, carrying_equalities, carriers_to, carries}
 use Rattle.key_bounds.specs.Bounds.{bounds_by_keys, list_by_keys, rows_by_keys}
 use Rattle.key_bounds.proofs.Lower.{SetIsAbove, set_at_most}
 use Rattle.key_bounds.proofs.Standing.{has_list}
@@ -37,28 +37,28 @@ module _ {X : Type 0} (q p r : X → Bool) where
   skipped x true xs fails = rw fails refl
   skipped x false xs fails = refl
 
-  one_kept : (x : X) (b : Bool) (xs ys : List X) → filter q xs ≡ filter q ys → filter q (cond b (x ∷ xs) xs) ≡ filter q (cond b (x ∷ ys) ys)
-  one_kept x true xs ys same = ap (λ (s : List X). cond (q x) (x ∷ s) s) same
-  one_kept x false xs ys same = same
+  kept_in_both_filters : (x : X) (b : Bool) (xs ys : List X) → filter q xs ≡ filter q ys → filter q (cond b (x ∷ xs) xs) ≡ filter q (cond b (x ∷ ys) ys)
+  kept_in_both_filters x true xs ys same = ap (λ (s : List X). cond (q x) (x ∷ s) s) same
+  kept_in_both_filters x false xs ys same = same
 
   pub same_kept : (xs : List X) → ((x : X) → Contains xs x → q x ≡ true → p x ≡ r x) → filter q (filter p xs) ≡ filter q (filter r xs)
   same_kept [] same = refl
   same_kept (x ∷ xs) same =
       let rest : filter q (filter p xs) ≡ filter q (filter r xs) = same_kept xs (λ y here. same y (in_rest x xs y here)) in
       elim (cases_Bool (q x)) [
-        | inl holds ↦ one_kept x (p x) (filter p xs) (filter r xs) rest ∙ ap (λ (b : Bool). filter q (cond b (x ∷ filter r xs) (filter r xs))) (same x (in_front x xs x refl) holds)
+        | inl holds ↦ kept_in_both_filters x (p x) (filter p xs) (filter r xs) rest ∙ ap (λ (b : Bool). filter q (cond b (x ∷ filter r xs) (filter r xs))) (same x (in_front x xs x refl) holds)
         | inr fails ↦ skipped x (p x) (filter p xs) fails ∙ rest ∙ sym (skipped x (r x) (filter r xs) fails)
       ]
 
 -- ---- the carriers to an entry of a part
 
 module _ (schema : Schema) (query : Query) (subset part : ℕ) (within : IsSubset part subset) (unjoined : AreUnjoined (equalities_of query) subset part) where
-  one_side : (e : Edge) → IsEitherWay (equalities_of query) e → joins_within subset e ≡ true → has_entry part e.left.entry ≡ has_entry part e.right.entry
-  one_side e (inl straight) joins =
-      each_of (λ e. has_entry part e.left.entry ≡ has_entry part e.right.entry) (equalities_within subset (equalities_of query)) unjoined e
+  on_one_side : (e : Edge) → IsEitherWay (equalities_of query) e → joins_within subset e ≡ true → has_entry part e.left.entry ≡ has_entry part e.right.entry
+  on_one_side e (inl straight) joins =
+      at_member (λ e. has_entry part e.left.entry ≡ has_entry part e.right.entry) (equalities_within subset (equalities_of query)) unjoined e
       (in_filter (joins_within subset) (equalities_of query) e straight joins)
-  one_side e (inr back) joins =
-      subst (λ (g : Edge). joins_within subset g ≡ true → has_entry part g.left.entry ≡ has_entry part g.right.entry) (sym back.2) (λ joins_back. sym (each_of
+  on_one_side e (inr back) joins =
+      subst (λ (g : Edge). joins_within subset g ≡ true → has_entry part g.left.entry ≡ has_entry part g.right.entry) (sym back.2) (λ joins_back. sym (at_member
       (λ e. has_entry part e.left.entry ≡ has_entry part e.right.entry) (equalities_within subset (equalities_of query)) unjoined back.0
       (in_filter (joins_within subset) (equalities_of query) back.0 back.1 (exchanged (has_entry subset back.0.right.entry) (has_entry subset back.0.left.entry) joins_back)))) joins
     where
@@ -69,7 +69,7 @@ module _ (schema : Schema) (query : Query) (subset part : ℕ) (within : IsSubse
 
   right_alike : (e : Edge) → IsEitherWay (equalities_of query) e → has_entry part e.left.entry ≡ true → has_entry part e.right.entry ≡ has_entry subset e.right.entry
   right_alike e way left = elim (cases_Bool (has_entry subset e.right.entry)) [
-    | inl there ↦ (let joins : joins_within subset e ≡ true = rw (within e.left.entry left, there) refl in sym (one_side e way joins) ∙ left ∙ sym there)
+    | inl there ↦ (let joins : joins_within subset e ≡ true = rw (within e.left.entry left, there) refl in sym (on_one_side e way joins) ∙ left ∙ sym there)
     | inr outside ↦ elim (cases_Bool (has_entry part e.right.entry)) [
       | inl inside ↦ absurd (false≢true (sym outside ∙ within e.right.entry inside))
       | inr other ↦ other ∙ sym outside
@@ -81,9 +81,9 @@ module _ (schema : Schema) (query : Query) (subset part : ℕ) (within : IsSubse
       ap (λ (b : Bool). b && has_entry part e.right.entry) (left ∙ sym (within e.left.entry left))
       ∙ ap (λ (b : Bool). has_entry subset e.left.entry && b) (right_alike e way left)
 
-  same_carriers : (entry : ℕ) → has_entry part entry ≡ true → carriers_to (carriers schema query) part entry ≡ carriers_to (carriers schema query) subset entry
+  same_carriers : (entry : ℕ) → has_entry part entry ≡ true → carriers_to (carrying_equalities schema query) part entry ≡ carriers_to (carrying_equalities schema query) subset entry
   same_carriers entry has =
-      same_kept (λ (e : Edge). eqb e.left.entry entry) (joins_within part) (joins_within subset) (carriers schema query) (λ e there left.
+      same_kept (λ (e : Edge). eqb e.left.entry entry) (joins_within part) (joins_within subset) (carrying_equalities schema query) (λ e there left.
       join_alike e (either_way (equalities_of query) e (from_filter (carries schema query) (with_exchanged_sides (equalities_of query)) e there).0)
       (subst (λ (n : ℕ). has_entry part n ≡ true) (sym (eqb-true e.left.entry entry left)) has))
 
@@ -103,27 +103,27 @@ module _ (schema : Schema) (query : Query) (subset part : ℕ) (within : IsSubse
     at_part : (Q : ℕ → ℕ → Type 0) → ((entry column : ℕ) → entry < length query.from → has_entry part entry ≡ true → is_among (joined_columns query) entry column ≡ true → Q entry column)
         → EachNamedColumn Q (equalities_within part (equalities_of query))
     at_part Q each =
-        each_named Q part (equalities_of query) (λ k d low joins.
-        let among = both_among (equalities_of query) k d low in
-        let below = pair_at (λ entry column. entry < length query.from) (equalities_of query) named k d low in
+        each_named_column Q part (equalities_of query) (λ k d k_in_range joins.
+        let among = both_among (equalities_of query) k d k_in_range in
+        let below = pair_at (λ entry column. entry < length query.from) (equalities_of query) named k d k_in_range in
         let e : Edge = get_or (equalities_of query) k d in
         let both = and_parts (has_entry part e.left.entry) (has_entry part e.right.entry) joins in
         (each e.left.entry e.left.column below.0 both.0 among.0, each e.right.entry e.right.column below.1 both.1 among.1))
 
     has_lists : (set : ℕ) → SetHasLists (keyed set) (equalities_of query) part
-    has_lists set = at_part (HasList (keyed set)) (λ entry column low has among. has_list schema query tables accuracy set entry column low among)
+    has_lists set = at_part (HasList (keyed set)) (λ entry column entry_in_range has among. has_list schema query tables accuracy set entry column entry_in_range among)
 
     part_above : SetIsAbove (keyed part) (keyed subset) (equalities_of query) part
     part_above = record {
       rows = each_in_set (λ entry. (keyed subset).rows entry ≤ (keyed part).rows entry) part (λ entry small has. omega (arith, same_rows entry has));
-      columns = at_part (λ entry column. HasHigherSums ((keyed part).list entry column) ((keyed subset).list entry column)) (λ entry column low has among.
+      columns = at_part (λ entry column. HasHigherSums ((keyed part).list entry column) ((keyed subset).list entry column)) (λ entry column entry_in_range has among.
           subst (λ (s : List ℕ). HasHigherSums ((keyed part).list entry column) s) (same_list entry column has) (λ r. omega arith));
     }
 
     part_below : SetIsAbove (keyed subset) (keyed part) (equalities_of query) part
     part_below = record {
       rows = each_in_set (λ entry. (keyed part).rows entry ≤ (keyed subset).rows entry) part (λ entry small has. omega (arith, same_rows entry has));
-      columns = at_part (λ entry column. HasHigherSums ((keyed subset).list entry column) ((keyed part).list entry column)) (λ entry column low has among.
+      columns = at_part (λ entry column. HasHigherSums ((keyed subset).list entry column) ((keyed part).list entry column)) (λ entry column entry_in_range has among.
           subst (λ (s : List ℕ). HasHigherSums s ((keyed part).list entry column)) (same_list entry column has) (λ r. omega arith));
     }
 
@@ -145,16 +145,16 @@ module _ (query : Query) (subset part rest : ℕ) (falls : ConsistsOfParts (equa
 
   rest_unjoined : AreUnjoined (equalities_of query) subset rest
   rest_unjoined =
-      all_from (λ e. has_entry rest e.left.entry ≡ has_entry rest e.right.entry) (equalities_within subset (equalities_of query)) (λ e there.
+      from_members (λ e. has_entry rest e.left.entry ≡ has_entry rest e.right.entry) (equalities_within subset (equalities_of query)) (λ e there.
       let joins = (from_filter (joins_within subset) (equalities_of query) e there).1 in
       let both = and_parts (has_entry subset e.left.entry) (has_entry subset e.right.entry) joins in
       falls.others e.left.entry ∙ ap (λ (b : Bool). b && not (has_entry part e.left.entry)) (both.0 ∙ sym both.1)
-      ∙ ap (λ (b : Bool). has_entry subset e.right.entry && not b) (each_of (λ e. has_entry part e.left.entry ≡ has_entry part e.right.entry) (equalities_within subset (equalities_of query)) falls.unjoined e there)
+      ∙ ap (λ (b : Bool). has_entry subset e.right.entry && not b) (at_member (λ e. has_entry part e.left.entry ≡ has_entry part e.right.entry) (equalities_within subset (equalities_of query)) falls.unjoined e there)
       ∙ sym (falls.others e.right.entry))
 
-pub looks_at_parts : (schema : Schema) (query : Query) (tables : Tables) (accuracy : ℕ) → EachNamedColumn (λ entry column. entry < length query.from) (equalities_of query)
+pub depends_on_parts : (schema : Schema) (query : Query) (tables : Tables) (accuracy : ℕ) → EachNamedColumn (λ entry column. entry < length query.from) (equalities_of query)
     → DependsOnPartsOnly (bounds_by_keys schema query tables accuracy) (equalities_of query)
-looks_at_parts schema query tables accuracy named subset part rest falls = (
+depends_on_parts schema query tables accuracy named subset part rest falls = (
   same_bound schema query subset part falls.within falls.unjoined tables accuracy named,
   same_bound schema query subset rest (rest_within query subset part rest falls) (rest_unjoined query subset part rest falls) tables accuracy named,
 )

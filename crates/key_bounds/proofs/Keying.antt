@@ -21,20 +21,20 @@ use Rattle.set_bounds.specs.AllSets.{bounds_in_sets}
 use Rattle.set_bounds.specs.Parts.{DependsOnPartsOnly}
 use Rattle.sql_meaning.specs.Tables.{Tables}
 use Rattle.query_bounds.specs.Bounds.{HoldsKnown, entry_bounds, is_among, is_at, joined_columns, scan_list, scan_row_bound}
-use Rattle.query_bounds.proofs.Sets.{both_among, list_there, row_there}
+use Rattle.query_bounds.proofs.Sets.{both_among, list_is_held, row_bound_is_held}
 use Rattle.gathered_stats.specs.Statistics.{statistics_of}
 use Rattle.planning.specs.declared.known.QueryBounds.{QueryBounds}
 use Rattle.planning.specs.Bounds.{scan_bounds_of}
 use Rattle.planning.specs.HasBounds.{HasBounds}
 use Rattle.planning.proofs.Giving.{scans_from_statistics}
-use Rattle.key_carriers.specs.Carriers.{carriers, carriers_to}
+use Rattle.key_carriers.specs.Carriers.{carrying_equalities, carriers_to}
 use Rattle.key_stats.specs.declared.carried.CarriedBounds.{CarriedBounds}
-use Rattle.key_stats.specs.Carrying.{TellAlong, TellsCarried}
+use Rattle.key_stats.specs.Carrying.{HaveCarriedBounds, HasCarriedBounds}
 use Rattle.key_stats.specs.Lists.{carried_list, carried_rows}
 use Rattle.key_bounds.specs.declared.key_lists.KeyLists.{KeyLists}
 use Rattle.key_bounds.specs.Bounds.{bounds_by_keys, least_list, least_rows, list_by_keys, set_bounds_by_keys}
 use Rattle.key_bounds.specs.InSets.{HaveKeyLists, CarriesLists, CarriesTo, carried_to, bounds_with_carried, list_carried, list_within, rows_carried, rows_within}
-use Rattle.key_bounds.proofs.InParts.{looks_at_parts}
+use Rattle.key_bounds.proofs.InParts.{depends_on_parts}
 use Rattle.key_bounds.proofs.Made.{is_some}
 
 each_among : (Q : ℕ → ℕ → Type 0) (places : List Place) → AllByRecursion (λ p. Q p.entry p.column) places → (entry column : ℕ) → is_among places entry column ≡ true → Q entry column
@@ -65,19 +65,19 @@ module _ {Y : Type 0} (subset entry : ℕ) (f : CarriedBounds → Y) (g : Edge �
 
 -- ---- the bounds in a set, from statistics and carried lists
 
-module _ (schema : Schema) (query : Query) (tables : Tables) (accuracy : ℕ) (carried : List CarriedBounds) (along : TellAlong query tables accuracy (carriers schema query) carried)
+module _ (schema : Schema) (query : Query) (tables : Tables) (accuracy : ℕ) (carried : List CarriedBounds) (along : HaveCarriedBounds query tables accuracy (carrying_equalities schema query) carried)
     (own : EntryLists) (held : HoldsKnown query (statistics_of tables accuracy) (length query.from) (joined_columns query) own) (count : ℕ) (all : count ≡ length query.from) where
   abbrev keys : KeyLists
   keys = record { count = count; own = own; carried = carried }
 
-  tell_each : AllByRecursion (TellsCarried query tables accuracy) carried
-  tell_each = recursion_from_All (TellsCarried query tables accuracy) carried along.tell
+  tell_each : AllByRecursion (HasCarriedBounds query tables accuracy) carried
+  tell_each = recursion_from_All (HasCarriedBounds query tables accuracy) carried along.tell
 
-  each_of_them : (Q : CarriedBounds → Type 0) → ((c : CarriedBounds) → TellsCarried query tables accuracy c → Q c) → (some : List CarriedBounds) → AllByRecursion (TellsCarried query tables accuracy) some → AllByRecursion Q some
+  each_of_them : (Q : CarriedBounds → Type 0) → ((c : CarriedBounds) → HasCarriedBounds query tables accuracy c → Q c) → (these : List CarriedBounds) → AllByRecursion (HasCarriedBounds query tables accuracy) these → AllByRecursion Q these
   each_of_them Q more [] tell = tt
-  each_of_them Q more (c ∷ some) tell = (more c tell.0, each_of_them Q more some tell.1)
+  each_of_them Q more (c ∷ these) tell = (more c tell.0, each_of_them Q more these tell.1)
 
-  carried_rows_same : (subset entry : ℕ) → map (rows_carried entry) (carried_to carried subset entry) ≡ map (carried_rows query tables) (carriers_to (carriers schema query) subset entry)
+  carried_rows_same : (subset entry : ℕ) → map (rows_carried entry) (carried_to carried subset entry) ≡ map (carried_rows query tables) (carriers_to (carrying_equalities schema query) subset entry)
   carried_rows_same subset entry =
       same_made subset entry (rows_carried entry) (carried_rows query tables) carried
       (each_of_them (λ c. c.edge.left.entry ≡ entry → rows_carried entry c ≡ carried_rows query tables c.edge)
@@ -85,7 +85,7 @@ module _ (schema : Schema) (query : Query) (tables : Tables) (accuracy : ℕ) (c
       ∙ ap (λ (es : List Edge). map (carried_rows query tables) (carriers_to es subset entry)) along.edges
 
   carried_lists_same : (subset entry column : ℕ) → is_among (joined_columns query) entry column ≡ true
-      → map (list_carried entry column) (carried_to carried subset entry) ≡ map (λ e. carried_list query tables accuracy e column) (carriers_to (carriers schema query) subset entry)
+      → map (list_carried entry column) (carried_to carried subset entry) ≡ map (λ e. carried_list query tables accuracy e column) (carriers_to (carrying_equalities schema query) subset entry)
   carried_lists_same subset entry column among =
       same_made subset entry (list_carried entry column) (λ e. carried_list query tables accuracy e column) carried
       (each_of_them (λ c. c.edge.left.entry ≡ entry → list_carried entry column c ≡ carried_list query tables accuracy c.edge column)
@@ -111,14 +111,14 @@ module _ (schema : Schema) (query : Query) (tables : Tables) (accuracy : ℕ) (c
     where
       by : (b : Bool) → is_among (joined_columns query) entry column ≡ b → list_of own entry column ≡ cond b (Some (scan_list query (statistics_of tables accuracy) entry column)) None
           → (bounds_with_carried keys subset).list entry column
-          ≡ (if is_among (joined_columns query) entry column then list_by_keys query tables accuracy entry column (carriers_to (carriers schema query) subset entry) else [])
+          ≡ (if is_among (joined_columns query) entry column then list_by_keys query tables accuracy entry column (carriers_to (carrying_equalities schema query) subset entry) else [])
       by true among is =
           ap (λ (o : Option (List ℕ)). unwrap_or (option_map (list_within carried subset entry column) o) []) is
           ∙ ap (least_list (scan_list query (statistics_of tables accuracy) entry column)) (carried_lists_same subset entry column among)
-          ∙ sym (ap (λ (b : Bool). if b then list_by_keys query tables accuracy entry column (carriers_to (carriers schema query) subset entry) else []) among)
+          ∙ sym (ap (λ (b : Bool). if b then list_by_keys query tables accuracy entry column (carriers_to (carrying_equalities schema query) subset entry) else []) among)
       by false among is =
           ap (λ (o : Option (List ℕ)). unwrap_or (option_map (list_within carried subset entry column) o) []) is
-          ∙ sym (ap (λ (b : Bool). if b then list_by_keys query tables accuracy entry column (carriers_to (carriers schema query) subset entry) else []) among)
+          ∙ sym (ap (λ (b : Bool). if b then list_by_keys query tables accuracy entry column (carriers_to (carrying_equalities schema query) subset entry) else []) among)
 
   same_bounds : (r s : ℕ → ℕ) (l m : ℕ → ℕ → List ℕ) → r ≡ s → l ≡ m → (let b : EntryBounds = record { rows = r; list = l } in b) ≡ record { rows = s; list = m }
   same_bounds r s l m h k = rw (h, k) refl
@@ -131,19 +131,19 @@ module _ (schema : Schema) (query : Query) (tables : Tables) (accuracy : ℕ) (c
 
   pub are_keyed : (es : List Edge) → es ≡ equalities_of query → EachNamedColumn (λ entry column. entry < length query.from) (equalities_of query) → length query.from ≤ most_entries
       → (subset : ℕ) → subset < 2 ^ length query.from → HaveKeyLists keys es subset
-  are_keyed es split named few subset fits =
+  are_keyed es split named within_limit subset fits =
       subst (λ (s : List Edge). HaveKeyLists keys s subset) (sym split) (record {
-        few = omega (arith, all, few);
+        few = omega (arith, all, within_limit);
         fits = subst (λ (n : ℕ). subset < 2 ^ n) (sym all) fits;
-        rows = λ entry low. is_some (row_bound_of own entry) (scan_row_bound query (statistics_of tables accuracy) entry)
-            (row_there query (statistics_of tables accuracy) (length query.from) (joined_columns query) own held entry (omega (arith, low, all)));
-        lists = λ k d low.
-            let among = both_among (equalities_of query) k d low in
+        rows = λ entry in_range. is_some (row_bound_of own entry) (scan_row_bound query (statistics_of tables accuracy) entry)
+            (row_bound_is_held query (statistics_of tables accuracy) (length query.from) (joined_columns query) own held entry (omega (arith, in_range, all)));
+        lists = λ k d in_range.
+            let among = both_among (equalities_of query) k d in_range in
             let e : Edge = get_or (equalities_of query) k d in (
               is_some (list_of own e.left.entry e.left.column) (scan_list query (statistics_of tables accuracy) e.left.entry e.left.column)
-                  (list_there query (statistics_of tables accuracy) (length query.from) (joined_columns query) own held e.left.entry e.left.column among.0),
+                  (list_is_held query (statistics_of tables accuracy) (length query.from) (joined_columns query) own held e.left.entry e.left.column among.0),
               is_some (list_of own e.right.entry e.right.column) (scan_list query (statistics_of tables accuracy) e.right.entry e.right.column)
-                  (list_there query (statistics_of tables accuracy) (length query.from) (joined_columns query) own held e.right.entry e.right.column among.1),
+                  (list_is_held query (statistics_of tables accuracy) (length query.from) (joined_columns query) own held e.right.entry e.right.column among.1),
             );
         entries = subst (λ (n : ℕ). EachNamedColumn (λ entry column. entry < n) (equalities_of query)) (sym all) named;
         carried = All-from_recursion (CarriesLists (equalities_of query)) carried (each_of_them (CarriesLists (equalities_of query)) (λ c tell. carries c (places_of (equalities_of query)) tell.lists) carried tell_each);
@@ -158,19 +158,19 @@ module _ (schema : Schema) (query : Query) (tables : Tables) (accuracy : ℕ) (c
         carries c places lists.1,
       )
 
-  pub keys_look : (es : List Edge) → es ≡ equalities_of query → EachNamedColumn (λ entry column. entry < length query.from) (equalities_of query) → DependsOnPartsOnly (bounds_with_carried keys) es
-  keys_look es split named =
+  pub bounds_depend_on_parts : (es : List Edge) → es ≡ equalities_of query → EachNamedColumn (λ entry column. entry < length query.from) (equalities_of query) → DependsOnPartsOnly (bounds_with_carried keys) es
+  bounds_depend_on_parts es split named =
       subst (λ (s : List Edge). DependsOnPartsOnly (bounds_with_carried keys) s) (sym split)
-      (subst (λ (b : ℕ → EntryBounds). DependsOnPartsOnly b (equalities_of query)) (sym known_is) (looks_at_parts schema query tables accuracy named))
+      (subst (λ (b : ℕ → EntryBounds). DependsOnPartsOnly b (equalities_of query)) (sym known_is) (depends_on_parts schema query tables accuracy named))
 
-  pub keys_give : (es : List Edge) (scans : List ℕ) (known : QueryBounds) → es ≡ equalities_of query → scans ≡ map (bounds_of own).rows (range_with_len 0 count) → length scans ≡ length query.from
+  pub keys_give_bounds : (es : List Edge) (scans : List ℕ) (known : QueryBounds) → es ≡ equalities_of query → scans ≡ map (bounds_of own).rows (range_with_len 0 count) → length scans ≡ length query.from
       → bounds_of own ≡ entry_bounds query (statistics_of tables accuracy)
       → known.sets ≡ bounds_in_sets (bounds_with_carried keys) es (length scans) → known.scans ≡ scans
       → HasBounds (set_bounds_by_keys schema query tables accuracy) (scan_bounds_of query tables accuracy) known
-  keys_give es scans known split are long told made kept = record {
+  keys_give_bounds es scans known split are same_length bounds_known made kept = record {
     sets =
         made ∙ ap (λ (b : ℕ → EntryBounds). bounds_in_sets b es (length scans)) known_is
         ∙ ap (λ (s : List Edge). bounds_in_sets (bounds_by_keys schema query tables accuracy) s (length scans)) split
-        ∙ ap (bounds_in_sets (bounds_by_keys schema query tables accuracy) (equalities_of query)) long;
-    scans = kept ∙ are ∙ ap (λ (n : ℕ). map (bounds_of own).rows (range_with_len 0 n)) all ∙ scans_from_statistics query (statistics_of tables accuracy) own told;
+        ∙ ap (bounds_in_sets (bounds_by_keys schema query tables accuracy) (equalities_of query)) same_length;
+    scans = kept ∙ are ∙ ap (λ (n : ℕ). map (bounds_of own).rows (range_with_len 0 n)) all ∙ scans_from_statistics query (statistics_of tables accuracy) own bounds_known;
   }

@@ -31,40 +31,40 @@ grows j zero = rw (pow-zero (j + 2), pow-zero (j + 1)) (omega arith)
 grows j (suc n) =
     rw (pow-succ' (j + 2) n, pow-succ' (j + 1) n) (one_more j ((j + 2) ^ n) ((j + 1) ^ n) (excess n) (grows j n))
 
--- ---- a number that is near another number for every k is at most that number
+-- ---- if a number is near another number at every k, it is at most that number
 
-never_above : (k p q e low high : ℕ) → k ≡ e * high + 1 → 0 < q → p * k ≤ q * (k + e) → q * low ≤ p * high → high < low → ⊥
-never_above k p q e low high is some growth near above =
-    let near_too : k * (q * low) ≤ k * (p * high) = mul-le-mul_left k near in
-    let growth_too : high * (p * k) ≤ high * (q * (k + e)) = mul-le-mul_left high growth in
-    let above_too : (k * q) * (high + 1) ≤ (k * q) * low = mul-le-mul_left (k * q) (omega arith) in
-    let many : q * k ≡ q * (e * high + 1) = ap (λ (n : ℕ). q * n) is in
+never_above : (k p q e lower upper : ℕ) → k ≡ e * upper + 1 → 0 < q → p * k ≤ q * (k + e) → q * lower ≤ p * upper → upper < lower → ⊥
+never_above k p q e lower upper is is_positive growth near above =
+    let near_too : k * (q * lower) ≤ k * (p * upper) = mul-le-mul_left k near in
+    let growth_too : upper * (p * k) ≤ upper * (q * (k + e)) = mul-le-mul_left upper growth in
+    let above_too : (k * q) * (upper + 1) ≤ (k * q) * lower = mul-le-mul_left (k * q) (omega arith) in
+    let is_multiplied : q * k ≡ q * (e * upper + 1) = ap (λ (n : ℕ). q * n) is in
     omega arith
 
-pub at_most : (n low high : ℕ) → ((k : ℕ) → k ^ n * low ≤ (k + 1) ^ n * high) → low ≤ high
-at_most n low high near = elim (cases_lt high low) [
+pub at_most : (n lower upper : ℕ) → ((k : ℕ) → k ^ n * lower ≤ (k + 1) ^ n * upper) → lower ≤ upper
+at_most n lower upper near = elim (cases_lt upper lower) [
   | inr most ↦ most
   | inl above ↦
-      let j : ℕ = excess n * high in
-      absurd (never_above (j + 1) ((j + 2) ^ n) ((j + 1) ^ n) (excess n) low high refl (pow_pos_of (j + 1) n (omega arith)) (grows j n) (near_here j) above)
+      let j : ℕ = excess n * upper in
+      absurd (never_above (j + 1) ((j + 2) ^ n) ((j + 1) ^ n) (excess n) lower upper refl (pow_pos_of (j + 1) n (omega arith)) (grows j n) (near_here j) above)
 ]
   where
     pow_pos_of : (k n : ℕ) → 0 < k → 0 < k ^ n
-    pow_pos_of k zero some = rw (pow-zero k) (omega arith)
-    pow_pos_of k (suc n) some = rw (pow-succ' k n) (positive k (k ^ n) some (pow_pos_of k n some))
+    pow_pos_of k zero is_positive = rw (pow-zero k) (omega arith)
+    pow_pos_of k (suc n) is_positive = rw (pow-succ' k n) (positive k (k ^ n) is_positive (pow_pos_of k n is_positive))
       where
         positive : (a b : ℕ) → 0 < a → 0 < b → 0 < a * b
         positive zero b h i = absurd (omega arith)
         positive (suc a) b h i = omega arith
 
-    near_here : (j : ℕ) → (j + 1) ^ n * low ≤ (j + 2) ^ n * high
+    near_here : (j : ℕ) → (j + 1) ^ n * lower ≤ (j + 2) ^ n * upper
     near_here j = let same : j + 1 + 1 ≡ j + 2 = omega arith in rw same at (near (j + 1))
 
 -- ---- the bounds of a set from lowered bounds of entries
 
-weaker : (P Q : ℕ → Type 0) → ((x : ℕ) → P x → Q x) → (xs : List ℕ) → AllByRecursion P xs → AllByRecursion Q xs
-weaker P Q more [] all = tt
-weaker P Q more (x ∷ xs) all = (more x all.0, weaker P Q more xs all.1)
+weaker_at_each : (P Q : ℕ → Type 0) → ((x : ℕ) → P x → Q x) → (xs : List ℕ) → AllByRecursion P xs → AllByRecursion Q xs
+weaker_at_each P Q more [] all = tt
+weaker_at_each P Q more (x ∷ xs) all = (more x all.0, weaker_at_each P Q more xs all.1)
 
 weaker_places : (P Q : ℕ → ℕ → Type 0) → ((entry column : ℕ) → P entry column → Q entry column) → (places : List Place)
     → AllByRecursion (λ p. P p.entry p.column) places → AllByRecursion (λ p. Q p.entry p.column) places
@@ -85,7 +85,7 @@ set_at_most upper lower es subset have have_too above =
   where
     near : (accuracy : ℕ) → SetIsNear accuracy lower upper es subset
     near accuracy = record {
-      rows = weaker (λ entry. lower.rows entry ≤ upper.rows entry) (RowsAreNear accuracy lower upper) (λ entry most. scaled accuracy (lower.rows entry) (upper.rows entry) most) (entries_of_set subset) above.rows;
+      rows = weaker_at_each (λ entry. lower.rows entry ≤ upper.rows entry) (RowsAreNear accuracy lower upper) (λ entry most. scaled accuracy (lower.rows entry) (upper.rows entry) most) (entries_of_set subset) above.rows;
       columns = weaker_places (λ entry column. HasHigherSums (upper.list entry column) (lower.list entry column)) (ListIsNear accuracy lower upper)
           (λ entry column is r. scaled accuracy (running_sum (lower.list entry column) r) (running_sum (upper.list entry column) r) (is r))
           (places_of (equalities_within subset es)) above.columns;

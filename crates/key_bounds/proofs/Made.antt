@@ -11,17 +11,17 @@ use Rattle.tree_bounds.specs.TreeBounds.{EntryBounds}
 use Rattle.bound_fold.specs.declared.lists.EntryLists.{EntryLists}
 use Rattle.bound_fold.specs.Lists.{bounds_of, list_of, row_bound_of}
 use Rattle.bound_fold.specs.Sets.{HaveLists, SetHasBounds}
-use Rattle.bound_fold.proofs.TestedSets.{each_in_set, each_named}
+use Rattle.bound_fold.proofs.TestedSets.{each_in_set, each_named_column}
 use Rattle.entry_sets.proofs.Listing.{entry_below}
 use Rattle.filtered_lists.proofs.Lists.{sum-lesser}
 use Rattle.set_bounds.specs.AllSets.{bound_in_128_bits, bounds_of_sets}
-use Rattle.set_bounds.proofs.SetBySet.{told_at}
+use Rattle.set_bounds.proofs.SetBySet.{bound_of_sets_at}
 use Rattle.query_bounds.proofs.Holding.{pair_at}
 use Rattle.planning.proofs.SameBounds.{sets_same}
 use Rattle.key_stats.specs.declared.carried.CarriedBounds.{CarriedBounds}
 use Rattle.key_bounds.specs.declared.key_lists.KeyLists.{KeyLists}
 use Rattle.key_bounds.specs.Bounds.{least_list, least_rows}
-use Rattle.key_bounds.specs.InSets.{CarriesLists, CarriesTo, IsPartOf, carried_to, fewer_by, is_carried, bounds_with_carried, list_carried, list_within, narrowed_by, rows_carried, rows_within}
+use Rattle.key_bounds.specs.InSets.{CarriesLists, CarriesTo, IsPartOf, carried_to, lowered_rows, is_carried, bounds_with_carried, list_carried, list_within, lowered_list, rows_carried, rows_within}
 
 some_there : {X : Type 0} (o : Option X) → IsSome o → (x : X) × (o ≡ Some x)
 some_there None h = absurd (false≢true h)
@@ -42,7 +42,7 @@ module _ (subset entry : ℕ) where
       by true = refl
       by false = refl
 
-  next_rows : (c : CarriedBounds) (carried : List CarriedBounds) (rows : ℕ) → rows_within (c ∷ carried) subset entry rows ≡ rows_within carried subset entry (fewer_by subset entry c rows)
+  next_rows : (c : CarriedBounds) (carried : List CarriedBounds) (rows : ℕ) → rows_within (c ∷ carried) subset entry rows ≡ rows_within carried subset entry (lowered_rows subset entry c rows)
   next_rows c carried rows = ap (λ (s : List CarriedBounds). least_rows rows (map (rows_carried entry) s)) (next_carried c carried) ∙ by (is_carried subset entry c)
     where
       by : (b : Bool) → least_rows rows (map (rows_carried entry) (cond b (c ∷ carried_to carried subset entry) (carried_to carried subset entry)))
@@ -52,7 +52,7 @@ module _ (subset entry : ℕ) where
 
   module _ (column : ℕ) where
     next_list : (c : CarriedBounds) (carried : List CarriedBounds) (list : List ℕ)
-        → list_within (c ∷ carried) subset entry column list ≡ list_within carried subset entry column (narrowed_by subset entry column c list)
+        → list_within (c ∷ carried) subset entry column list ≡ list_within carried subset entry column (lowered_list subset entry column c list)
     next_list c carried list = ap (λ (s : List CarriedBounds). least_list list (map (list_carried entry column) s)) (next_carried c carried) ∙ by (is_carried subset entry c)
       where
         by : (b : Bool) → least_list list (map (list_carried entry column) (cond b (c ∷ carried_to carried subset entry) (carried_to carried subset entry)))
@@ -66,7 +66,7 @@ module _ (subset entry : ℕ) where
         ap (λ (o : Option (List ℕ)). sum (unwrap_or o [])) found.1 ∙ sym (ap (λ (o : Option ℕ). unwrap_or o 0) (c.lists.sums entry column found.0 found.1).1)
 
     narrowed_sum : (c : CarriedBounds) (list : List ℕ) → (c.edge.left.entry ≡ entry → IsSome (list_of c.lists entry column))
-        → sum (narrowed_by subset entry column c list) ≡ fewer_by subset entry c (sum list)
+        → sum (lowered_list subset entry column c list) ≡ lowered_rows subset entry c (sum list)
     narrowed_sum c list carries = elim (cases_Bool (is_carried subset entry c)) [
       | inl counts ↦ (let here : c.edge.left.entry ≡ entry = eqb-true c.edge.left.entry entry (and_parts (joins_within subset c.edge) (eqb c.edge.left.entry entry) counts).1 in
           ap (λ (b : Bool). sum (cond b (lesser list (list_carried entry column c)) list)) counts
@@ -80,7 +80,7 @@ module _ (subset entry : ℕ) where
         → sum (list_within carried subset entry column list) ≡ rows_within carried subset entry (sum list)
     within_sum [] list carry = refl
     within_sum (c ∷ carried) list carry =
-        ap (λ (s : List ℕ). sum s) (next_list c carried list) ∙ within_sum carried (narrowed_by subset entry column c list) carry.1
+        ap (λ (s : List ℕ). sum s) (next_list c carried list) ∙ within_sum carried (lowered_list subset entry column c list) carry.1
         ∙ ap (rows_within carried subset entry) (narrowed_sum c list carry.0) ∙ sym (next_rows c carried (sum list))
 
 -- ---- row bounds that were collected
@@ -107,7 +107,7 @@ module _ (bounds : EntryBounds) where
       → list_of new at in_column ≡ Some list → ((e c : ℕ) → ((e ≢ at) ⊎ (c ≢ in_column)) → list_of new e c ≡ list_of old e c)
       → ((entry : ℕ) → row_bound_of new entry ≡ row_bound_of old entry) → IsPartOf bounds count new
   part_more count at in_column list old new before is set others rows = record {
-    rows = λ entry low. rows entry ∙ before.rows entry low;
+    rows = λ entry entry_in_range. rows entry ∙ before.rows entry entry_in_range;
     past = λ entry past. rows entry ∙ before.past entry past;
     columns = λ e c l found. elim (cases_eq e at) [
       | inr apart ↦ before.columns e c l (sym (others e c (inl apart)) ∙ found)
@@ -132,12 +132,12 @@ module _ (bounds : EntryBounds) where
 
   -- ---- the bounds of a set, after all row bounds and lists were collected
 
-  module _ (count : ℕ) (made : EntryLists) (part : IsPartOf bounds count made) (none : (entry : ℕ) → count ≤ entry → bounds.rows entry ≡ 0)
+  module _ (count : ℕ) (made : EntryLists) (part : IsPartOf bounds count made) (zero_past_count : (entry : ℕ) → count ≤ entry → bounds.rows entry ≡ 0)
       (es : List Edge) (have : All (HaveLists made) es) (subset : ℕ) (fits : subset < 2 ^ count) where
     rows_same : (entry : ℕ) → (bounds_of made).rows entry ≡ bounds.rows entry
     rows_same entry = elim (cases_lt entry count) [
-      | inl low ↦ ap (λ (o : Option ℕ). unwrap_or o 0) (part.rows entry low)
-      | inr past ↦ ap (λ (o : Option ℕ). unwrap_or o 0) (part.past entry past) ∙ sym (none entry past)
+      | inl entry_in_range ↦ ap (λ (o : Option ℕ). unwrap_or o 0) (part.rows entry entry_in_range)
+      | inr past ↦ ap (λ (o : Option ℕ). unwrap_or o 0) (part.past entry past) ∙ sym (zero_past_count entry past)
     ]
 
     list_same : (entry column : ℕ) → IsSome (list_of made entry column) → (bounds_of made).list entry column ≡ bounds.list entry column
@@ -145,20 +145,20 @@ module _ (bounds : EntryBounds) where
         let found = some_there (list_of made entry column) there in
         ap (λ (o : Option (List ℕ)). unwrap_or o []) found.1 ∙ part.columns entry column found.0 found.1
 
-    pub told_same : bound_in_128_bits (bounds_of made) es subset ≡ bound_in_128_bits bounds es subset
-    told_same =
+    pub same_set_bound : bound_in_128_bits (bounds_of made) es subset ≡ bound_in_128_bits bounds es subset
+    same_set_bound =
         let same : bounds_of_sets (bounds_of made) es count ≡ bounds_of_sets bounds es count =
-        sets_same (bounds_of made) bounds rows_same es (λ k d low. (
-          list_same (get_or es k d).left.entry (get_or es k d).left.column (have k d low).0,
-          list_same (get_or es k d).right.entry (get_or es k d).right.column (have k d low).1,
+        sets_same (bounds_of made) bounds rows_same es (λ k d k_in_range. (
+          list_same (get_or es k d).left.entry (get_or es k d).left.column (have k d k_in_range).0,
+          list_same (get_or es k d).right.entry (get_or es k d).right.column (have k d k_in_range).1,
         )) count in
-        sym (told_at (bounds_of made) es count subset (bounds_of_sets (bounds_of made) es count) refl fits)
-        ∙ told_at bounds es count subset (bounds_of_sets (bounds_of made) es count) same fits
+        sym (bound_of_sets_at (bounds_of made) es count subset (bounds_of_sets (bounds_of made) es count) refl fits)
+        ∙ bound_of_sets_at bounds es count subset (bounds_of_sets (bounds_of made) es count) same fits
 
-    pub set_listed : SetHasBounds made es subset
-    set_listed = record {
-      rows = each_in_set (λ k. IsSome (row_bound_of made k)) subset (λ k low has. is_some (row_bound_of made k) (bounds.rows k) (part.rows k (entry_below count subset k fits has)));
-      columns = each_named (λ entry column. IsSome (list_of made entry column)) subset es (λ k d low joins. have k d low);
+    pub set_has_bounds : SetHasBounds made es subset
+    set_has_bounds = record {
+      rows = each_in_set (λ k. IsSome (row_bound_of made k)) subset (λ k k_in_range has. is_some (row_bound_of made k) (bounds.rows k) (part.rows k (entry_below count subset k fits has)));
+      columns = each_named_column (λ entry column. IsSome (list_of made entry column)) subset es (λ k d k_in_range joins. have k d k_in_range);
     }
 
 -- ---- the collected bounds are those of `bounds_with_carried`
@@ -168,7 +168,7 @@ module _ (keys : KeyLists) (subset : ℕ) where
   known = bounds_with_carried keys subset
 
   pub rows_known : (entry : ℕ) → entry < keys.count → rows_within keys.carried subset entry (unwrap_or (row_bound_of keys.own entry) 0) ≡ known.rows entry
-  rows_known entry low = sym (ap (λ (b : Bool). if b then rows_within keys.carried subset entry (unwrap_or (row_bound_of keys.own entry) 0) else 0) (lt-ltb entry keys.count low))
+  rows_known entry entry_in_range = sym (ap (λ (b : Bool). if b then rows_within keys.carried subset entry (unwrap_or (row_bound_of keys.own entry) 0) else 0) (lt-ltb entry keys.count entry_in_range))
 
   pub none_known : (entry : ℕ) → keys.count ≤ entry → known.rows entry ≡ 0
   none_known entry past = ap (λ (b : Bool). if b then rows_within keys.carried subset entry (unwrap_or (row_bound_of keys.own entry) 0) else 0) (le-ltb entry keys.count past)
@@ -180,9 +180,9 @@ module _ (keys : KeyLists) (subset : ℕ) where
     pub sum_known : (made : EntryLists) (list : List ℕ) → row_bound_of made entry ≡ Some (known.rows entry) → entry < keys.count
         → All (λ c. c.edge.left.entry ≡ entry → IsSome (list_of c.lists entry column)) keys.carried
         → list ≡ list_within keys.carried subset entry column own → row_bound_of made entry ≡ Some (sum list)
-    sum_known made list rows low carry is =
+    sum_known made list rows entry_in_range carry is =
         rows ∙ ap Some (
-        sym (rows_known entry low)
+        sym (rows_known entry entry_in_range)
         ∙ ap (λ (o : Option ℕ). rows_within keys.carried subset entry (unwrap_or o 0)) (keys.own.sums entry column own there).1
         ∙ sym (within_sum subset entry column keys.carried own (recursion_from_All (λ c. c.edge.left.entry ≡ entry → IsSome (list_of c.lists entry column)) keys.carried carry))
         ∙ sym (ap (λ (s : List ℕ). sum s) is)
@@ -190,15 +190,15 @@ module _ (keys : KeyLists) (subset : ℕ) where
 
 -- ---- lists that the code reads
 
-pub small_there : (lists : EntryLists) (entry column : ℕ) (list : List ℕ) → list_of lists entry column ≡ Some list → sum list < 2 ^ 64
-small_there lists entry column list is = lists.bounds entry (sum list) (lists.sums entry column list is).1
+pub listed_sum_fits : (lists : EntryLists) (entry column : ℕ) (list : List ℕ) → list_of lists entry column ≡ Some list → sum list < 2 ^ 64
+listed_sum_fits lists entry column list is = lists.bounds entry (sum list) (lists.sums entry column list is).1
 
-pub lesser_small : (own other made : List ℕ) → made ≡ lesser own other → sum own < 2 ^ 64 → sum made < 2 ^ 64
-lesser_small own other made is small = omega (arith, ap (λ (s : List ℕ). sum s) is, sum-lesser own other, small)
+pub lesser_sum_fits : (own other made : List ℕ) → made ≡ lesser own other → sum own < 2 ^ 64 → sum made < 2 ^ 64
+lesser_sum_fits own other made is in_range = omega (arith, ap (λ (s : List ℕ). sum s) is, sum-lesser own other, in_range)
 
 pub carried_at : (es : List Edge) (carried : List CarriedBounds) → All (CarriesLists es) carried → (i : ℕ) (d : Edge) → i < length es
     → All (CarriesTo (get_or es i d).left) carried × All (CarriesTo (get_or es i d).right) carried
-carried_at es carried all i d low = (
-  (λ k c h. (pair_at (λ entry column. (get_or carried k c).edge.left.entry ≡ entry → IsSome (list_of (get_or carried k c).lists entry column)) es (all k c h) i d low).0),
-  (λ k c h. (pair_at (λ entry column. (get_or carried k c).edge.left.entry ≡ entry → IsSome (list_of (get_or carried k c).lists entry column)) es (all k c h) i d low).1),
+carried_at es carried all i d i_in_range = (
+  (λ k c h. (pair_at (λ entry column. (get_or carried k c).edge.left.entry ≡ entry → IsSome (list_of (get_or carried k c).lists entry column)) es (all k c h) i d i_in_range).0),
+  (λ k c h. (pair_at (λ entry column. (get_or carried k c).edge.left.entry ≡ entry → IsSome (list_of (get_or carried k c).lists entry column)) es (all k c h) i d i_in_range).1),
 )

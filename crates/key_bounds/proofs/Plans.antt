@@ -25,6 +25,6 @@ module _ (schema : Schema) (query : Query) (tables : Tables) (accuracy : ℕ) (h
   pub plan_by_keys : (budget : ℕ) (plan : Plan) → length query.from ≤ most_entries → budget ≤ most_budget → planned_by_keys schema query tables accuracy budget ≡ Ok plan
       → IsPlanOf query tables (scans_of query tables) plan
   unfolding planned_by_keys
-  plan_by_keys budget plan few small made =
+  plan_by_keys budget plan within_limit budget_within_limit made =
       plan_over_lists query tables (scans_of query tables) (set_bounds_by_keys schema query tables accuracy) (scan_bounds_of query tables accuracy) levels_by_keys
-      (scans_are_bounded query tables accuracy) budget plan few small made
+      (scans_are_bounded query tables accuracy) budget plan within_limit budget_within_limit made

@@ -22,16 +22,16 @@ use Rattle.set_bounds.specs.AllSets.{bounds_in_sets}
 use Rattle.sql_meaning.specs.Tables.{Tables}
 use Rattle.filtered_lists.specs.Filters.{ComparisonAnswers, Conjunction, and_answer, conjunction_of, filtered, one_conjunction, own_conjuncts}
 use Rattle.filtered_lists.specs.Lists.{ColumnLists, RowCounts, count_answers, filtered_list, list_answers, row_bound}
-use Rattle.filtered_lists.proofs.Parts.{of_compare}
+use Rattle.filtered_lists.proofs.Parts.{conjunction_of_compare}
 use Rattle.query_bounds.specs.Bounds.{is_among}
 use Rattle.table_stats.specs.Statistics.{column_lists, entry_counts}
 use Rattle.planning.specs.Bounds.{set_bounds_of}
-use Rattle.planning.specs.ReducedExamples.{by_region, region_tables}
-use Rattle.key_carriers.specs.Carriers.{carriers, carriers_to}
+use Rattle.planning.specs.ReducedExamples.{region_query, region_tables}
+use Rattle.key_carriers.specs.Carriers.{carrying_equalities, carriers_to}
 use Rattle.key_carriers.specs.Examples.{orders_and_customers, undeclared_schema}
 use Rattle.key_stats.specs.Lists.{carried_counts, carried_lists}
 use Rattle.key_bounds.specs.Bounds.{least_list, least_rows, set_bounds_by_keys}
-use Rattle.key_bounds.specs.Examples.{by_both, by_manager, column_equals, trade_schema, trade_tables, with_a_stray, worker_schema, worker_tables}
+use Rattle.key_bounds.specs.Examples.{two_references_query, manager_query, column_equals, trade_schema, trade_tables, stray_order_tables, worker_schema, worker_tables}
 use Rattle.key_bounds.proofs.SmallShops.{shop_carriers, trade_carriers, undeclared_carriers, worker_carriers}
 
 -- ---- lists and row counts, filtered by an own conjunct `column = 3`
@@ -53,7 +53,7 @@ module _ {A : Type 0} (answers : ComparisonAnswers A) where
   of_own query entry (Some column) are =
       ap of_these are
       ∙ ap (λ (c : Conjunction A). answers.both (and_answer answers (one_conjunction (c ∷ []))) answers.whole)
-      (of_compare answers op.Eq (column_operand entry column) (operand.Int (pos 3)) true)
+      (conjunction_of_compare answers op.Eq (column_operand entry column) (operand.Int (pos 3)) true)
 
 abbrev AsKnown : Query → ℕ → Option (Option ℕ) → Type 0
 AsKnown query entry None = entry ≡ entry
@@ -110,7 +110,7 @@ module _ (query : Query) (es : List Edge) (joins : equalities_of query ≡ es) (
       ∙ ap (sets_by tables (length query.from) es cs (λ entry counts. count_known query entry (known entry) counts))
       (fun_ext (λ entry. fun_ext (list_is query entry (known entry) (stands entry))))
 
-  by_keys : (schema : Schema) (tables : Tables) (cs : List Edge) → carriers schema query ≡ cs
+  by_keys : (schema : Schema) (tables : Tables) (cs : List Edge) → carrying_equalities schema query ≡ cs
       → set_bounds_by_keys schema query tables 1 ≡ sets_known query known tables es cs
   by_keys schema tables cs are =
       ap (λ (s : List Edge). sets_by tables (length query.from) (equalities_of query) s by_conjuncts list_by_conjuncts) are ∙ parts_are tables cs
@@ -120,7 +120,7 @@ module _ (query : Query) (es : List Edge) (joins : equalities_of query ≡ es) (
 abbrev one_edge : List Edge
 one_edge = edge_of 0 1 1 0 ∷ []
 
-region_joined : equalities_of by_region ≡ one_edge
+region_joined : equalities_of region_query ≡ one_edge
 region_joined = rw (equality_two 0 1 1 0 (λ e. absurd (omega (arith, e))), equality_literal (column_operand 1 1) (operand.Int (pos 3)) refl) refl
 
 abbrev region_own : ℕ → Option (Option ℕ)
@@ -128,39 +128,39 @@ region_own zero = Some None
 region_own (suc zero) = Some (Some 1)
 region_own (suc (suc n)) = None
 
-region_known : (entry : ℕ) → AsKnown by_region entry (region_own entry)
+region_known : (entry : ℕ) → AsKnown region_query entry (region_own entry)
 region_known zero = rw (entries_compare op.Eq (column_operand 0 1) (column_operand 1 0), entries_compare op.Eq (column_operand 1 1) (operand.Int (pos 3))) refl
 region_known (suc zero) =
     rw (entries_compare op.Eq (column_operand 0 1) (column_operand 1 0), entries_compare op.Eq (column_operand 1 1) (operand.Int (pos 3))) refl
 region_known (suc (suc n)) = refl
 
-plain_computed : sets_known by_region region_own region_tables one_edge [] ≡ 1 ∷ 5 ∷ 1 ∷ 4 ∷ []
+plain_computed : sets_known region_query region_own region_tables one_edge [] ≡ 1 ∷ 5 ∷ 1 ∷ 4 ∷ []
 unfolding entries_of_set cuts rest list_of_value list_of_node
 plain_computed = refl
 
-keyed_computed : sets_known by_region region_own region_tables one_edge one_edge ≡ 1 ∷ 5 ∷ 1 ∷ 1 ∷ []
+keyed_computed : sets_known region_query region_own region_tables one_edge one_edge ≡ 1 ∷ 5 ∷ 1 ∷ 1 ∷ []
 unfolding entries_of_set cuts rest list_of_value list_of_node
 keyed_computed = refl
 
-stray_computed : sets_known by_region region_own with_a_stray one_edge one_edge ≡ 1 ∷ 6 ∷ 1 ∷ 1 ∷ []
+stray_computed : sets_known region_query region_own stray_order_tables one_edge one_edge ≡ 1 ∷ 6 ∷ 1 ∷ 1 ∷ []
 unfolding entries_of_set cuts rest list_of_value list_of_node
 stray_computed = refl
 
-pub region_plain : set_bounds_of by_region region_tables 1 ≡ 1 ∷ 5 ∷ 1 ∷ 4 ∷ []
-region_plain = parts_are by_region one_edge region_joined region_own region_known region_tables [] ∙ plain_computed
+pub region_plain : set_bounds_of region_query region_tables 1 ≡ 1 ∷ 5 ∷ 1 ∷ 4 ∷ []
+region_plain = parts_are region_query one_edge region_joined region_own region_known region_tables [] ∙ plain_computed
 
-pub region_keyed : set_bounds_by_keys orders_and_customers by_region region_tables 1 ≡ 1 ∷ 5 ∷ 1 ∷ 1 ∷ []
-region_keyed = by_keys by_region one_edge region_joined region_own region_known orders_and_customers region_tables one_edge shop_carriers ∙ keyed_computed
+pub region_keyed : set_bounds_by_keys orders_and_customers region_query region_tables 1 ≡ 1 ∷ 5 ∷ 1 ∷ 1 ∷ []
+region_keyed = by_keys region_query one_edge region_joined region_own region_known orders_and_customers region_tables one_edge shop_carriers ∙ keyed_computed
 
-pub region_stray : set_bounds_by_keys orders_and_customers by_region with_a_stray 1 ≡ 1 ∷ 6 ∷ 1 ∷ 1 ∷ []
-region_stray = by_keys by_region one_edge region_joined region_own region_known orders_and_customers with_a_stray one_edge shop_carriers ∙ stray_computed
+pub region_stray : set_bounds_by_keys orders_and_customers region_query stray_order_tables 1 ≡ 1 ∷ 6 ∷ 1 ∷ 1 ∷ []
+region_stray = by_keys region_query one_edge region_joined region_own region_known orders_and_customers stray_order_tables one_edge shop_carriers ∙ stray_computed
 
-pub region_undeclared : set_bounds_by_keys undeclared_schema by_region region_tables 1 ≡ 1 ∷ 5 ∷ 1 ∷ 4 ∷ []
-region_undeclared = by_keys by_region one_edge region_joined region_own region_known undeclared_schema region_tables [] undeclared_carriers ∙ plain_computed
+pub region_undeclared : set_bounds_by_keys undeclared_schema region_query region_tables 1 ≡ 1 ∷ 5 ∷ 1 ∷ 4 ∷ []
+region_undeclared = by_keys region_query one_edge region_joined region_own region_known undeclared_schema region_tables [] undeclared_carriers ∙ plain_computed
 
 -- ---- the example of workers and bosses
 
-manager_joined : equalities_of by_manager ≡ one_edge
+manager_joined : equalities_of manager_query ≡ one_edge
 manager_joined = rw (equality_two 0 1 1 0 (λ e. absurd (omega (arith, e))), equality_literal (column_operand 1 2) (operand.Int (pos 3)) refl) refl
 
 abbrev manager_own : ℕ → Option (Option ℕ)
@@ -168,32 +168,32 @@ manager_own zero = Some None
 manager_own (suc zero) = Some (Some 2)
 manager_own (suc (suc n)) = None
 
-manager_known : (entry : ℕ) → AsKnown by_manager entry (manager_own entry)
+manager_known : (entry : ℕ) → AsKnown manager_query entry (manager_own entry)
 manager_known zero = rw (entries_compare op.Eq (column_operand 0 1) (column_operand 1 0), entries_compare op.Eq (column_operand 1 2) (operand.Int (pos 3))) refl
 manager_known (suc zero) =
     rw (entries_compare op.Eq (column_operand 0 1) (column_operand 1 0), entries_compare op.Eq (column_operand 1 2) (operand.Int (pos 3))) refl
 manager_known (suc (suc n)) = refl
 
-manager_computed : sets_known by_manager manager_own worker_tables one_edge one_edge ≡ 1 ∷ 5 ∷ 1 ∷ 2 ∷ []
+manager_computed : sets_known manager_query manager_own worker_tables one_edge one_edge ≡ 1 ∷ 5 ∷ 1 ∷ 2 ∷ []
 unfolding entries_of_set cuts rest list_of_value list_of_node
 manager_computed = refl
 
-manager_alone : sets_known by_manager manager_own worker_tables one_edge [] ≡ 1 ∷ 5 ∷ 1 ∷ 3 ∷ []
+manager_alone : sets_known manager_query manager_own worker_tables one_edge [] ≡ 1 ∷ 5 ∷ 1 ∷ 3 ∷ []
 unfolding entries_of_set cuts rest list_of_value list_of_node
 manager_alone = refl
 
-pub manager_plain : set_bounds_of by_manager worker_tables 1 ≡ 1 ∷ 5 ∷ 1 ∷ 3 ∷ []
-manager_plain = parts_are by_manager one_edge manager_joined manager_own manager_known worker_tables [] ∙ manager_alone
+pub manager_plain : set_bounds_of manager_query worker_tables 1 ≡ 1 ∷ 5 ∷ 1 ∷ 3 ∷ []
+manager_plain = parts_are manager_query one_edge manager_joined manager_own manager_known worker_tables [] ∙ manager_alone
 
-pub manager_keyed : set_bounds_by_keys worker_schema by_manager worker_tables 1 ≡ 1 ∷ 5 ∷ 1 ∷ 2 ∷ []
-manager_keyed = by_keys by_manager one_edge manager_joined manager_own manager_known worker_schema worker_tables one_edge worker_carriers ∙ manager_computed
+pub manager_keyed : set_bounds_by_keys worker_schema manager_query worker_tables 1 ≡ 1 ∷ 5 ∷ 1 ∷ 2 ∷ []
+manager_keyed = by_keys manager_query one_edge manager_joined manager_own manager_known worker_schema worker_tables one_edge worker_carriers ∙ manager_computed
 
 -- ---- the example of trades between customers
 
 abbrev two_edges : List Edge
 two_edges = edge_of 0 1 1 0 ∷ edge_of 0 2 2 0 ∷ []
 
-both_joined : equalities_of by_both ≡ two_edges
+both_joined : equalities_of two_references_query ≡ two_edges
 both_joined = rw (
   equality_two 0 1 1 0 (λ e. absurd (omega (arith, e))),
   equality_two 0 2 2 0 (λ e. absurd (omega (arith, e))),
@@ -207,7 +207,7 @@ both_own (suc zero) = Some (Some 1)
 both_own (suc (suc zero)) = Some (Some 1)
 both_own (suc (suc (suc n))) = None
 
-both_known : (entry : ℕ) → AsKnown by_both entry (both_own entry)
+both_known : (entry : ℕ) → AsKnown two_references_query entry (both_own entry)
 both_known zero = rw (
   entries_compare op.Eq (column_operand 0 1) (column_operand 1 0),
   entries_compare op.Eq (column_operand 0 2) (column_operand 2 0),
@@ -228,16 +228,16 @@ both_known (suc (suc zero)) = rw (
 ) refl
 both_known (suc (suc (suc n))) = refl
 
-both_computed : sets_known by_both both_own trade_tables two_edges two_edges ≡ 1 ∷ 5 ∷ 1 ∷ 2 ∷ 1 ∷ 2 ∷ 1 ∷ 1 ∷ []
+both_computed : sets_known two_references_query both_own trade_tables two_edges two_edges ≡ 1 ∷ 5 ∷ 1 ∷ 2 ∷ 1 ∷ 2 ∷ 1 ∷ 1 ∷ []
 unfolding entries_of_set cuts rest list_of_value list_of_node
 both_computed = refl
 
-both_alone : sets_known by_both both_own trade_tables two_edges [] ≡ 1 ∷ 5 ∷ 1 ∷ 3 ∷ 1 ∷ 3 ∷ 1 ∷ 3 ∷ []
+both_alone : sets_known two_references_query both_own trade_tables two_edges [] ≡ 1 ∷ 5 ∷ 1 ∷ 3 ∷ 1 ∷ 3 ∷ 1 ∷ 3 ∷ []
 unfolding entries_of_set cuts rest list_of_value list_of_node
 both_alone = refl
 
-pub both_plain : set_bounds_of by_both trade_tables 1 ≡ 1 ∷ 5 ∷ 1 ∷ 3 ∷ 1 ∷ 3 ∷ 1 ∷ 3 ∷ []
-both_plain = parts_are by_both two_edges both_joined both_own both_known trade_tables [] ∙ both_alone
+pub both_plain : set_bounds_of two_references_query trade_tables 1 ≡ 1 ∷ 5 ∷ 1 ∷ 3 ∷ 1 ∷ 3 ∷ 1 ∷ 3 ∷ []
+both_plain = parts_are two_references_query two_edges both_joined both_own both_known trade_tables [] ∙ both_alone
 
-pub both_keyed : set_bounds_by_keys trade_schema by_both trade_tables 1 ≡ 1 ∷ 5 ∷ 1 ∷ 2 ∷ 1 ∷ 2 ∷ 1 ∷ 1 ∷ []
-both_keyed = by_keys by_both two_edges both_joined both_own both_known trade_schema trade_tables two_edges trade_carriers ∙ both_computed
+pub both_keyed : set_bounds_by_keys trade_schema two_references_query trade_tables 1 ≡ 1 ∷ 5 ∷ 1 ∷ 2 ∷ 1 ∷ 2 ∷ 1 ∷ 1 ∷ []
+both_keyed = by_keys two_references_query two_edges both_joined both_own both_known trade_schema trade_tables two_edges trade_carriers ∙ both_computed

@@ -7,12 +7,12 @@ use Rattle.query_types.specs.declared.types.Operand.TheVariants as operand
 use Rattle.query_types.proofs.CondFacts.{entries_compare}
 use Rattle.join_graph.specs.Conjuncts.{column_operand}
 use Rattle.join_graph.proofs.Comparing.{equality_literal, equality_two}
-use Rattle.planning.specs.ReducedExamples.{by_region}
-use Rattle.key_carriers.specs.Carriers.{carriers}
+use Rattle.planning.specs.ReducedExamples.{region_query}
+use Rattle.key_carriers.specs.Carriers.{carrying_equalities}
 use Rattle.key_carriers.specs.Examples.{keyless_schema, orders_and_customers, undeclared_schema}
-use Rattle.key_bounds.specs.Examples.{by_both, by_manager, trade_schema, worker_schema}
+use Rattle.key_bounds.specs.Examples.{two_references_query, manager_query, trade_schema, worker_schema}
 
-pub shop_carriers : carriers orders_and_customers by_region ≡ edge_of 0 1 1 0 ∷ []
+pub shop_carriers : carrying_equalities orders_and_customers region_query ≡ edge_of 0 1 1 0 ∷ []
 shop_carriers = rw (
   equality_two 0 1 1 0 (λ e. absurd (omega (arith, e))),
   equality_literal (column_operand 1 1) (operand.Int (pos 3)) refl,
@@ -20,13 +20,13 @@ shop_carriers = rw (
   entries_compare op.Eq (column_operand 1 1) (operand.Int (pos 3)),
 ) refl
 
-pub undeclared_carriers : carriers undeclared_schema by_region ≡ []
+pub undeclared_carriers : carrying_equalities undeclared_schema region_query ≡ []
 undeclared_carriers = rw (equality_two 0 1 1 0 (λ e. absurd (omega (arith, e))), equality_literal (column_operand 1 1) (operand.Int (pos 3)) refl) refl
 
-pub keyless_carriers : carriers keyless_schema by_region ≡ []
+pub keyless_carriers : carrying_equalities keyless_schema region_query ≡ []
 keyless_carriers = rw (equality_two 0 1 1 0 (λ e. absurd (omega (arith, e))), equality_literal (column_operand 1 1) (operand.Int (pos 3)) refl) refl
 
-pub worker_carriers : carriers worker_schema by_manager ≡ edge_of 0 1 1 0 ∷ []
+pub worker_carriers : carrying_equalities worker_schema manager_query ≡ edge_of 0 1 1 0 ∷ []
 worker_carriers = rw (
   equality_two 0 1 1 0 (λ e. absurd (omega (arith, e))),
   equality_literal (column_operand 1 2) (operand.Int (pos 3)) refl,
@@ -34,7 +34,7 @@ worker_carriers = rw (
   entries_compare op.Eq (column_operand 1 2) (operand.Int (pos 3)),
 ) refl
 
-pub trade_carriers : carriers trade_schema by_both ≡ edge_of 0 1 1 0 ∷ edge_of 0 2 2 0 ∷ []
+pub trade_carriers : carrying_equalities trade_schema two_references_query ≡ edge_of 0 1 1 0 ∷ edge_of 0 2 2 0 ∷ []
 trade_carriers = rw (
   equality_two 0 1 1 0 (λ e. absurd (omega (arith, e))),
   equality_two 0 2 2 0 (λ e. absurd (omega (arith, e))),

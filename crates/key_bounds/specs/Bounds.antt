@@ -10,7 +10,7 @@ use Rattle.set_bounds.specs.AllSets.{bounds_in_sets}
 use Rattle.sql_meaning.specs.Tables.{Tables}
 use Rattle.query_bounds.specs.Bounds.{is_among, joined_columns, scan_list, scan_row_bound}
 use Rattle.gathered_stats.specs.Statistics.{statistics_of}
-use Rattle.key_carriers.specs.Carriers.{carriers, carriers_to}
+use Rattle.key_carriers.specs.Carriers.{carrying_equalities, carriers_to}
 use Rattle.key_stats.specs.Lists.{carried_list, carried_rows}
 
 -- the list whose running sum at each rank is the least of the running sums of `list` and all `lists`
@@ -39,9 +39,9 @@ list_by_keys query tables accuracy entry column es =
 abbrev pub bounds_by_keys : Schema → Query → Tables → ℕ → ℕ → EntryBounds
 bounds_by_keys schema query tables accuracy subset = record {
   rows = λ entry. if nat_lt entry (length query.from)
-      then rows_by_keys query tables accuracy entry (carriers_to (carriers schema query) subset entry) else 0;
+      then rows_by_keys query tables accuracy entry (carriers_to (carrying_equalities schema query) subset entry) else 0;
   list = λ entry column. if is_among (joined_columns query) entry column
-      then list_by_keys query tables accuracy entry column (carriers_to (carriers schema query) subset entry) else [];
+      then list_by_keys query tables accuracy entry column (carriers_to (carrying_equalities schema query) subset entry) else [];
 }
 
 -- the bound of each set of entries. A set's index is the number whose bits are the set's entries

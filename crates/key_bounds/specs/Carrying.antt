@@ -12,8 +12,8 @@ use Rattle.key_carriers.specs.Carriers.{with_exchanged_sides}
 abbrev pub IsEqualityEitherWay : Query → Edge → Type 0
 IsEqualityEitherWay query e = Contains (with_exchanged_sides (equalities_of query)) e
 
--- the statistics have lists of at least one column of the first entry, and no column twice. Each list sums to the entry's row bound
-pub record AddUp (stats : QueryStats) : Type 0 where
+-- the first entry of the statistics has lists of at least one column, and of no column twice. Each list sums to the entry's row bound
+pub record ListsSumToRows (stats : QueryStats) : Type 0 where
   pub there : 0 < length stats.entries
   pub some : 0 < length (columns_of stats 0)
   pub apart : IsDistinct ◌==◌ (map (λ joined. joined.column) (columns_of stats 0))

@@ -10,19 +10,19 @@ use Rattle.query_types.specs.declared.types.Query.{Query}
 use Rattle.join_graph.specs.Conjuncts.{column_operand}
 use Rattle.sql_meaning.specs.Tables.{Tables}
 use Rattle.key_carriers.specs.Examples.{id_key, customers_with, number_column}
-use Rattle.planning.specs.ReducedExamples.{columns_equal, numbers, region_tables, source}
+use Rattle.planning.specs.ReducedExamples.{columns_equal, number_row, region_tables, source}
 
 -- the condition that column `column` of entry `entry` is equal to n
 abbrev pub column_equals : ℕ → ℕ → ℕ → Cond
 column_equals entry column n = Compare op.Eq (column_operand entry column) (operand.Int (pos n))
 
 -- `region_tables` with one more row of O(N, CID): (6, 9), which refers to no row
-abbrev pub with_a_stray : Tables
-with_a_stray entry = region_tables entry ++ (if entry == 0 then numbers (6 ∷ 9 ∷ []) ∷ [] else [])
+abbrev pub stray_order_tables : Tables
+stray_order_tables entry = region_tables entry ++ (if entry == 0 then number_row (6 ∷ 9 ∷ []) ∷ [] else [])
 
 -- SELECT E.N FROM W AS E, W AS M WHERE E.BOSS = M.N AND M.REG = 3, over W(N, BOSS, REG)
-abbrev pub by_manager : Query
-by_manager = record {
+abbrev pub manager_query : Query
+manager_query = record {
   from = source 0 69 ∷ source 0 77 ∷ [];
   conjuncts = columns_equal 0 1 1 0 ∷ column_equals 1 2 3 ∷ [];
   select = record { column = record { from = 0; column = 0 }; name = 78 ∷ [] } ∷ [];
@@ -43,7 +43,7 @@ worker_schema = record { tables = workers ∷ [] }
 -- worker 1 is the boss of 1 and 2, and worker 2 is the boss of 3, 4 and 5. Only worker 1 is in region 3
 abbrev pub worker_tables : Tables
 worker_tables entry =
-    map numbers ((1 ∷ 1 ∷ 3 ∷ []) ∷ (2 ∷ 1 ∷ 4 ∷ []) ∷ (3 ∷ 2 ∷ 4 ∷ []) ∷ (4 ∷ 2 ∷ 4 ∷ []) ∷ (5 ∷ 2 ∷ 4 ∷ []) ∷ [])
+    map number_row ((1 ∷ 1 ∷ 3 ∷ []) ∷ (2 ∷ 1 ∷ 4 ∷ []) ∷ (3 ∷ 2 ∷ 4 ∷ []) ∷ (4 ∷ 2 ∷ 4 ∷ []) ∷ (5 ∷ 2 ∷ 4 ∷ []) ∷ [])
 
 -- ---- two references to one table
 
@@ -61,8 +61,8 @@ abbrev pub trade_schema : Schema
 trade_schema = record { tables = trades ∷ customers_with id_key ∷ [] }
 
 -- SELECT O.N FROM O, C AS B, C AS P WHERE O.BUYER = B.ID AND O.PAYER = P.ID AND B.REG = 3 AND P.REG = 3
-abbrev pub by_both : Query
-by_both = record {
+abbrev pub two_references_query : Query
+two_references_query = record {
   from = source 0 79 ∷ source 1 66 ∷ source 1 80 ∷ [];
   conjuncts = columns_equal 0 1 1 0 ∷ columns_equal 0 2 2 0 ∷ column_equals 1 1 3 ∷ column_equals 2 1 3 ∷ [];
   select = record { column = record { from = 0; column = 0 }; name = 78 ∷ [] } ∷ [];
@@ -71,5 +71,5 @@ by_both = record {
 -- five trades of two customers: customer 1 is in region 3, and customer 2 is in region 4
 abbrev pub trade_tables : Tables
 trade_tables entry =
-    map numbers (if entry == 0 then (1 ∷ 1 ∷ 2 ∷ []) ∷ (2 ∷ 2 ∷ 1 ∷ []) ∷ (3 ∷ 2 ∷ 2 ∷ []) ∷ (4 ∷ 1 ∷ 1 ∷ []) ∷ (5 ∷ 2 ∷ 2 ∷ []) ∷ []
+    map number_row (if entry == 0 then (1 ∷ 1 ∷ 2 ∷ []) ∷ (2 ∷ 2 ∷ 1 ∷ []) ∷ (3 ∷ 2 ∷ 2 ∷ []) ∷ (4 ∷ 1 ∷ 1 ∷ []) ∷ (5 ∷ 2 ∷ 2 ∷ []) ∷ []
     else (1 ∷ 3 ∷ []) ∷ (2 ∷ 4 ∷ []) ∷ [])

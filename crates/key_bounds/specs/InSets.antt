@@ -27,7 +27,7 @@ rows_carried entry c = unwrap_or (row_bound_of c.lists entry) 0
 abbrev pub list_carried : ℕ → ℕ → CarriedBounds → List ℕ
 list_carried entry column c = unwrap_or (list_of c.lists entry column) []
 
--- the least of an entry's row bound and the row bounds that are carried to it within the set. The definition after it does the same for a list
+-- the least of an entry's row bound and the row bounds that are carried to it within the set. `list_within` does the same for a list
 abbrev pub rows_within : List CarriedBounds → ℕ → ℕ → ℕ → ℕ
 rows_within carried subset entry rows = least_rows rows (map (rows_carried entry) (carried_to carried subset entry))
 
@@ -39,11 +39,11 @@ list_within carried subset entry column list = least_list list (map (list_carrie
 abbrev pub is_carried : ℕ → ℕ → CarriedBounds → Bool
 is_carried subset entry c = joins_within subset c.edge && c.edge.left.entry == entry
 
-abbrev pub fewer_by : ℕ → ℕ → CarriedBounds → ℕ → ℕ
-fewer_by subset entry c rows = if is_carried subset entry c then min rows (rows_carried entry c) else rows
+abbrev pub lowered_rows : ℕ → ℕ → CarriedBounds → ℕ → ℕ
+lowered_rows subset entry c rows = if is_carried subset entry c then min rows (rows_carried entry c) else rows
 
-abbrev pub narrowed_by : ℕ → ℕ → ℕ → CarriedBounds → List ℕ → List ℕ
-narrowed_by subset entry column c list = if is_carried subset entry c then lesser list (list_carried entry column c) else list
+abbrev pub lowered_list : ℕ → ℕ → ℕ → CarriedBounds → List ℕ → List ℕ
+lowered_list subset entry column c list = if is_carried subset entry c then lesser list (list_carried entry column c) else list
 
 -- ---- the bounds of all entries in a set
 
@@ -63,8 +63,8 @@ CarriesTo place c = c.edge.left.entry ≡ place.entry → IsSome (list_of c.list
 abbrev pub CarriesLists : List Edge → CarriedBounds → Type 0
 CarriesLists es c = AllByRecursion (λ place. CarriesTo place c) (places_of es)
 
--- the set has only entries below `keys.count`, which is at most `most_entries`. Each entry below `keys.count` has a row bound, and each column that
--- these equalities name has a list. Each carried bound has a list of each column of its left entry that the equalities name
+-- the set has only entries below `keys.count`, which is at most `most_entries`. Each of these entries has a row bound, and each column that the
+-- equalities name has a list. Each carried bound has a list of each column of its left entry that the equalities name
 pub record HaveKeyLists (keys : KeyLists) (es : List Edge) (subset : ℕ) : Type 0 where
   pub few : keys.count ≤ most_entries
   pub fits : subset < 2 ^ keys.count

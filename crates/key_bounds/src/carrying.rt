@@ -1,5 +1,5 @@
-//! Makes the bounds that are carried along the references of a schema, from a query's tables. They bound those rows of an entry that refer to rows
-//! which pass another entry's own conjuncts.
+//! Makes the bounds that are carried along the references of a schema, from a query's tables. Such a bound counts only the rows of an entry that
+//! refer to rows which pass another entry's own conjuncts.
 ghost use Rattle.std.specs.Prelude.{◌≡◌, All, IfOk, Some, length};
 ghost use Rattle.bound_fold.specs.Lists.{list_of, row_bound_of};
 ghost use Rattle.join_graph.specs.Conjuncts.{equalities_of, local_of};
@@ -7,8 +7,8 @@ ghost use Rattle.predicate_bounds.specs.StatsLists.{columns_of, list_in_stats, r
 ghost use Rattle.sql_meaning.specs.Databases.{IsDatabaseOf};
 ghost use Rattle.sql_meaning.specs.Tables.{tables_of};
 ghost use Rattle.gathered_stats.specs.Asked.{AreGathered};
-ghost use Rattle.key_stats.specs.Carrying.{TellAlong, TellsCarried};
-ghost use Rattle.key_bounds.specs.Carrying.{AddUp, IsEqualityEitherWay};
+ghost use Rattle.key_stats.specs.Carrying.{HaveCarriedBounds, HasCarriedBounds};
+ghost use Rattle.key_bounds.specs.Carrying.{ListsSumToRows, IsEqualityEitherWay};
 
 use base_io::{NoMemory, Seq};
 use berge_tree::Edge;
@@ -23,9 +23,9 @@ use predicate_bounds::QueryStats;
 use query_types::Query;
 use std::alloc::Global;
 
-// The row bound and the lists of the first entry of `stats`. They are returned as those of `entry`.
+// The row bound and the lists of the first entry of `stats`. In the result they are the row bound and the lists of `entry`.
 fn first_lists(alloc: Global, stats: &QueryStats, entry: u8) -> Result<EntryLists, NoMemory>
-    requires { AddUp stats.now }
+    requires { ListsSumToRows stats.now }
     ensures rows { IfOk result (λ made. row_bound_of made entry ≡ Some (row_bound_in_stats stats.now 0)) }
     ensures lists { IfOk result (λ made. All (λ joined. list_of made entry joined.column ≡ Some (list_in_stats stats.now 0 joined.column)) (columns_of stats.now 0)) }
 {
@@ -56,7 +56,7 @@ fn carried_over(
     requires own { AreGathered query.now db.now accuracy (length query.now.from) own.now.entries }
     requires joined { IsEqualityEitherWay query.now edge }
     ensures edge { IfOk result (λ made. made.edge ≡ edge) }
-    ensures tells { IfOk result (TellsCarried query.now (tables_of db.now) accuracy) }
+    ensures tells { IfOk result (HasCarriedBounds query.now (tables_of db.now) accuracy) }
 {
     characters_differ(&db.pool);
     let widened = widened_rows(alloc, db, edge)?;
@@ -92,7 +92,7 @@ pub(crate) fn carried_along(
     requires database { IsDatabaseOf query.now db.now }
     requires own { AreGathered query.now db.now accuracy (length query.now.from) own.now.entries }
     requires joined { All (IsEqualityEitherWay query.now) edges.now }
-    ensures { IfOk result (TellAlong query.now (tables_of db.now) accuracy edges.now) }
+    ensures { IfOk result (HaveCarriedBounds query.now (tables_of db.now) accuracy edges.now) }
 {
     let mut carried = Seq::new(alloc);
     'edges: for number in 0..edges.len() {

@@ -5,7 +5,7 @@ ghost use Rattle.std.specs.List.{sum};
 ghost use Rattle.bound_fold.specs.Lists.{list_of, row_bound_of};
 ghost use Rattle.bound_fold.specs.Sets.{HaveLists};
 ghost use Rattle.tree_bounds.specs.Columns.{EachNamedColumn};
-ghost use Rattle.key_bounds.specs.InSets.{HaveKeyLists, CarriesLists, CarriesTo, IsPartOf, fewer_by, is_carried, bounds_with_carried, list_within, narrowed_by, rows_within};
+ghost use Rattle.key_bounds.specs.InSets.{HaveKeyLists, CarriesLists, CarriesTo, IsPartOf, lowered_rows, is_carried, bounds_with_carried, list_within, lowered_list, rows_within};
 
 use crate::key_lists::KeyLists;
 use base_io::NoMemory;
@@ -15,7 +15,7 @@ use entry_sets::EntrySet;
 use join_graph::{Parts, joins_within};
 use key_stats::CarriedBounds;
 use piece_math::Pieces;
-use set_bounds::{KnownInSets, folded_bound};
+use set_bounds::{EntryListsBySet, folded_bound};
 use std::alloc::Global;
 
 // Whether carried bounds count for an entry in a set: both entries of their equality are in the set, and `entry` is its left entry.
@@ -28,9 +28,9 @@ fn is_carried(carried: &CarriedBounds, subset: EntrySet, entry: u8) -> bool
     carried.edge.left.entry == entry
 }
 
-// The lesser of `rows` and the carried row bound. If the carried bound doesn't count for the entry in the set, it is `rows`.
+// The lesser of `rows` and the carried row bound. If the carried bound doesn't count for the entry in the set, the result is `rows`.
 fn lesser_rows(rows: u64, one: &CarriedBounds, subset: EntrySet, entry: u8) -> u64
-    ensures { result ≡ fewer_by subset entry one.now rows }
+    ensures { result ≡ lowered_rows subset entry one.now rows }
 {
     if is_carried(one, subset, entry) {
         return rows.min(one.lists.rows(entry).unwrap_or(0));
@@ -61,8 +61,8 @@ fn list_at(lists: &EntryLists, place: Place) -> &Pieces
     }
 }
 
-// The list whose running sums are the lesser ones of `list` and of the carried list. If the carried list doesn't count for the entry in the set, it
-// is `list`.
+// The list whose running sums are the lesser ones of `list` and of the carried list. If the carried list doesn't count for the entry in the set, the
+// result is `list`.
 fn narrowed(
     list: Pieces,
     one: &CarriedBounds,
@@ -71,7 +71,7 @@ fn narrowed(
 ) -> Result<Pieces, NoMemory>
     requires small { sum list < 2 ^ 64 }
     requires carries { CarriesTo place one.now }
-    ensures list { IfOk result (λ made. made ≡ narrowed_by subset place.entry place.column one.now list) }
+    ensures list { IfOk result (λ made. made ≡ lowered_list subset place.entry place.column one.now list) }
     ensures small { IfOk result (λ made. sum made < 2 ^ 64) }
 {
     if is_carried(one, subset, place.entry) {
@@ -186,7 +186,7 @@ fn lists_in(
     Ok(made)
 }
 
-impl KnownInSets for KeyLists {
+impl EntryListsBySet for KeyLists {
     ghost known = { bounds_with_carried };
 
     ghost is_listed = { HaveKeyLists };

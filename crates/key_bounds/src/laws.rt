@@ -26,7 +26,7 @@ pub fn keys_only_lower()
 
 /// If the declared keys hold, no bound is too low. The bounds of entries in each set stand for the rows that may be in a choice for the set. No level
 /// over the scans of a set's entries has more rows than the bound of the set. A plan by these bounds is a plan over the scans, and `planned_by_keys`
-/// is never NoMemory. Rows that refer to no row need no exception, since they are in no choice with the other entry.
+/// is never `NoMemory`. A row that refers to no row needs no exception: it is in no choice with a row of the other entry.
 pub fn keys_are_never_under()
     ensures stand { (schema : Schema) (query : Query) (tables : Tables) (accuracy : ℕ) → DeclaredKeysHold schema query tables
         → (key : Keys) × StandForLists query tables (scans_of query tables) key (bounds_by_keys schema query tables accuracy) }
@@ -39,9 +39,9 @@ pub fn keys_are_never_under()
         → planned_by_keys schema query tables accuracy budget ≢ Err error.NoMemory }
 {}
 
-/// Suppose that equalities name only FROM entries, and that a set consists of two parts that no equality joins. The bound of each part is the same
-/// with the conjuncts that are carried within the set as with those carried within the part. The reason is that a carrier is joined with the entry to
-/// which it carries, so both are in the same part.
+/// Suppose that equalities name only FROM entries, and that a set consists of two parts that no equality joins. A part's bound is the same, whether
+/// conjuncts are carried within the whole set or only within the part. The reason is that a carrier is joined with the entry to which it carries, so
+/// both are in the same part.
 pub fn keys_look_at_parts()
     ensures { (schema : Schema) (query : Query) (tables : Tables) (accuracy : ℕ)
         → EachNamedColumn (λ entry column. entry < length query.from) (equalities_of query)

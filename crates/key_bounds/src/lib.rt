@@ -1,8 +1,8 @@
 //! Computes bounds of all sets of a query's entries, and plans, with conjuncts carried along references to keys.
 //!
 //! In: a query, its schema and its tables. Suppose that the schema declares a reference to a key, and that an equality of the query joins the two
-//! columns. Then, in a set with both entries, some rows of the referring entry don't count: those that refer to no row that passes the other entry's
-//! own conjuncts. Out: row bounds and lists of each entry in each set (`KeyLists`, which is a `KnownInSets`), and the bounds of all sets
+//! columns. Take a set with both entries. There a row of the referring entry counts only if it refers to a row that passes the other entry's own
+//! conjuncts. Out: row bounds and lists of each entry in each set (`KeyLists`, which is a `EntryListsBySet`), and the bounds of all sets
 //! (`from_keys`). The bound of a scan comes only from statistics of its own table.
 //!
 //! In contracts `bounds_by_keys` gives the bounds of entries in a set, and `planned_by_keys` the plan. `DeclaredKeysHold` of key_carriers says that

@@ -17,7 +17,7 @@ use base_io::{NoMemory, Seq};
 use csv_tables::Database;
 use gathered_stats::gather_query;
 use join_graph::{Parts, split};
-use key_carriers::carriers;
+use key_carriers::carrying_equalities;
 use key_stats::CarriedBounds;
 use limits::Accuracy;
 use planning::{QueryBounds, bounds_from};
@@ -76,7 +76,7 @@ pub fn from_keys(
 {
     let parts = split(alloc, query)?;
     let stats = gather_query(alloc, query, &parts, db, accuracy)?;
-    let edges = carriers(alloc, schema, query, &parts)?;
+    let edges = carrying_equalities(alloc, schema, query, &parts)?;
     let carried = carried_along(alloc, query, &parts, db, &stats, edges.as_slice(), accuracy)?;
     from_carried(alloc, query, &parts, &stats, carried)
 }

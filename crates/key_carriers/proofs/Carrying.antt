@@ -9,24 +9,24 @@ use Rattle.std.proofs.lemmas.Option.{get_or_from_slice_get}
 use Rattle.berge_tree.specs.declared.edges.Edge.{Edge}
 use Rattle.schema_types.specs.declared.types.Schema.{Schema}
 use Rattle.query_types.specs.declared.types.Query.{Query}
-use Rattle.join_graph.specs.Conjuncts.{local_of, names_just, numbers_where}
+use Rattle.join_graph.specs.Conjuncts.{local_of, is_own_conjunct, numbers_where}
 use Rattle.tree_bounds.specs.Columns.{EachNamedColumn}
-use Rattle.key_carriers.specs.Carriers.{with_exchanged_sides, carries, has_own, exchanged}
+use Rattle.key_carriers.specs.Carriers.{with_exchanged_sides, carries, has_own_conjunct, exchanged}
 
-pub some_listed : {A : Type 0} (test : A → Bool) (first : ℕ) (xs : List A) → list_any test xs ≡ ltb 0 (length (numbers_where test first xs))
-some_listed test first [] = refl
-some_listed test first (x ∷ xs) = elim (cases_Bool (test x)) [
+pub some_numbered : {A : Type 0} (test : A → Bool) (first : ℕ) (xs : List A) → list_any test xs ≡ ltb 0 (length (numbers_where test first xs))
+some_numbered test first [] = refl
+some_numbered test first (x ∷ xs) = elim (cases_Bool (test x)) [
   | inl passes ↦ rw passes (sym (lt-ltb 0 (length (first ∷ numbers_where test (first + 1) xs)) (omega arith)))
-  | inr fails ↦ rw fails (some_listed test (first + 1) xs)
+  | inr fails ↦ rw fails (some_numbered test (first + 1) xs)
 ]
 
-pub own_listed : (query : Query) (local : List (List ℕ)) (entry at : ℕ) (numbers : List ℕ) → local ≡ local_of query → entry < length query.from → at ≡ entry
-    → slice_get local at ≡ Some numbers → ltb 0 (length numbers) ≡ has_own query entry
-own_listed query local entry at numbers is low same there =
+pub own_conjuncts_numbered : (query : Query) (local : List (List ℕ)) (entry at : ℕ) (numbers : List ℕ) → local ≡ local_of query → entry < length query.from → at ≡ entry
+    → slice_get local at ≡ Some numbers → ltb 0 (length numbers) ≡ has_own_conjunct query entry
+own_conjuncts_numbered query local entry at numbers is low same there =
     ap (λ (s : List ℕ). ltb 0 (length s))
     (sym (get_or_from_slice_get local at numbers [] there) ∙ ap (λ (s : List (List ℕ)). get_or s at []) is ∙ ap (λ (n : ℕ). get_or (local_of query) n []) same
-    ∙ get_or-map-range_with_len (λ entry. numbers_where (names_just entry) 0 query.conjuncts) 0 (length query.from) entry entry [] low (omega arith))
-    ∙ sym (some_listed (names_just entry) 0 query.conjuncts)
+    ∙ get_or-map-range_with_len (λ entry. numbers_where (is_own_conjunct entry) 0 query.conjuncts) 0 (length query.from) entry entry [] low (omega arith))
+    ∙ sym (some_numbered (is_own_conjunct entry) 0 query.conjuncts)
 
 both_more : (es : List Edge) (e : Edge) → with_exchanged_sides (es ++ e ∷ []) ≡ with_exchanged_sides es ++ (e ∷ (exchanged e ∷ []))
 both_more [] e = refl
@@ -45,9 +45,9 @@ one_more schema query es i d before between after low is first second =
     ∙ sym (filter-append p (with_exchanged_sides (take i es)) (e ∷ (exchanged e ∷ [])))
     ∙ ap (filter p) (sym (both_more (take i es) e) ∙ ap with_exchanged_sides (sym (take_more es i d low)))
 
-pub named_low : (n : ℕ) (es all : List Edge) (i : ℕ) (d : Edge) → es ≡ all → EachNamedColumn (λ entry column. entry < n) all → i < length es
+pub named_entries_exist : (n : ℕ) (es all : List Edge) (i : ℕ) (d : Edge) → es ≡ all → EachNamedColumn (λ entry column. entry < n) all → i < length es
     → ((get_or es i d).left.entry < n) × ((get_or es i d).right.entry < n)
-named_low n es all i d is named low = at es i d (subst (EachNamedColumn (λ entry column. entry < n)) (sym is) named) low
+named_entries_exist n es all i d is named low = at es i d (subst (EachNamedColumn (λ entry column. entry < n)) (sym is) named) low
   where
     at : (es : List Edge) (i : ℕ) (d : Edge) → EachNamedColumn (λ entry column. entry < n) es → i < length es → ((get_or es i d).left.entry < n) × ((get_or es i d).right.entry < n)
     at [] i d h low = absurd (omega arith)

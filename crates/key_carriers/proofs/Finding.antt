@@ -39,7 +39,7 @@ module _ (db : Database) (e : Edge) (tables : AreTables db) (different : TextsAr
   pub right_count : length right_cells ≡ row_counts (tables_of db) e.right.entry
   right_count = cell_count db (column_at_place e.right) tables one.right.exists ∙ sym (rows_are db e.right.entry)
 
-  module _ (row : ℕ) (low : row < row_counts (tables_of db) e.left.entry) where
+  module _ (row : ℕ) (row_exists : row < row_counts (tables_of db) e.left.entry) where
     abbrev left_kind : Kind
     left_kind = get_or (cells_of db e.left.entry).kinds e.left.column kind.Int
 
@@ -51,7 +51,7 @@ module _ (db : Database) (e : Edge) (tables : AreTables db) (different : TextsAr
 
     cells_tell : (other : ℕ) → other < row_counts (tables_of db) e.right.entry → are_equal_at (tables_of db) e row other ≡ eqb cell (get_or right_cells other 0)
     cells_tell other high =
-        let below : row < (cells_of db e.left.entry).rows = omega (arith, low, rows_are db e.left.entry) in
+        let below : row < (cells_of db e.left.entry).rows = omega (arith, row_exists, rows_are db e.left.entry) in
         let beside : other < (cells_of db e.right.entry).rows = omega (arith, high, rows_are db e.right.entry) in
         ap (λ (v : Value). is_eq (value_cmp v (value_at (tables_of db) e.right.entry e.right.column other))) (value_by_cell db (column_at_place e.left) (λ x. row) tables one.left.exists below)
         ∙ ap (λ (v : Value). is_eq (value_cmp (value_of_cell db.pool left_kind cell) v)) (value_by_cell db (column_at_place e.right) (λ x. other) tables one.right.exists beside)
@@ -66,7 +66,7 @@ module _ (db : Database) (e : Edge) (tables : AreTables db) (different : TextsAr
     passes other = are_equal_at (tables_of db) e row other
 
     passes_at : (k : ℕ) → k < row_counts (tables_of db) e.right.entry → passes (get_or others k 0) ≡ eqb cell (get_or right_cells k 0)
-    passes_at k low = ap passes (get_or-range_with_len 0 (row_counts (tables_of db) e.right.entry) k 0 low ∙ omega arith) ∙ cells_tell k low
+    passes_at k row_exists = ap passes (get_or-range_with_len 0 (row_counts (tables_of db) e.right.entry) k 0 row_exists ∙ omega arith) ∙ cells_tell k row_exists
 
     pub first_is : (o : Option ℕ) → IsPlaceOf right_cells cell 0 o → o ≡ referred_row (tables_of db) e row
     first_is (Some place) is =
@@ -81,8 +81,8 @@ module _ (db : Database) (e : Edge) (tables : AreTables db) (different : TextsAr
         let long : length others ≡ row_counts (tables_of db) e.right.entry = length-range_with_len 0 (row_counts (tables_of db) e.right.entry) in
         let at : position_or_len passes others ≡ length others =
         position_or_len_is passes others (length others) 0 (omega arith)
-        (λ k less. let low : k < row_counts (tables_of db) e.right.entry = omega (arith, less, long) in
-        passes_at k low ∙ ne_eqb cell (get_or right_cells k 0) (λ same. is k (omega arith) (omega (arith, low, right_count)) (sym same)))
+        (λ k less. let row_exists : k < row_counts (tables_of db) e.right.entry = omega (arith, less, long) in
+        passes_at k row_exists ∙ ne_eqb cell (get_or right_cells k 0) (λ same. is k (omega arith) (omega (arith, row_exists, right_count)) (sym same)))
         (λ within. absurd (omega arith)) in
         sym (ap (λ (n : ℕ). cond (ltb n (length others)) (Some n) None) at ∙ ap (λ (b : Bool). cond b (Some (length others)) None) (le-ltb (length others) (length others) (omega arith)))
 

@@ -28,22 +28,22 @@ module _ (tables : Tables) (e : Edge) where
       let is = pair_of made.0 (referred_row tables e made.0) pair made.2 in
       (made.0, omega (arith, within), is.0, is.1)
 
-  pub referring_low : All (λ row. row < row_counts tables e.left.entry) (referring tables e)
-  referring_low k d low =
+  pub referring_rows_exist : All (λ row. row < row_counts tables e.left.entry) (referring tables e)
+  referring_rows_exist k d low =
       let at = from_map (λ (pair : ℕ × ℕ). pair.0) pairs (get_or (referring tables e) k d) (Contains-get_or (referring tables e) k d low) in
       let pair = found at.0 at.1 in
       omega (arith, at.2, pair.1, pair.2)
 
-  partner_low : (row other : ℕ) → referred_row tables e row ≡ Some other → other < row_counts tables e.right.entry
-  partner_low row other is =
+  referred_row_exists : (row other : ℕ) → referred_row tables e row ≡ Some other → other < row_counts tables e.right.entry
+  referred_row_exists row other is =
       let at = position-Some (are_equal_at tables e row) (range_with_len 0 (row_counts tables e.right.entry)) other 0 is in
       omega (arith, at.0, length-range_with_len 0 (row_counts tables e.right.entry))
 
-  pub referred_low : All (λ row. row < row_counts tables e.right.entry) (referred tables e)
-  referred_low k d low =
+  pub referred_rows_exist : All (λ row. row < row_counts tables e.right.entry) (referred tables e)
+  referred_rows_exist k d low =
       let at = from_map (λ (pair : ℕ × ℕ). pair.1) pairs (get_or (referred tables e) k d) (Contains-get_or (referred tables e) k d low) in
       let pair = found at.0 at.1 in
-      omega (arith, at.2, partner_low pair.0 at.0.1 pair.3)
+      omega (arith, at.2, referred_row_exists pair.0 at.0.1 pair.3)
 
   pub as_many : length (referring tables e) ≡ length (referred tables e)
   as_many = omega (arith, length-map pairs (λ (pair : ℕ × ℕ). pair.0), length-map pairs (λ (pair : ℕ × ℕ). pair.1))
@@ -52,15 +52,15 @@ module _ (tables : Tables) (e : Edge) where
   none_more None xs = omega arith
   none_more (Some x) xs = omega arith
 
-  few_pairs : (rows : List ℕ) → length (filter_map (widened_row tables e) rows) ≤ length rows
-  few_pairs [] = omega arith
-  few_pairs (row ∷ rows) = omega (arith, none_more (widened_row tables e row) (filter_map (widened_row tables e) rows), few_pairs rows)
+  at_most_one_pair_per_row : (rows : List ℕ) → length (filter_map (widened_row tables e) rows) ≤ length rows
+  at_most_one_pair_per_row [] = omega arith
+  at_most_one_pair_per_row (row ∷ rows) = omega (arith, none_more (widened_row tables e row) (filter_map (widened_row tables e) rows), at_most_one_pair_per_row rows)
 
-  pub few_referring : length (referring tables e) ≤ row_counts tables e.left.entry
-  few_referring =
+  pub referring_at_most_rows : length (referring tables e) ≤ row_counts tables e.left.entry
+  referring_at_most_rows =
       omega (
         arith,
         length-map pairs (λ (pair : ℕ × ℕ). pair.0),
-        few_pairs (range_with_len 0 (row_counts tables e.left.entry)),
+        at_most_one_pair_per_row (range_with_len 0 (row_counts tables e.left.entry)),
         length-range_with_len 0 (row_counts tables e.left.entry),
       )

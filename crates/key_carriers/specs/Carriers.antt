@@ -7,7 +7,7 @@ use Rattle.schema_types.specs.declared.types.Table.{Table}
 use Rattle.query_types.specs.declared.types.Query.{Query}
 use Rattle.query_types.specs.declared.types.Source.{Source}
 use Rattle.berge_tree.specs.declared.edges.Edge.{Edge}
-use Rattle.join_graph.specs.Conjuncts.{equalities_of, names_just}
+use Rattle.join_graph.specs.Conjuncts.{equalities_of, is_own_conjunct}
 use Rattle.join_graph.specs.Kept.{equalities_within}
 
 -- ---- keys and references that a schema declares
@@ -24,7 +24,7 @@ is_only_column column [] = false
 is_only_column column (first ∷ []) = first == column
 is_only_column column (first ∷ (second ∷ columns)) = false
 
--- the column alone is a PRIMARY KEY or UNIQUE of the table
+-- the column by itself is a PRIMARY KEY or UNIQUE of the table
 abbrev pub is_declared_key : Schema → ℕ → ℕ → Bool
 is_declared_key schema table column = list_any (is_only_column column) (table_at schema table).keys
 
@@ -52,12 +52,12 @@ refers_to_key schema query e =
     && is_declared_key schema (table_of query e.right.entry) e.right.column
 
 -- some conjunct names this entry and no other entry
-abbrev pub has_own : Query → ℕ → Bool
-has_own query entry = list_any (names_just entry) query.conjuncts
+abbrev pub has_own_conjunct : Query → ℕ → Bool
+has_own_conjunct query entry = list_any (is_own_conjunct entry) query.conjuncts
 
 -- the right entry carries its own conjuncts to the left entry: it has own conjuncts, and the left column refers to its key
 abbrev pub carries : Schema → Query → Edge → Bool
-carries schema query e = refers_to_key schema query e && has_own query e.right.entry
+carries schema query e = refers_to_key schema query e && has_own_conjunct query e.right.entry
 
 -- an equality with its sides exchanged
 abbrev pub exchanged : Edge → Edge
@@ -68,9 +68,9 @@ abbrev pub with_exchanged_sides : List Edge → List Edge
 with_exchanged_sides [] = []
 with_exchanged_sides (e ∷ es) = e ∷ (exchanged e ∷ with_exchanged_sides es)
 
--- the equalities along which conjuncts are carried. On the left of each is the entry to which they are carried
-abbrev pub carriers : Schema → Query → List Edge
-carriers schema query = filter (carries schema query) (with_exchanged_sides (equalities_of query))
+-- the equalities along which conjuncts are carried. The conjuncts are carried to the left entry of each equality
+abbrev pub carrying_equalities : Schema → Query → List Edge
+carrying_equalities schema query = filter (carries schema query) (with_exchanged_sides (equalities_of query))
 
 -- the equalities of `es` along which conjuncts are carried to `entry` within a set. Both entries are in the set, and `entry` is on the left
 abbrev pub carriers_to : List Edge → ℕ → ℕ → List Edge

@@ -26,7 +26,7 @@ abbrev pub cells_found : KeyRows → List ℕ
 cells_found (key.Ascending first rows) = range_with_len first rows
 cells_found (key.Chained chains) = chains.keys
 
--- the rows, followed by `row` if another row was found for it
+-- the list `rows`, with `row` at its end if `row` refers to some row
 abbrev pub with_found : List ℕ → ℕ → Option ℕ → List ℕ
 with_found rows row None = rows
 with_found rows row (Some other) = rows ++ row ∷ []

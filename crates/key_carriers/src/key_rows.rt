@@ -34,8 +34,8 @@ fn ascend_from(first: u64, cells: &[u64]) -> bool
 }
 
 // A hash table that finds the rows of these cells.
-fn chained(alloc: Global, cells: &[u64]) -> Result<Chains, NoMemory>
-    requires few { length cells.now ≤ most_rows }
+fn chains_of(alloc: Global, cells: &[u64]) -> Result<Chains, NoMemory>
+    requires within_limit { length cells.now ≤ most_rows }
     ensures { IfOk result (λ chains. chains.keys ≡ cells.now) }
 {
     let rows = cells.len() as u64;
@@ -46,7 +46,7 @@ fn chained(alloc: Global, cells: &[u64]) -> Result<Chains, NoMemory>
 
 // The index of a cell in a list of `rows` cells, if it is in the list. The list begins with `first` and ascends by one.
 fn place_from(first: u64, rows: u64, cell: u64) -> Option<u32>
-    requires few { rows ≤ most_rows }
+    requires within_limit { rows ≤ most_rows }
     ensures { IsPlaceOf (range_with_len first rows) cell 0 result }
 {
     if cell < first {
@@ -64,19 +64,19 @@ impl KeyRows {
     /// Prepares to find rows by these cells. In most files keys ascend by one from row to row, and then no hash table is made. A first pass over the
     /// cells, which takes no memory, tests this.
     pub(crate) fn new(alloc: Global, cells: &[u64]) -> Result<KeyRows, NoMemory>
-        requires few { length cells.now ≤ most_rows }
+        requires within_limit { length cells.now ≤ most_rows }
         ensures { IfOk result (λ key. cells_found key ≡ cells.now) }
     {
         let first = if cells.is_empty() { 0 } else { cells[0] };
         if ascend_from(first, cells) {
             return Ok(KeyRows::Ascending(first, cells.len() as u64));
         }
-        Ok(KeyRows::Chained(chained(alloc, cells)?))
+        Ok(KeyRows::Chained(chains_of(alloc, cells)?))
     }
 
     /// The first row that has the cell, if there is one.
     pub(crate) fn row_of(&self, cell: u64) -> Option<u32>
-        requires few { length (cells_found self.now) ≤ most_rows }
+        requires within_limit { length (cells_found self.now) ≤ most_rows }
         ensures { IsPlaceOf (cells_found self.now) cell 0 result }
     {
         match self {

@@ -3,7 +3,7 @@ ghost use Rattle.std.specs.Prelude.{◌≡◌, ◌++◌, ◌∷◌, [], ◌<◌,
 ghost use Rattle.std.specs.List.{list_any};
 ghost use Rattle.join_graph.specs.Conjuncts.{equalities_of, local_of};
 ghost use Rattle.tree_bounds.specs.Columns.{EachNamedColumn};
-ghost use Rattle.key_carriers.specs.Carriers.{carriers, carries, has_own, is_only_column, is_declared_key, is_reference_from_to, refers, refers_to_key, table_of, exchanged};
+ghost use Rattle.key_carriers.specs.Carriers.{carrying_equalities, carries, has_own_conjunct, is_only_column, is_declared_key, is_reference_from_to, refers, refers_to_key, table_of, exchanged};
 
 use base_io::{NoMemory, Seq};
 use berge_tree::Edge;
@@ -35,7 +35,7 @@ fn is_reference_from_to(column: u32, table: u32, target: u32, reference: &Refere
     is_only_column(target, reference.targets.as_slice())
 }
 
-fn some_leads(column: u32, table: u32, target: u32, references: &[Reference]) -> bool
+fn some_refers(column: u32, table: u32, target: u32, references: &[Reference]) -> bool
     ensures { result ≡ list_any (is_reference_from_to column table target) references.now }
 {
     for reference in references {
@@ -64,12 +64,12 @@ fn refers(schema: &Schema, table: u32, column: u32, other: u32, target: u32) -> 
     let at = table as usize;
     if at < schema.tables.len() {
         let table = schema.tables.get(at);
-        return some_leads(column, other, target, table.references.as_slice());
+        return some_refers(column, other, target, table.references.as_slice());
     }
     false
 }
 
-// Whether a column alone is declared a key of its table.
+// Whether a column by itself is declared as a key of its table.
 fn is_key(schema: &Schema, table: u32, column: u32) -> bool
     ensures { result ≡ is_declared_key schema.now table column }
 {
@@ -104,10 +104,10 @@ fn refers_to_key(schema: &Schema, query: &Query, edge: Edge) -> bool
 }
 
 // Whether some conjunct names this entry and no other entry.
-fn has_own(query: &Query, parts: &Parts, entry: u8) -> bool
+fn has_own_conjunct(query: &Query, parts: &Parts, entry: u8) -> bool
     requires local { parts.now.local ≡ local_of query.now }
     requires entry { entry < length query.now.from }
-    ensures { result ≡ has_own query.now entry }
+    ensures { result ≡ has_own_conjunct query.now entry }
 {
     parts.local.get(usize::from(entry)).len() > 0
 }
@@ -127,7 +127,7 @@ fn add_carrier(
     if !refers_to_key(schema, query, edge) {
         return Ok(());
     }
-    if !has_own(query, parts, edge.right.entry) {
+    if !has_own_conjunct(query, parts, edge.right.entry) {
         return Ok(());
     }
     edges.push(edge)
@@ -142,10 +142,10 @@ fn exchanged(edge: Edge) -> Edge
     }
 }
 
-/// The equalities along which conjuncts are carried, in text order. On the right of each is the carrying entry, and on its left the entry to which
-/// conjuncts are carried. The schema declares a reference from the left column to the right column. The right column alone is a PRIMARY KEY or
-/// UNIQUE. Some conjunct names only the right entry. `parts` is what `split` gives for the query.
-pub fn carriers(
+/// The equalities along which conjuncts are carried, in text order. The right entry of each is the carrying entry, and its conjuncts are carried to
+/// the left entry. The schema declares a reference from the left column to the right column. The right column by itself is a PRIMARY KEY or UNIQUE.
+/// Some conjunct names only the right entry. `parts` is the result of `split` for the query.
+pub fn carrying_equalities(
     alloc: Global,
     schema: &Schema,
     query: &Query,
@@ -154,7 +154,7 @@ pub fn carriers(
     requires local { parts.now.local ≡ local_of query.now }
     requires equalities { parts.now.equalities ≡ equalities_of query.now }
     requires named { EachNamedColumn (λ entry column. entry < length query.now.from) (equalities_of query.now) }
-    ensures { IfOk result (λ edges. edges ≡ carriers schema.now query.now) }
+    ensures { IfOk result (λ edges. edges ≡ carrying_equalities schema.now query.now) }
 {
     let mut edges = Seq::new(alloc);
     let equalities = parts.equalities.as_slice();

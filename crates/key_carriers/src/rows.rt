@@ -14,8 +14,7 @@ use join_steps::{cells_of_column, texts_are_different};
 use query_types::ColumnRef;
 use std::alloc::Global;
 
-/// `rows` has the rows of an entry that refer to a row of another entry, in file order. `others` has, for each of them, the row to which it
-/// refers.
+/// `rows` has the rows of an entry that refer to a row of another entry, in file order. `others` has, for each of `rows`, the row to which it refers.
 #[derive(Drop)]
 pub struct Widened {
     pub rows: Vec<u32>,
@@ -51,7 +50,7 @@ pub fn widened_rows(alloc: Global, db: &Database, edge: Edge) -> Result<Widened,
     requires tables { AreTables db.now }
     requires kinds { AreOfOneKind db.now edge }
     requires rows { row_counts (tables_of db.now) edge.left.entry ≤ most_rows }
-    requires few { row_counts (tables_of db.now) edge.right.entry ≤ most_rows }
+    requires within_limit { row_counts (tables_of db.now) edge.right.entry ≤ most_rows }
     ensures rows { IfOk result (λ made. made.rows.items ≡ referring (tables_of db.now) edge) }
     ensures others { IfOk result (λ made. made.others.items ≡ referred (tables_of db.now) edge) }
 {

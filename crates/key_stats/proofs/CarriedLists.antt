@@ -19,18 +19,18 @@ use Rattle.sql_meaning.specs.Answers.{conjuncts_of, conjunct_of}
 use Rattle.sql_meaning.specs.Levels.{passes_own}
 use Rattle.sql_meaning.specs.Tables.{Tables, row_counts}
 use Rattle.level_bounds.specs.Keys.{value_at}
-use Rattle.level_bounds.proofs.Lists.{from_filter_map, from_map, map_both, range_within}
+use Rattle.level_bounds.proofs.Lists.{from_filter_map, from_map, map_of_map, range_within}
 use Rattle.filtered_lists.specs.Lists.{ColumnLists}
 use Rattle.filtered_lists.specs.Standing.{scan_of, ListsStandFor}
 use Rattle.filtered_lists.proofs.Counting.{count_is_enough, list_dominates}
-use Rattle.filtered_lists.proofs.Lists.{filtered_falls, sum-filtered}
+use Rattle.filtered_lists.proofs.Lists.{filtered_descends, sum-filtered}
 use Rattle.table_stats.specs.Columns.{value_of_row}
 use Rattle.table_stats.specs.Keys.{SeparatesListed, SeparatesValues}
 use Rattle.table_stats.proofs.Dominating.{listed_stand}
-use Rattle.table_stats.proofs.Summing.{counts_stand, listed_fall, listed_sum}
+use Rattle.table_stats.proofs.Summing.{counts_stand, listed_descend, listed_sum}
 use Rattle.key_carriers.specs.Widened.{is_scanned, referred_row, referred, referring, refers_to_scanned, rows_referring, tables_at, values_at, widened, widened_row, row_pair}
 use Rattle.key_stats.specs.Lists.{carried_counts, carried_list, carried_lists, carried_rows}
-use Rattle.key_carriers.proofs.Referring.{referring_low}
+use Rattle.key_carriers.proofs.Referring.{referring_rows_exist}
 use Rattle.key_stats.proofs.RowsThere.{own_there}
 
 -- ---- filtered lists of the widened table
@@ -56,7 +56,7 @@ of_items : {X : Type 0} (d : X) (f : X → ℕ) (p : X → Bool) (xs : List X)
 of_items {X = X} d f p xs =
     let at : ℕ → X = λ n. get_or xs n d in
     let places : List ℕ = range_with_len 0 (length xs) in
-    sym (map_both f at (λ n. f (at n)) (λ n. refl) (filter (λ n. p (at n)) places))
+    sym (map_of_map f at (λ n. f (at n)) (λ n. refl) (filter (λ n. p (at n)) places))
     ∙ ap (map f) (sym (filter-map p at places) ∙ ap (filter p) (sym (fill_by_all at xs (length xs) d refl (λ n low. refl))))
 
 module _ (query : Query) (tables : Tables) (e : Edge) where
@@ -118,8 +118,8 @@ module _ (query : Query) (tables : Tables) (e : Edge) where
     abbrev joined : List Value
     joined = values_at tables e.left.entry column (referring tables e)
 
-    long : length joined ≡ row_counts there e.right.entry
-    long =
+    joined_length : length joined ≡ row_counts there e.right.entry
+    joined_length =
         length-map (referring tables e) (value_at tables e.left.entry column) ∙ length-map pairs (λ (pair : ℕ × ℕ). pair.0) ∙ sym count_there
 
     value_there : (n : ℕ) → n < length joined → value_of_row joined n ≡ value_at tables e.left.entry column (get_or (referring tables e) n 0)
@@ -137,20 +137,20 @@ module _ (query : Query) (tables : Tables) (e : Edge) where
           subst (λ (v : Value). (key_there row ≡ key_there other) ↔ (is_eq (value_cmp v (value_of_row joined other)) ≡ true)) (sym (value_there row low))
           (subst (λ (v : Value). (key_there row ≡ key_there other) ↔ (is_eq (value_cmp (value_at tables e.left.entry column (get_or (referring tables e) row 0)) v) ≡ true))
           (sym (value_there other also))
-          (tells (get_or (referring tables e) row 0) (get_or (referring tables e) other 0) (referring_low tables e row 0 below) (referring_low tables e other 0 beside)))
+          (tells (get_or (referring tables e) row 0) (get_or (referring tables e) other 0) (referring_rows_exist tables e row 0 below) (referring_rows_exist tables e other 0 beside)))
 
       pub carried_dominates : DominatesKeys (carried_list query tables accuracy e column) (map key (rows_referring query tables e))
       carried_dominates =
           subst (DominatesKeys (carried_list query tables accuracy e column)) (scan_there key)
           (list_dominates (carried_lists tables accuracy e column) there e.right.entry key_there query.conjuncts
-          (listed_stand there accuracy e.right.entry joined key_there long tell))
+          (listed_stand there accuracy e.right.entry joined key_there joined_length tell))
 
-    pub carried_falls : IsDescending (carried_list query tables accuracy e column)
-    carried_falls = filtered_falls (carried_lists tables accuracy e column) e.right.entry query.conjuncts (listed_fall there accuracy e.right.entry joined)
+    pub carried_descends : IsDescending (carried_list query tables accuracy e column)
+    carried_descends = filtered_descends (carried_lists tables accuracy e column) e.right.entry query.conjuncts (listed_descend there accuracy e.right.entry joined)
 
     pub carried_sum : sum (carried_list query tables accuracy e column) ≡ carried_rows query tables e
     carried_sum =
-        sum-filtered (carried_lists tables accuracy e column) (carried_counts tables e) e.right.entry query.conjuncts (listed_sum there accuracy e.right.entry joined long)
+        sum-filtered (carried_lists tables accuracy e column) (carried_counts tables e) e.right.entry query.conjuncts (listed_sum there accuracy e.right.entry joined joined_length)
 
   pub carried_fits : length (rows_referring query tables e) ≤ carried_rows query tables e
   carried_fits =

@@ -37,7 +37,7 @@ use Rattle.csv_tables.proofs.KeyFacts.{bits_back}
 use Rattle.level_bounds.specs.Keys.{HaveDifferentCharacters, JoinsEqualKeys, cell_at, value_at}
 use Rattle.level_bounds.specs.WholeTables.{keys_of}
 use Rattle.level_bounds.proofs.EqualityFacts.{IsJoin, is_join}
-use Rattle.level_bounds.proofs.Lists.{all_from, from_filter_map}
+use Rattle.level_bounds.proofs.Lists.{from_members, from_filter_map}
 
 -- ---- values that compare as equal
 
@@ -59,8 +59,8 @@ equal_lists (x ∷ a) (y ∷ b) h =
     let parts : (x ≡ y) × (is_eq (slice_cmp nat_cmp a b) ≡ true) = equal_first x y (nat_cmp x y) (slice_cmp nat_cmp a b) refl h in
     rw (parts.0, equal_lists a b parts.1) refl
 
-one_place : (texts : List (List ℕ)) → HaveDifferentCharacters texts → (a b : ℕ) → a < length texts → b < length texts → chars (get_or texts a []) ≡ chars (get_or texts b []) → a ≡ b
-one_place texts differ a b low high same = elim (cases_lt a b) [
+equal_texts_have_one_index : (texts : List (List ℕ)) → HaveDifferentCharacters texts → (a b : ℕ) → a < length texts → b < length texts → chars (get_or texts a []) ≡ chars (get_or texts b []) → a ≡ b
+equal_texts_have_one_index texts differ a b low high same = elim (cases_lt a b) [
   | inl less ↦ absurd (differ a b [] less high same)
   | inr most ↦ elim (cases_eq a b) [
     | inl is ↦ is
@@ -75,44 +75,44 @@ equal_cells texts differ kind.Int kind.Int x y p q h =
 equal_cells texts differ kind.Int (kind.Text m) x y p q h = absurd (false≢true h)
 equal_cells texts differ (kind.Text n) kind.Int x y p q h = absurd (false≢true h)
 equal_cells texts differ (kind.Text n) (kind.Text m) x y p q h =
-    one_place texts differ x y p q (equal_lists (chars (get_or texts x [])) (chars (get_or texts y [])) h)
+    equal_texts_have_one_index texts differ x y p q (equal_lists (chars (get_or texts x [])) (chars (get_or texts y [])) h)
 
 -- ---- the cells of a column
 
-module _ (db : Database) (are : AreTables db) where
-  cells_there : (entry : ℕ) → entry < length db.slots → AreCells db.pool (cells_of db entry)
-  cells_there entry low = are.cells (slice_index db.slots entry) no_cells (are.slots entry 0 low)
+module _ (db : Database) (tables_are_valid : AreTables db) where
+  table_cells_are_valid : (entry : ℕ) → entry < length db.slots → AreCells db.pool (cells_of db entry)
+  table_cells_are_valid entry low = tables_are_valid.cells (slice_index db.slots entry) no_cells (tables_are_valid.slots entry 0 low)
 
   abbrev kind_at : ℕ → ℕ → Kind
   kind_at entry column = get_or (cells_of db entry).kinds column kind.Int
 
-  column_there : (ref : ColumnRef) → IsColumnOf db ref → IsColumn db.pool (cells_of db ref.from).rows (kind_at ref.from ref.column) (get_or (cells_of db ref.from).columns ref.column [])
-  column_there ref exists =
+  column_is_valid : (ref : ColumnRef) → IsColumnOf db ref → IsColumn db.pool (cells_of db ref.from).rows (kind_at ref.from ref.column) (get_or (cells_of db ref.from).columns ref.column [])
+  column_is_valid ref exists =
       let cells : Cells = cells_of db ref.from in
-      column_at db.pool cells.rows cells.kinds cells.columns (cells_there ref.from exists.entry) ref.column kind.Int [] exists.exists
+      column_at db.pool cells.rows cells.kinds cells.columns (table_cells_are_valid ref.from exists.entry) ref.column kind.Int [] exists.exists
 
-  cell_there : (ref : ColumnRef) → IsColumnOf db ref → (row : ℕ) → row < row_counts (tables_of db) ref.from → IsCell db.pool (kind_at ref.from ref.column) (cell_at db ref.from ref.column row)
-  cell_there ref exists row low =
-      (column_there ref exists).cells row 0 (omega (arith, (column_there ref exists).height, rows_are db ref.from))
+  cell_is_valid : (ref : ColumnRef) → IsColumnOf db ref → (row : ℕ) → row < row_counts (tables_of db) ref.from → IsCell db.pool (kind_at ref.from ref.column) (cell_at db ref.from ref.column row)
+  cell_is_valid ref exists row low =
+      (column_is_valid ref exists).cells row 0 (omega (arith, (column_is_valid ref exists).height, rows_are db ref.from))
 
-  value_there : (ref : ColumnRef) → IsColumnOf db ref → (row : ℕ) → row < row_counts (tables_of db) ref.from
+  value_of_cell_at : (ref : ColumnRef) → IsColumnOf db ref → (row : ℕ) → row < row_counts (tables_of db) ref.from
       → value_at (tables_of db) ref.from ref.column row ≡ value_of_cell db.pool (kind_at ref.from ref.column) (cell_at db ref.from ref.column row)
-  value_there ref exists row low =
+  value_of_cell_at ref exists row low =
       let cells : Cells = cells_of db ref.from in
-      cell_value db.pool cells.rows cells.kinds cells.columns (cells_there ref.from exists.entry) row ref.column kind.Int [] (Int (pos 0)) (omega (arith, rows_are db ref.from)) exists.exists
+      cell_value db.pool cells.rows cells.kinds cells.columns (table_cells_are_valid ref.from exists.entry) row ref.column kind.Int [] (Int (pos 0)) (omega (arith, rows_are db ref.from)) exists.exists
 
   columns_join : HaveDifferentCharacters db.pool → (l r : ColumnRef) → IsColumnOf db l → IsColumnOf db r
       → JoinsEqualKeys (tables_of db) (cell_at db) (record { left = place l.from l.column; right = place r.from r.column })
   columns_join differ l r left right i j low high h =
       equal_cells db.pool differ (kind_at l.from l.column) (kind_at r.from r.column) (cell_at db l.from l.column i) (cell_at db r.from r.column j)
-      (cell_there l left i low) (cell_there r right j high)
-      (ap (λ (v : Value). is_eq (value_cmp v (value_of_cell db.pool (kind_at r.from r.column) (cell_at db r.from r.column j)))) (sym (value_there l left i low))
-      ∙ ap (λ (v : Value). is_eq (value_cmp (value_at (tables_of db) l.from l.column i) v)) (sym (value_there r right j high)) ∙ h)
+      (cell_is_valid l left i low) (cell_is_valid r right j high)
+      (ap (λ (v : Value). is_eq (value_cmp v (value_of_cell db.pool (kind_at r.from r.column) (cell_at db r.from r.column j)))) (sym (value_of_cell_at l left i low))
+      ∙ ap (λ (v : Value). is_eq (value_cmp (value_at (tables_of db) l.from l.column i) v)) (sym (value_of_cell_at r right j high)) ∙ h)
 
 -- ---- the equalities of a query
 
 pub cells_join : (query : Query) (db : Database) → IsDatabaseOf query db → HaveDifferentCharacters db.pool → AllByRecursion (JoinsEqualKeys (tables_of db) (cell_at db)) (equalities_of query)
-cells_join query db of differ = all_from (JoinsEqualKeys (tables_of db) (cell_at db)) (equalities_of query) each
+cells_join query db of differ = from_members (JoinsEqualKeys (tables_of db) (cell_at db)) (equalities_of query) each
   where
     each : (e : Edge) → Contains (equalities_of query) e → JoinsEqualKeys (tables_of db) (cell_at db) e
     each e there =
@@ -126,7 +126,7 @@ pub keys_are_cells : (query : Query) (db : Database) (ref : ColumnRef) → IsDat
     → keys_of (tables_of db) (cell_at db) ref.from ref.column ≡ slice_index_or (cells_of db ref.from).columns ref.column []
 keys_are_cells query db ref of exists =
     sym (fill_by_all (cell_at db ref.from ref.column) (get_or (cells_of db ref.from).columns ref.column []) (row_counts (tables_of db) ref.from) 0
-    ((column_there db of.tables ref exists).height ∙ sym (rows_are db ref.from)) (λ k low. refl))
+    ((column_is_valid db of.tables ref exists).height ∙ sym (rows_are db ref.from)) (λ k low. refl))
 
 -- ---- no two texts of a pool have the same characters
 

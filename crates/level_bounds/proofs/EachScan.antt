@@ -1,4 +1,4 @@
--- Bounds that hold for each scan hold for every set of entries, and for each level of an order.
+-- Bounds that hold for each scan hold for the scans of every set of entries, and give bounds of each level of an order.
 use Rattle.std.proofs.Common.{ℕ, ◌<◌, ◌≤◌, Bool, List, [], ◌∷◌, length, map, take, arith, inl, inr}
 use Rattle.std.specs.List.{AllByRecursion, Contains, filter}
 use Rattle.std.proofs.lemmas.Bool.{cases_Bool}
@@ -21,7 +21,7 @@ use Rattle.level_bounds.specs.Keys.{HaveDifferentCharacters, JoinsEqualKeys, Key
 use Rattle.level_bounds.specs.Orders.{IsOrderOfSet}
 use Rattle.level_bounds.specs.Scans.{BoundsEachScan, BoundsScans, level_over_entries, query_scan}
 use Rattle.level_bounds.proofs.CellKeys.{cells_join}
-use Rattle.level_bounds.proofs.Lists.{all_filtered, all_from, each_of, in_range, range_within}
+use Rattle.level_bounds.proofs.Lists.{all_filtered, from_members, at_member, in_range, range_within}
 use Rattle.level_bounds.proofs.NeverUnder.{within}
 use Rattle.level_bounds.proofs.SetNumbers.{prefix_of_order}
 
@@ -32,13 +32,13 @@ named_filtered Q p (e ∷ es) h = elim (cases_Bool (p e)) [
   | inr n ↦ rw n (named_filtered Q p es h.1.1)
 ]
 
-pub each_is_enough : (query : Query) (tables : Tables) (key : Keys) (b : EntryBounds) (subset : ℕ) → BoundsEachScan b query tables key
+pub scans_bounded_if_each : (query : Query) (tables : Tables) (key : Keys) (b : EntryBounds) (subset : ℕ) → BoundsEachScan b query tables key
     → AllByRecursion (λ entry. entry < length query.from) (entries_of_set subset) → BoundsScans b query tables key subset
-each_is_enough query tables key b subset known low = record {
+scans_bounded_if_each query tables key b subset known low = record {
   lists = named_filtered (HasList b) (joins_within subset) (equalities_of query) known.lists;
-  rows = all_from (λ entry. length (query_scan query tables entry) ≤ b.rows entry) (entries_of_set subset) (λ entry k.
-      each_of (λ entry. length (query_scan query tables entry) ≤ b.rows entry) (entries_of query) known.rows entry
-      (in_range 0 (length query.from) entry (omega arith) (omega (arith, each_of (λ entry. entry < length query.from) (entries_of_set subset) low entry k))));
+  rows = from_members (λ entry. length (query_scan query tables entry) ≤ b.rows entry) (entries_of_set subset) (λ entry k.
+      at_member (λ entry. length (query_scan query tables entry) ≤ b.rows entry) (entries_of query) known.rows entry
+      (in_range 0 (length query.from) entry (omega arith) (omega (arith, at_member (λ entry. entry < length query.from) (entries_of_set subset) low entry k))));
   columns = named_filtered (λ entry column. DominatesKeys (b.list entry column) (map (key entry column) (query_scan query tables entry))) (joins_within subset) (equalities_of query) known.columns;
 }
 
@@ -53,16 +53,16 @@ pub levels_within : (query : Query) (db : Database) (b : EntryBounds) (order : L
     → length (level (conjuncts_of query (tables_of db)) (row_counts (tables_of db)) order k) ≤ bound_of_set b (equalities_of query) (set_of (take k order))
 levels_within query db b order k of differ known o =
     database_within query db b (set_of (take k order)) (take k order) of differ
-    (each_is_enough query (tables_of db) (cell_at db) b (set_of (take k order)) known
-    (all_from (λ entry. entry < length query.from) (entries_of_set (set_of (take k order)))
-    (λ entry here. each_of (λ entry. entry < length query.from) (take k order) (All-first (λ entry. entry < length query.from) k order low) entry
-    (each_of (Contains (take k order)) (entries_of_set (set_of (take k order))) prefix.covers entry here))))
+    (scans_bounded_if_each query (tables_of db) (cell_at db) b (set_of (take k order)) known
+    (from_members (λ entry. entry < length query.from) (entries_of_set (set_of (take k order)))
+    (λ entry here. at_member (λ entry. entry < length query.from) (take k order) (All-first (λ entry. entry < length query.from) k order low) entry
+    (at_member (Contains (take k order)) (entries_of_set (set_of (take k order))) prefix.covers entry here))))
     prefix
   where
     low : AllByRecursion (λ entry. entry < length query.from) order
-    low = all_from (λ entry. entry < length query.from) order
-        (λ entry here. omega (arith, (range_within 0 (length query.from) entry (each_of (Contains (entries_of query)) order o.within entry here)).1))
+    low = from_members (λ entry. entry < length query.from) order
+        (λ entry here. omega (arith, (range_within 0 (length query.from) entry (at_member (Contains (entries_of query)) order o.within entry here)).1))
 
     prefix : IsOrderOfSet (entries_of_set (set_of (take k order))) (take k order)
     prefix = prefix_of_order order k
-        (all_from (λ entry. entry < 16) order (λ entry here. omega (arith, each_of (λ entry. entry < length query.from) order low entry here, of.few))) o.once
+        (from_members (λ entry. entry < 16) order (λ entry here. omega (arith, at_member (λ entry. entry < length query.from) order low entry here, of.few))) o.once

@@ -13,11 +13,11 @@ use Rattle.query_types.specs.Named.{NamesItsEntries}
 use Rattle.sql_meaning.specs.Answers.{answer, chosen, conjuncts_of, entries_of, selected}
 use Rattle.sql_meaning.specs.Levels.{level_of, row_in}
 use Rattle.sql_meaning.specs.Tables.{Tables, row_counts}
-use Rattle.sql_meaning.proofs.AnswerFacts.{last_level}
+use Rattle.sql_meaning.proofs.AnswerFacts.{last_level_is_chosen}
 use Rattle.level_bounds.specs.Orders.{IsOrderOfSet, reordered}
 use Rattle.level_bounds.specs.Scans.{level_over_entries}
-use Rattle.level_bounds.proofs.Lists.{is_in, true_in, map_both, range_within}
-use Rattle.level_bounds.proofs.Choosing.{entry_of, row_out}
+use Rattle.level_bounds.proofs.Lists.{is_in, in_from_test, map_of_map, range_within}
+use Rattle.level_bounds.proofs.Choosing.{order_entry_in_set, row_in_outside}
 use Rattle.level_bounds.proofs.Reordering.{rearranged}
 use Rattle.level_bounds.proofs.SetNumbers.{range_is_order}
 
@@ -26,8 +26,8 @@ past_end [] i h = refl
 past_end (x ∷ xs) zero h = absurd (omega arith)
 past_end (x ∷ xs) (suc i) h = past_end xs i (omega arith)
 
-listed_back : (n : ℕ) (f : ℕ → ℕ) → ((x : ℕ) → n ≤ x → f x ≡ 0) → slice_index (map f (range_with_len 0 n)) ≡ f
-listed_back n f out = fun_ext at
+slice_index_of_mapped : (n : ℕ) (f : ℕ → ℕ) → ((x : ℕ) → n ≤ x → f x ≡ 0) → slice_index (map f (range_with_len 0 n)) ≡ f
+slice_index_of_mapped n f out = fun_ext at
   where
     at : (x : ℕ) → slice_index (map f (range_with_len 0 n)) x ≡ f x
     at x = elim (cases_lt x n) [
@@ -38,13 +38,13 @@ listed_back n f out = fun_ext at
 pub level_is_chosen : (query : Query) (tables : Tables) → NamesItsEntries query → level_over_entries query tables (entries_of query) ≡ chosen query tables
 level_is_chosen query tables own =
     sym (ap (level_of (conjuncts_of query tables) (row_counts tables)) (take_all (length query.from) (entries_of query) (omega (arith, length-range_with_len 0 (length query.from)))))
-    ∙ last_level query tables own
+    ∙ last_level_is_chosen query tables own
 
 pub last_level_is_answer : (query : Query) (tables : Tables) (order : List ℕ) → NamesItsEntries query → IsOrderOfSet (entries_of query) order
     → IsPermutation (map (λ choice. selected query tables (row_in order choice)) (level_over_entries query tables order)) (answer query tables)
 last_level_is_answer query tables order own o =
     subst (λ (rows : List Row). IsPermutation rows (answer query tables))
-    (map_both values (reordered order (entries_of query)) (λ choice. selected query tables (row_in order choice)) same_values (level_over_entries query tables order))
+    (map_of_map values (reordered order (entries_of query)) (λ choice. selected query tables (row_in order choice)) same_values (level_over_entries query tables order))
     (subst (λ (choices : List (List ℕ)). IsPermutation (map values (map (reordered order (entries_of query)) (level_over_entries query tables order))) (map values choices))
     (level_is_chosen query tables own)
     (IsPermutation-map values (map (reordered order (entries_of query)) (level_over_entries query tables order)) (level_over_entries query tables (entries_of query))
@@ -57,10 +57,10 @@ last_level_is_answer query tables order own o =
     itself = range_is_order (length query.from)
 
     none_past : (choice : List ℕ) (x : ℕ) → length query.from ≤ x → row_in order choice x ≡ 0
-    none_past choice x high = row_out order choice x (elim (cases_Bool (is_in order x)) [
-      | inl here ↦ absurd (omega (arith, (range_within 0 (length query.from) x (entry_of (entries_of query) order o x (true_in order x here))).1))
+    none_past choice x high = row_in_outside order choice x (elim (cases_Bool (is_in order x)) [
+      | inl here ↦ absurd (omega (arith, (range_within 0 (length query.from) x (order_entry_in_set (entries_of query) order o x (in_from_test order x here))).1))
       | inr gone ↦ gone
     ])
 
     same_values : (choice : List ℕ) → values (reordered order (entries_of query) choice) ≡ selected query tables (row_in order choice)
-    same_values choice = ap (selected query tables) (listed_back (length query.from) (row_in order choice) (none_past choice))
+    same_values choice = ap (selected query tables) (slice_index_of_mapped (length query.from) (row_in order choice) (none_past choice))

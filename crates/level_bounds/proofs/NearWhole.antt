@@ -1,4 +1,4 @@
--- Bounds from compressed lists of whole tables hold for unfiltered scans, and they are near the bounds from the degree lists.
+-- Bounds from compressed degree lists of whole tables hold for scans without own conjuncts. They are near the bounds from the degree lists.
 use Rattle.std.proofs.Common.{◌≡◌, ℕ, ◌+◌, ◌*◌, ◌^◌, ◌≤◌, true, List, [], ◌∷◌, length, map, refl, ap, sym, ◌∙◌, subst, arith}
 use Rattle.std.specs.List.{AllByRecursion, Contains, filter, list_all, range_with_len}
 use Rattle.std.proofs.lemmas.List.FromFn.{length-map-range_with_len, length-range_with_len}
@@ -28,20 +28,20 @@ use Rattle.berge_tree.proofs.Forest.{within_place}
 use Rattle.level_bounds.specs.Keys.{Keys}
 use Rattle.level_bounds.specs.Scans.{BoundsScans, own_conjuncts_of, query_scan}
 use Rattle.level_bounds.specs.WholeTables.{AreCompressed, keys_of, uncompressed}
-use Rattle.level_bounds.proofs.Lists.{all_from, each_of}
+use Rattle.level_bounds.proofs.Lists.{from_members, at_member}
 use Rattle.level_bounds.proofs.OwnConjuncts.{scan_by_own}
 
 -- ---- scans of entries without own conjuncts
 
-pub all_kept : (rows : List ℕ) → filter (λ row. true) rows ≡ rows
-all_kept [] = refl
-all_kept (row ∷ rows) = ap (λ (s : List ℕ). row ∷ s) (all_kept rows)
+pub filter_true_is_list : (rows : List ℕ) → filter (λ row. true) rows ≡ rows
+filter_true_is_list [] = refl
+filter_true_is_list (row ∷ rows) = ap (λ (s : List ℕ). row ∷ s) (filter_true_is_list rows)
 
 pub whole_scan : (query : Query) (tables : Tables) (entry : ℕ) → own_conjuncts_of query entry ≡ [] → query_scan query tables entry ≡ range_with_len 0 (row_counts tables entry)
 whole_scan query tables entry none =
     scan_by_own query tables entry
     ∙ ap (λ (own : List Cond). filter (λ row. list_all (cond_holds tables (λ e. row)) own) (range_with_len 0 (row_counts tables entry))) none
-    ∙ all_kept (range_with_len 0 (row_counts tables entry))
+    ∙ filter_true_is_list (range_with_len 0 (row_counts tables entry))
 
 -- ---- the columns that equalities of a set name are columns of its entries
 
@@ -57,9 +57,9 @@ module _ (tables : Tables) (key : Keys) where
 
   exact_lists : (es : List Edge) (subset : ℕ) → SetHasLists (uncompressed tables key) es subset
   exact_lists es subset =
-      all_from (λ (p : Place). HasList (uncompressed tables key) p.entry p.column) (places_of (equalities_within subset es)) (λ p k. exact_list p.entry p.column)
+      from_members (λ (p : Place). HasList (uncompressed tables key) p.entry p.column) (places_of (equalities_within subset es)) (λ p k. exact_list p.entry p.column)
 
-  module _ (accuracy : ℕ) (b : EntryBounds) (es : List Edge) (subset : ℕ) (are : AreCompressed accuracy b tables key es subset) where
+  module _ (accuracy : ℕ) (b : EntryBounds) (es : List Edge) (subset : ℕ) (are_compressed : AreCompressed accuracy b tables key es subset) where
     abbrev named : List Place
     named = places_of (equalities_within subset es)
 
@@ -67,26 +67,26 @@ module _ (tables : Tables) (key : Keys) where
     list_of entry column = compressed accuracy (degree_list (keys_of tables key entry column))
 
     rows_at : (entry : ℕ) → Contains (entries_of_set subset) entry → b.rows entry ≡ row_counts tables entry
-    rows_at entry k = each_of (λ entry. b.rows entry ≡ row_counts tables entry) (entries_of_set subset) are.rows entry k
+    rows_at entry k = at_member (λ entry. b.rows entry ≡ row_counts tables entry) (entries_of_set subset) are_compressed.rows entry k
 
     list_at : (p : Place) → Contains named p → b.list p.entry p.column ≡ list_of p.entry p.column
-    list_at p k = each_of (λ (p : Place). b.list p.entry p.column ≡ list_of p.entry p.column) named are.columns p k
+    list_at p k = at_member (λ (p : Place). b.list p.entry p.column ≡ list_of p.entry p.column) named are_compressed.columns p k
 
-    inside : (p : Place) → Contains named p → Contains (entries_of_set subset) p.entry
-    inside p k = within_place (entries_of_set subset) (equalities_within subset es) (equalities_inside subset es) p k
+    column_is_of_set : (p : Place) → Contains named p → Contains (entries_of_set subset) p.entry
+    column_is_of_set p k = within_place (entries_of_set subset) (equalities_within subset es) (equalities_inside subset es) p k
 
     pub lists : SetHasLists b es subset
-    lists = all_from (λ (p : Place). HasList b p.entry p.column) named (λ p k.
+    lists = from_members (λ (p : Place). HasList b p.entry p.column) named (λ p k.
         let exact : IsListOf (row_counts tables p.entry) (degree_list (keys_of tables key p.entry p.column)) = exact_list p.entry p.column in
         subst (IsListOf (b.rows p.entry)) (sym (list_at p k)) (record {
           falls = IsDescending-compressed accuracy (degree_list (keys_of tables key p.entry p.column)) exact.falls;
-          total = sum-compressed accuracy (degree_list (keys_of tables key p.entry p.column)) exact.falls ∙ exact.total ∙ sym (rows_at p.entry (inside p k));
+          total = sum-compressed accuracy (degree_list (keys_of tables key p.entry p.column)) exact.falls ∙ exact.total ∙ sym (rows_at p.entry (column_is_of_set p k));
         }))
 
     is_near : SetIsNear accuracy b (uncompressed tables key) es subset
     is_near = record {
-      rows = all_from (RowsAreNear accuracy b (uncompressed tables key)) (entries_of_set subset) (λ entry k. rw (rows_at entry k) (omega arith));
-      columns = all_from (λ (p : Place). ListIsNear accuracy b (uncompressed tables key) p.entry p.column) named (λ p k.
+      rows = from_members (RowsAreNear accuracy b (uncompressed tables key)) (entries_of_set subset) (λ entry k. rw (rows_at entry k) (omega arith));
+      columns = from_members (λ (p : Place). ListIsNear accuracy b (uncompressed tables key) p.entry p.column) named (λ p k.
           let falls = IsDescending-degree_list (keys_of tables key p.entry p.column) in
           subst (λ (s : List ℕ). SumsAreWithin accuracy (accuracy + 1) s (degree_list (keys_of tables key p.entry p.column))) (sym (list_at p k))
           (within_by_elements accuracy (accuracy + 1) (list_of p.entry p.column) (degree_list (keys_of tables key p.entry p.column))
@@ -100,14 +100,14 @@ pub whole_bounds : (query : Query) (tables : Tables) (key : Keys) (accuracy : �
     → AreCompressed accuracy b tables key (equalities_of query) subset → BoundsScans b query tables key subset
 whole_bounds query tables key accuracy b subset none are = record {
   lists = lists tables key accuracy b (equalities_of query) subset are;
-  rows = all_from (λ entry. length (query_scan query tables entry) ≤ b.rows entry) (entries_of_set subset) (λ entry k.
+  rows = from_members (λ entry. length (query_scan query tables entry) ≤ b.rows entry) (entries_of_set subset) (λ entry k.
       omega (arith, ap (λ (s : List ℕ). length s) (scan_at entry k), length-range_with_len 0 (row_counts tables entry), rows_at tables key accuracy b (equalities_of query) subset are entry k));
-  columns = all_from (λ (p : Place). DominatesKeys (b.list p.entry p.column) (map (key p.entry p.column) (query_scan query tables p.entry))) (places_of (equalities_within subset (equalities_of query))) (λ p k.
+  columns = from_members (λ (p : Place). DominatesKeys (b.list p.entry p.column) (map (key p.entry p.column) (query_scan query tables p.entry))) (places_of (equalities_within subset (equalities_of query))) (λ p k.
       subst (λ (s : List ℕ). DominatesKeys s (map (key p.entry p.column) (query_scan query tables p.entry))) (sym (list_at tables key accuracy b (equalities_of query) subset are p k))
       (subst (λ (rows : List ℕ). DominatesKeys (compressed accuracy (degree_list (keys_of tables key p.entry p.column))) (map (key p.entry p.column) rows))
-      (sym (scan_at p.entry (inside tables key accuracy b (equalities_of query) subset are p k)))
+      (sym (scan_at p.entry (column_is_of_set tables key accuracy b (equalities_of query) subset are p k)))
       (compressed_dominates accuracy (keys_of tables key p.entry p.column))));
 }
   where
     scan_at : (entry : ℕ) → Contains (entries_of_set subset) entry → query_scan query tables entry ≡ range_with_len 0 (row_counts tables entry)
-    scan_at entry k = whole_scan query tables entry (each_of (λ entry. own_conjuncts_of query entry ≡ []) (entries_of_set subset) none entry k)
+    scan_at entry k = whole_scan query tables entry (at_member (λ entry. own_conjuncts_of query entry ≡ []) (entries_of_set subset) none entry k)

@@ -21,37 +21,37 @@ use Rattle.level_bounds.specs.Equalities.{IsImplied}
 use Rattle.level_bounds.specs.Keys.{JoinsEqualKeys, Keys}
 use Rattle.level_bounds.specs.Orders.{IsOrderOfSet}
 use Rattle.level_bounds.specs.Scans.{BoundsScans, level_over_entries, query_scan}
-use Rattle.level_bounds.proofs.EqualityFacts.{are_asked}
-use Rattle.level_bounds.proofs.Lists.{all_from, each_of, from_filter}
+use Rattle.level_bounds.proofs.EqualityFacts.{equalities_are_implied}
+use Rattle.level_bounds.proofs.Lists.{from_members, at_member, from_filter}
 use Rattle.level_bounds.proofs.Scanning.{choices_differ, level_satisfies, level_within}
 
 module _ (query : Query) (tables : Tables) where
-  asks : AllByRecursion DependsOnNamed (conjuncts_of query tables)
-  asks = depend_on_named tables query.conjuncts
+  conjuncts_depend_on_named : AllByRecursion DependsOnNamed (conjuncts_of query tables)
+  conjuncts_depend_on_named = depend_on_named tables query.conjuncts
 
-  asked : (key : Keys) (subset : ℕ) → AllByRecursion (JoinsEqualKeys tables key) (equalities_within subset (equalities_of query))
+  equalities_of_set_implied : (key : Keys) (subset : ℕ) → AllByRecursion (JoinsEqualKeys tables key) (equalities_within subset (equalities_of query))
       → AllByRecursion (IsImplied (conjuncts_of query tables) (row_counts tables) key) (equalities_within subset (equalities_of query))
-  asked key subset keys = are_asked query tables key (equalities_within subset (equalities_of query)) (λ e there. (from_filter (joins_within subset) (equalities_of query) e there).0) keys
+  equalities_of_set_implied key subset keys = equalities_are_implied query tables key (equalities_within subset (equalities_of query)) (λ e there. (from_filter (joins_within subset) (equalities_of query) e there).0) keys
 
   dominates : (key : Keys) (b : EntryBounds) (subset : ℕ) → BoundsScans b query tables key subset → SetDominates b (scanned (query_scan query tables) key) (equalities_of query) subset
   dominates key b subset known = record {
     rows = known.rows;
-    columns = all_from (λ (p : Place). Dominates b (scanned (query_scan query tables) key) p.entry p.column) (places_of (equalities_within subset (equalities_of query)))
+    columns = from_members (λ (p : Place). Dominates b (scanned (query_scan query tables) key) p.entry p.column) (places_of (equalities_within subset (equalities_of query)))
         (λ p there. record {
-          keys = each_of (λ (p : Place). DominatesKeys (b.list p.entry p.column) (map (key p.entry p.column) (query_scan query tables p.entry)))
+          keys = at_member (λ (p : Place). DominatesKeys (b.list p.entry p.column) (map (key p.entry p.column) (query_scan query tables p.entry)))
               (places_of (equalities_within subset (equalities_of query))) known.columns p there;
           key_per_row = length-map (query_scan query tables p.entry) (key p.entry p.column);
         });
   }
 
-  pub satisfies : (key : Keys) (subset : ℕ) (order : List ℕ) → AllByRecursion (JoinsEqualKeys tables key) (equalities_within subset (equalities_of query)) → IsOrderOfSet (entries_of_set subset) order
+  pub level_choices_satisfy : (key : Keys) (subset : ℕ) (order : List ℕ) → AllByRecursion (JoinsEqualKeys tables key) (equalities_within subset (equalities_of query)) → IsOrderOfSet (entries_of_set subset) order
       → AllByRecursion (SatisfiesScanned (query_scan query tables) key (entries_of_set subset) (equalities_within subset (equalities_of query))) (map (row_in order) (level_over_entries query tables order))
-  satisfies key subset order keys o = level_satisfies (conjuncts_of query tables) (row_counts tables) key (equalities_of query) subset order asks (asked key subset keys) o
+  level_choices_satisfy key subset order keys o = level_satisfies (conjuncts_of query tables) (row_counts tables) key (equalities_of query) subset order conjuncts_depend_on_named (equalities_of_set_implied key subset keys) o
 
-  pub differ : (subset : ℕ) (order : List ℕ) → IsOrderOfSet (entries_of_set subset) order → ChoicesAreDifferent (entries_of_set subset) (map (row_in order) (level_over_entries query tables order))
-  differ subset order o = choices_differ (conjuncts_of query tables) (row_counts tables) (entries_of_set subset) order o
+  pub level_choices_differ : (subset : ℕ) (order : List ℕ) → IsOrderOfSet (entries_of_set subset) order → ChoicesAreDifferent (entries_of_set subset) (map (row_in order) (level_over_entries query tables order))
+  level_choices_differ subset order o = choices_differ (conjuncts_of query tables) (row_counts tables) (entries_of_set subset) order o
 
   pub within : (key : Keys) (b : EntryBounds) (subset : ℕ) (order : List ℕ) → AllByRecursion (JoinsEqualKeys tables key) (equalities_within subset (equalities_of query))
       → BoundsScans b query tables key subset → IsOrderOfSet (entries_of_set subset) order → length (level_over_entries query tables order) ≤ bound_of_set b (equalities_of query) subset
   within key b subset order keys known o =
-      level_within (conjuncts_of query tables) (row_counts tables) key (equalities_of query) subset order asks (asked key subset keys) o b known.lists (dominates key b subset known)
+      level_within (conjuncts_of query tables) (row_counts tables) key (equalities_of query) subset order conjuncts_depend_on_named (equalities_of_set_implied key subset keys) o b known.lists (dominates key b subset known)

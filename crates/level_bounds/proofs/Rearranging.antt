@@ -9,47 +9,47 @@ use Rattle.std.proofs.lemmas.List.Sorted.{IsPermutation-refl, IsPermutation-sym,
 use Rattle.std.proofs.lemmas.Map.Keys.{IsDistinct-head, IsDistinct-tail, IsDistinct-IsPermutation}
 use Rattle.std.proofs.lemmas.Map.Made.{IsDistinct-from_AllPairs}
 use Rattle.std.proofs.lemmas.Slice.Eq.{bytes_eq-Decides}
-use Rattle.entry_sets.proofs.Listing.{one_in, in_front, in_rest, in_none}
-use Rattle.level_bounds.proofs.Lists.{each_of}
+use Rattle.entry_sets.proofs.Listing.{in_front_or_rest, in_front, in_rest, not_in_empty}
+use Rattle.level_bounds.proofs.Lists.{at_member}
 
-module _ {X : Type 0} (eq : X → X → Bool) (same : (a b : X) → Decides (eq a b) (a ≡ b)) where
-  flips : (a b : X) → eq a b ≡ eq b a
-  flips a b = elim (cases_Bool (eq a b)) [
-    | inl t ↦ t ∙ sym ((same b a).1 (sym ((same a b).0 t)))
+module _ {X : Type 0} (eq : X → X → Bool) (decides_equality : (a b : X) → Decides (eq a b) (a ≡ b)) where
+  eq_symmetric : (a b : X) → eq a b ≡ eq b a
+  eq_symmetric a b = elim (cases_Bool (eq a b)) [
+    | inl t ↦ t ∙ sym ((decides_equality b a).1 (sym ((decides_equality a b).0 t)))
     | inr n ↦ elim (cases_Bool (eq b a)) [
-      | inl t ↦ absurd (false≢true (sym n ∙ (same a b).1 (sym ((same b a).0 t))))
+      | inl t ↦ absurd (false≢true (sym n ∙ (decides_equality a b).1 (sym ((decides_equality b a).0 t))))
       | inr m ↦ n ∙ sym m
     ]
   ]
 
-  pub not_again : (x : X) (xs : List X) → IsDistinct eq (x ∷ xs) → Contains xs x → ⊥
-  not_again x xs d k = false≢true (sym (each_of (λ y. eq x y ≡ false) xs (IsDistinct-head eq x xs d) x k) ∙ (same x x).1 refl)
+  pub not_in_rest : (x : X) (xs : List X) → IsDistinct eq (x ∷ xs) → Contains xs x → ⊥
+  not_in_rest x xs d k = false≢true (sym (at_member (λ y. eq x y ≡ false) xs (IsDistinct-head eq x xs d) x k) ∙ (decides_equality x x).1 refl)
 
-  pub same_members : (xs ys : List X) → IsDistinct eq xs → IsDistinct eq ys → ((x : X) → Contains xs x → Contains ys x) → ((x : X) → Contains ys x → Contains xs x)
+  pub permutation_of_same_members : (xs ys : List X) → IsDistinct eq xs → IsDistinct eq ys → ((x : X) → Contains xs x → Contains ys x) → ((x : X) → Contains ys x → Contains xs x)
       → IsPermutation xs ys
-  same_members [] [] d e into back = IsPermutation-refl []
-  same_members [] (y ∷ ys) d e into back = absurd (in_none y (back y (in_front y ys y refl)))
-  same_members (x ∷ xs) ys d e into back =
+  permutation_of_same_members [] [] d e into back = IsPermutation-refl []
+  permutation_of_same_members [] (y ∷ ys) d e into back = absurd (not_in_empty y (back y (in_front y ys y refl)))
+  permutation_of_same_members (x ∷ xs) ys d e into back =
       let there : Contains ys x = into x (in_front x xs x refl) in
       let others : List X = remove ys there.0 in
       let taken : IsPermutation ys (x ∷ others) = IsPermutation-remove ys there.0 x there.1 (sym there.2) in
-      let apart : IsDistinct eq (x ∷ others) = IsDistinct-IsPermutation eq flips ys (x ∷ others) taken e in
+      let apart : IsDistinct eq (x ∷ others) = IsDistinct-IsPermutation eq eq_symmetric ys (x ∷ others) taken e in
       IsPermutation-trans (x ∷ xs) (x ∷ others) ys
-      (IsPermutation-cons x xs others (same_members xs others (IsDistinct-tail eq x xs d) (IsDistinct-tail eq x others apart)
-      (λ y k. elim (one_in x others y (Contains-permutation ys (x ∷ others) y taken (into y (in_rest x xs y k)))) [
+      (IsPermutation-cons x xs others (permutation_of_same_members xs others (IsDistinct-tail eq x xs d) (IsDistinct-tail eq x others apart)
+      (λ y k. elim (in_front_or_rest x others y (Contains-permutation ys (x ∷ others) y taken (into y (in_rest x xs y k)))) [
         | inl rest ↦ rest
-        | inr is ↦ absurd (not_again x xs d (subst (Contains xs) is k))
+        | inr is ↦ absurd (not_in_rest x xs d (subst (Contains xs) is k))
       ])
-      (λ y k. elim (one_in x xs y (back y (Contains-permutation (x ∷ others) ys y (IsPermutation-sym ys (x ∷ others) taken) (in_rest x others y k)))) [
+      (λ y k. elim (in_front_or_rest x xs y (back y (Contains-permutation (x ∷ others) ys y (IsPermutation-sym ys (x ∷ others) taken) (in_rest x others y k)))) [
         | inl rest ↦ rest
-        | inr is ↦ absurd (not_again x others apart (subst (Contains others) is k))
+        | inr is ↦ absurd (not_in_rest x others apart (subst (Contains others) is k))
       ])))
       (IsPermutation-sym ys (x ∷ others) taken)
 
 -- ---- lists of choices
 
-pub differ_mapped : {Y : Type 0} (g : List ℕ → Y) (cs : List (List ℕ)) → ((c d : List ℕ) → Contains cs c → Contains cs d → g c ≡ g d → c ≡ d) → AllPairs ◌≢◌ cs → AllPairs ◌≢◌ (map g cs)
-differ_mapped g cs tells differ i j d less within same =
+pub map_keeps_different : {Y : Type 0} (g : List ℕ → Y) (cs : List (List ℕ)) → ((c d : List ℕ) → Contains cs c → Contains cs d → g c ≡ g d → c ≡ d) → AllPairs ◌≢◌ cs → AllPairs ◌≢◌ (map g cs)
+map_keeps_different g cs tells differ i j d less within same =
     let j_in : j < length cs = omega (arith, within, length-map cs g) in
     let i_in : i < length cs = omega arith in
     differ i j [] less j_in
@@ -58,4 +58,4 @@ differ_mapped g cs tells differ i j d less within same =
 
 pub choices_permuted : (cs ds : List (List ℕ)) → AllPairs ◌≢◌ cs → AllPairs ◌≢◌ ds → ((c : List ℕ) → Contains cs c → Contains ds c) → ((c : List ℕ) → Contains ds c → Contains cs c) → IsPermutation cs ds
 choices_permuted cs ds d e =
-    same_members bytes_eq bytes_eq-Decides cs ds (IsDistinct-from_AllPairs bytes_eq-Decides cs d) (IsDistinct-from_AllPairs bytes_eq-Decides ds e)
+    permutation_of_same_members bytes_eq bytes_eq-Decides cs ds (IsDistinct-from_AllPairs bytes_eq-Decides cs d) (IsDistinct-from_AllPairs bytes_eq-Decides ds e)

@@ -1,4 +1,4 @@
--- A level is a list of different choices of scanned rows.
+-- The choices of a level are all different, and have only scanned rows.
 use Rattle.std.proofs.Common.{◌≡◌, ℕ, ◌<◌, ◌≤◌, Bool, true, false, not, ◌||◌, eqb, List, [], ◌∷◌, length, get_or, map, refl, ap, sym, ◌∙◌, subst, arith, inl, inr}
 use Rattle.std.specs.List.{AllByRecursion, Contains, list_all, range_with_len}
 use Rattle.std.proofs.lemmas.Bool.{eqb-true, false≢true, or_cases, and_parts}
@@ -13,17 +13,17 @@ use Rattle.tree_bounds.specs.SetBounds.{SetHasLists, bound_of_set}
 use Rattle.tree_bounds.specs.Tables.{ChoicesAreDifferent, SetDominates}
 use Rattle.tree_bounds.specs.TreeBounds.{EntryBounds}
 use Rattle.tree_bounds.proofs.Scanned.{equalities_inside, scanned_within}
-use Rattle.sql_meaning.specs.Levels.{DependsOnNamed, Conjunct, level_of, names_just, names_only, row_in, scan}
+use Rattle.sql_meaning.specs.Levels.{DependsOnNamed, Conjunct, level_of, is_own_conjunct, names_only, row_in, scan}
 use Rattle.sql_meaning.proofs.LevelFacts.{names_at}
 use Rattle.level_bounds.specs.Equalities.{IsImplied}
 use Rattle.level_bounds.specs.Keys.{Keys}
 use Rattle.level_bounds.specs.Orders.{IsOrderOfSet}
-use Rattle.level_bounds.proofs.Lists.{all_from, all_true, each_of, from_map, in_filter, in_range, in_true, is_in, map_alike, same_at, true_for_all, true_in}
-use Rattle.level_bounds.proofs.Choosing.{choice_row, entry_in, entry_of}
-use Rattle.level_bounds.proofs.Reordering.{is_level_choice, level_differs, back}
+use Rattle.level_bounds.proofs.Lists.{from_members, all_true, at_member, from_map, in_filter, in_range, test_of_member, is_in, map_same_on_members, same_at, true_for_all, in_from_test}
+use Rattle.level_bounds.proofs.Choosing.{choice_row, set_entry_in_order, order_entry_in_set}
+use Rattle.level_bounds.proofs.Reordering.{is_level_choice, level_differs, reordered_back}
 
-names_more : (entries few many : List ℕ) → ((x : ℕ) → Contains few x → Contains many x) → list_all (is_in few) entries ≡ true → list_all (is_in many) entries ≡ true
-names_more entries few many more h = true_for_all (is_in many) entries (λ x k. in_true many x (more x (true_in few x (all_true (is_in few) entries h x k))))
+names_only_more : (entries subset superset : List ℕ) → ((x : ℕ) → Contains subset x → Contains superset x) → list_all (is_in subset) entries ≡ true → list_all (is_in superset) entries ≡ true
+names_only_more entries subset superset more h = true_for_all (is_in superset) entries (λ x k. test_of_member superset x (more x (in_from_test subset x (all_true (is_in subset) entries h x k))))
 
 pub implied : (a b : Bool) → (not a || b) ≡ true → a ≡ true → b ≡ true
 implied true b h e = h
@@ -39,12 +39,12 @@ module _ (conjuncts : List Conjunct) (rows : ℕ → ℕ) (set order : List ℕ)
       implied (names_only c order) (c.holds (row_in order choice))
       (all_true (λ c. not (names_only c order) || c.holds (row_in order choice)) conjuncts (is_level_choice conjuncts rows order choice k).holds c there) names
 
-  row_low : (choice : List ℕ) → Contains (level_of conjuncts rows order) choice → (x : ℕ) → Contains set x → row_in order choice x < rows x
-  row_low choice k x here = choice_row rows order choice (is_level_choice conjuncts rows order choice k).chosen x (in_true order x (entry_in set order o x here))
+  row_exists : (choice : List ℕ) → Contains (level_of conjuncts rows order) choice → (x : ℕ) → Contains set x → row_in order choice x < rows x
+  row_exists choice k x here = choice_row rows order choice (is_level_choice conjuncts rows order choice k).chosen x (test_of_member order x (set_entry_in_order set order o x here))
 
-  module _ (asks : AllByRecursion DependsOnNamed conjuncts) where
-    asks_row : (c : Conjunct) → Contains conjuncts c → (entry : ℕ) (f : ℕ → ℕ) → names_only c (entry ∷ []) ≡ true → c.holds (λ e. f entry) ≡ c.holds f
-    asks_row c there entry f names = each_of DependsOnNamed conjuncts asks c there (λ e. f entry) f (λ x here. ap f (alone x here))
+  module _ (depend_on_named : AllByRecursion DependsOnNamed conjuncts) where
+    depends_on_row : (c : Conjunct) → Contains conjuncts c → (entry : ℕ) (f : ℕ → ℕ) → names_only c (entry ∷ []) ≡ true → c.holds (λ e. f entry) ≡ c.holds f
+    depends_on_row c there entry f names = at_member DependsOnNamed conjuncts depend_on_named c there (λ e. f entry) f (λ x here. ap f (alone x here))
       where
         alone : (x : ℕ) → is_in c.entries x ≡ true → entry ≡ x
         alone x here = elim (or_cases (eqb x entry) false (names_at c.entries (entry ∷ []) names x here)) [
@@ -54,34 +54,34 @@ module _ (conjuncts : List Conjunct) (rows : ℕ → ℕ) (set order : List ℕ)
 
     row_scanned : (choice : List ℕ) → Contains (level_of conjuncts rows order) choice → (entry : ℕ) → Contains set entry → Contains (scan conjuncts rows entry) (row_in order choice entry)
     row_scanned choice k entry here =
-        in_filter (λ row. list_all (λ c. not (names_just c entry) || c.holds (λ e. row)) conjuncts) (range_with_len 0 (rows entry)) (row_in order choice entry)
-        (in_range 0 (rows entry) (row_in order choice entry) (omega arith) (omega (arith, row_low choice k entry here)))
-        (true_for_all (λ c. not (names_just c entry) || c.holds (λ e. row_in order choice entry)) conjuncts
-        (λ c there. implies (names_just c entry) (c.holds (λ e. row_in order choice entry)) (λ just. passes c there just)))
+        in_filter (λ row. list_all (λ c. not (is_own_conjunct c entry) || c.holds (λ e. row)) conjuncts) (range_with_len 0 (rows entry)) (row_in order choice entry)
+        (in_range 0 (rows entry) (row_in order choice entry) (omega arith) (omega (arith, row_exists choice k entry here)))
+        (true_for_all (λ c. not (is_own_conjunct c entry) || c.holds (λ e. row_in order choice entry)) conjuncts
+        (λ c there. implies (is_own_conjunct c entry) (c.holds (λ e. row_in order choice entry)) (λ just. passes c there just)))
       where
         one_entry : (x : ℕ) → Contains (entry ∷ []) x → Contains order x
-        one_entry x at = elim (or_cases (eqb x entry) false (in_true (entry ∷ []) x at)) [
-          | inl hit ↦ subst (Contains order) (sym (eqb-true x entry hit)) (entry_in set order o entry here)
+        one_entry x at = elim (or_cases (eqb x entry) false (test_of_member (entry ∷ []) x at)) [
+          | inl hit ↦ subst (Contains order) (sym (eqb-true x entry hit)) (set_entry_in_order set order o entry here)
           | inr never ↦ absurd (false≢true never)
         ]
 
-        passes : (c : Conjunct) → Contains conjuncts c → names_just c entry ≡ true → c.holds (λ e. row_in order choice entry) ≡ true
+        passes : (c : Conjunct) → Contains conjuncts c → is_own_conjunct c entry ≡ true → c.holds (λ e. row_in order choice entry) ≡ true
         passes c there just =
             let alone : names_only c (entry ∷ []) ≡ true = (and_parts (names_only c (entry ∷ [])) (not (names_only c [])) just).0 in
-            asks_row c there entry (row_in order choice) alone ∙ holds_within choice k c there (names_more c.entries (entry ∷ []) order one_entry alone)
+            depends_on_row c there entry (row_in order choice) alone ∙ holds_within choice k c there (names_only_more c.entries (entry ∷ []) order one_entry alone)
 
   keys_equal : (key : Keys) (e : Edge) → IsImplied conjuncts rows key e → Contains set e.left.entry → Contains set e.right.entry
       → (choice : List ℕ) → Contains (level_of conjuncts rows order) choice
       → key e.left.entry e.left.column (row_in order choice e.left.entry) ≡ key e.right.entry e.right.column (row_in order choice e.right.entry)
   keys_equal key e asked left right choice k =
-      asked.equal (row_in order choice) (row_low choice k e.left.entry left) (row_low choice k e.right.entry right)
-      (holds_within choice k asked.conjunct asked.one_of_them (names_more asked.conjunct.entries (e.left.entry ∷ e.right.entry ∷ []) order both asked.names))
+      asked.equal (row_in order choice) (row_exists choice k e.left.entry left) (row_exists choice k e.right.entry right)
+      (holds_within choice k asked.conjunct asked.one_of_them (names_only_more asked.conjunct.entries (e.left.entry ∷ e.right.entry ∷ []) order both asked.names))
     where
       both : (x : ℕ) → Contains (e.left.entry ∷ e.right.entry ∷ []) x → Contains order x
-      both x at = elim (or_cases (eqb x e.left.entry) (eqb x e.right.entry || false) (in_true (e.left.entry ∷ e.right.entry ∷ []) x at)) [
-        | inl hit ↦ subst (Contains order) (sym (eqb-true x e.left.entry hit)) (entry_in set order o e.left.entry left)
+      both x at = elim (or_cases (eqb x e.left.entry) (eqb x e.right.entry || false) (test_of_member (e.left.entry ∷ e.right.entry ∷ []) x at)) [
+        | inl hit ↦ subst (Contains order) (sym (eqb-true x e.left.entry hit)) (set_entry_in_order set order o e.left.entry left)
         | inr other ↦ elim (or_cases (eqb x e.right.entry) false other) [
-          | inl hit ↦ subst (Contains order) (sym (eqb-true x e.right.entry hit)) (entry_in set order o e.right.entry right)
+          | inl hit ↦ subst (Contains order) (sym (eqb-true x e.right.entry hit)) (set_entry_in_order set order o e.right.entry right)
           | inr never ↦ absurd (false≢true never)
         ]
       ]
@@ -100,30 +100,30 @@ module _ (conjuncts : List Conjunct) (rows : ℕ → ℕ) (set order : List ℕ)
       one_choice : (x y : List ℕ) → Contains (level_of conjuncts rows order) x → Contains (level_of conjuncts rows order) y
           → map (row_in order x) set ≡ map (row_in order y) set → x ≡ y
       one_choice x y k l same =
-          sym (back conjuncts rows set order order o o x k)
-          ∙ map_alike (row_in order x) (row_in order y) order (λ entry here. same_at (row_in order x) (row_in order y) set same entry (entry_of set order o entry here))
-          ∙ back conjuncts rows set order order o o y l
+          sym (reordered_back conjuncts rows set order order o o x k)
+          ∙ map_same_on_members (row_in order x) (row_in order y) order (λ entry here. same_at (row_in order x) (row_in order y) set same entry (order_entry_in_set set order o entry here))
+          ∙ reordered_back conjuncts rows set order order o o y l
 
 module _ (conjuncts : List Conjunct) (rows : ℕ → ℕ) (key : Keys) (es : List Edge) (subset : ℕ) (order : List ℕ)
     (asks : AllByRecursion DependsOnNamed conjuncts) (asked : AllByRecursion (IsImplied conjuncts rows key) (equalities_within subset es)) (o : IsOrderOfSet (entries_of_set subset) order) where
-  all_equal : (choice : List ℕ) → Contains (level_of conjuncts rows order) choice → (edges : List Edge) → AreWithin (entries_of_set subset) edges → AllByRecursion (IsImplied conjuncts rows key) edges
+  equalities_satisfied : (choice : List ℕ) → Contains (level_of conjuncts rows order) choice → (edges : List Edge) → AreWithin (entries_of_set subset) edges → AllByRecursion (IsImplied conjuncts rows key) edges
       → AllByRecursion (λ e. key e.left.entry e.left.column (row_in order choice e.left.entry) ≡ key e.right.entry e.right.column (row_in order choice e.right.entry)) edges
-  all_equal choice k [] inside asked' = tt
-  all_equal choice k (e ∷ edges) inside asked' = (
+  equalities_satisfied choice k [] inside asked' = tt
+  equalities_satisfied choice k (e ∷ edges) inside asked' = (
     keys_equal conjuncts rows (entries_of_set subset) order o key e asked'.0 inside.0.0 inside.0.1 choice k,
-    all_equal choice k edges inside.1 asked'.1,
+    equalities_satisfied choice k edges inside.1 asked'.1,
   )
 
   pub level_satisfies : AllByRecursion (SatisfiesScanned (scan conjuncts rows) key (entries_of_set subset) (equalities_within subset es)) (map (row_in order) (level_of conjuncts rows order))
   level_satisfies =
-      all_from (SatisfiesScanned (scan conjuncts rows) key (entries_of_set subset) (equalities_within subset es)) (map (row_in order) (level_of conjuncts rows order))
+      from_members (SatisfiesScanned (scan conjuncts rows) key (entries_of_set subset) (equalities_within subset es)) (map (row_in order) (level_of conjuncts rows order))
       (λ f k. let from : (choice : List ℕ) × Contains (level_of conjuncts rows order) choice × (f ≡ row_in order choice) = from_map (row_in order) (level_of conjuncts rows order) f k in
       subst (SatisfiesScanned (scan conjuncts rows) key (entries_of_set subset) (equalities_within subset es)) (sym from.2) (satisfies from.0 from.1))
     where
       satisfies : (choice : List ℕ) → Contains (level_of conjuncts rows order) choice → SatisfiesScanned (scan conjuncts rows) key (entries_of_set subset) (equalities_within subset es) (row_in order choice)
       satisfies choice k = record {
-        rows = all_from (λ entry. Contains (scan conjuncts rows entry) (row_in order choice entry)) (entries_of_set subset) (row_scanned conjuncts rows (entries_of_set subset) order o asks choice k);
-        equal = all_equal choice k (equalities_within subset es) (equalities_inside subset es) asked;
+        rows = from_members (λ entry. Contains (scan conjuncts rows entry) (row_in order choice entry)) (entries_of_set subset) (row_scanned conjuncts rows (entries_of_set subset) order o asks choice k);
+        equal = equalities_satisfied choice k (equalities_within subset es) (equalities_inside subset es) asked;
       }
 
   pub level_within : (b : EntryBounds) → SetHasLists b es subset → SetDominates b (scanned (scan conjuncts rows) key) es subset → length (level_of conjuncts rows order) ≤ bound_of_set b es subset

@@ -1,4 +1,4 @@
--- This example computes the levels and bounds of the triangle of three tables.
+-- The levels and bounds of the triangle of three tables, by computation.
 use Rattle.std.proofs.Common.{◌≡◌, ℕ, Bool, true, not, ◌&&◌, ◌||◌, List, [], ◌∷◌, refl, sym, subst, arith}
 use Rattle.std.specs.List.{IsDistinct, filter, list_all}
 use Rattle.std.proofs.lemmas.List.Elements.{filter_agree}
@@ -58,17 +58,17 @@ triangle_level_is order =
 
 -- ---- scans and bounds
 
-pub none_own_0 : own_conjuncts_of triangle 0 ≡ []
-none_own_0 = rw (entries_compare op.Eq (column_at 0 0) (column_at 1 0), entries_compare op.Eq (column_at 1 1) (column_at 2 0), entries_compare op.Eq (column_at 2 1) (column_at 0 1)) refl
+pub no_own_conjuncts_0 : own_conjuncts_of triangle 0 ≡ []
+no_own_conjuncts_0 = rw (entries_compare op.Eq (column_at 0 0) (column_at 1 0), entries_compare op.Eq (column_at 1 1) (column_at 2 0), entries_compare op.Eq (column_at 2 1) (column_at 0 1)) refl
 
-pub none_own_1 : own_conjuncts_of triangle 1 ≡ []
-none_own_1 = rw (entries_compare op.Eq (column_at 0 0) (column_at 1 0), entries_compare op.Eq (column_at 1 1) (column_at 2 0), entries_compare op.Eq (column_at 2 1) (column_at 0 1)) refl
+pub no_own_conjuncts_1 : own_conjuncts_of triangle 1 ≡ []
+no_own_conjuncts_1 = rw (entries_compare op.Eq (column_at 0 0) (column_at 1 0), entries_compare op.Eq (column_at 1 1) (column_at 2 0), entries_compare op.Eq (column_at 2 1) (column_at 0 1)) refl
 
-pub none_own_2 : own_conjuncts_of triangle 2 ≡ []
-none_own_2 = rw (entries_compare op.Eq (column_at 0 0) (column_at 1 0), entries_compare op.Eq (column_at 1 1) (column_at 2 0), entries_compare op.Eq (column_at 2 1) (column_at 0 1)) refl
+pub no_own_conjuncts_2 : own_conjuncts_of triangle 2 ≡ []
+no_own_conjuncts_2 = rw (entries_compare op.Eq (column_at 0 0) (column_at 1 0), entries_compare op.Eq (column_at 1 1) (column_at 2 0), entries_compare op.Eq (column_at 2 1) (column_at 0 1)) refl
 
 pub triangle_scan_1 : triangle_scan 1 ≡ 0 ∷ 1 ∷ 2 ∷ []
-triangle_scan_1 = whole_scan triangle three_tables 1 none_own_1
+triangle_scan_1 = whole_scan triangle three_tables 1 no_own_conjuncts_1
 
 sides_compressed : AreCompressed 1 triangle_bounds three_tables (cell_at triangle_tables) sides 7
 unfolding entries_of_set
@@ -79,7 +79,7 @@ triangle_compressed = subst (λ es. AreCompressed 1 triangle_bounds three_tables
 
 pub triangle_bounded : BoundsScans triangle_bounds triangle three_tables (cell_at triangle_tables) 7
 unfolding entries_of_set
-triangle_bounded = whole_bounds triangle three_tables (cell_at triangle_tables) 1 triangle_bounds 7 (none_own_0, (none_own_1, (none_own_2, tt))) triangle_compressed
+triangle_bounded = whole_bounds triangle three_tables (cell_at triangle_tables) 1 triangle_bounds 7 (no_own_conjuncts_0, (no_own_conjuncts_1, (no_own_conjuncts_2, tt))) triangle_compressed
 
 all_within : equalities_within 7 (equalities_of triangle) ≡ equalities_of triangle
 all_within = rw triangle_joined refl

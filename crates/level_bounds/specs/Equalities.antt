@@ -5,7 +5,8 @@ use Rattle.berge_tree.specs.declared.edges.Edge.{Edge}
 use Rattle.sql_meaning.specs.Levels.{Conjunct, names_only}
 use Rattle.level_bounds.specs.Keys.{Keys}
 
--- one of the conjuncts names only the two entries of the equality. If it holds for a row of each, the two rows have the same key in the equality's columns
+-- one of the conjuncts names only the two entries of the equality. If it holds for a row of each entry, the two rows have the same key in the
+-- equality's columns
 pub record IsImplied (conjuncts : List Conjunct) (rows : ℕ → ℕ) (key : Keys) (e : Edge) : Type 0 where
   pub conjunct : Conjunct
   pub one_of_them : Contains conjuncts conjunct

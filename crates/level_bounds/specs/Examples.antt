@@ -8,9 +8,10 @@ use Rattle.level_bounds.specs.Scans.{level_over_entries, query_scan}
 abbrev pub three_tables : Tables
 three_tables = tables_of triangle_tables
 
--- the scan of an entry in the query that joins the three tables in a triangle; below, the level over these entries
+-- the scan of an entry in the query that joins the three tables in a triangle
 abbrev pub triangle_scan : ℕ → List ℕ
 triangle_scan entry = query_scan triangle three_tables entry
 
+-- the level of this query over these entries
 abbrev pub triangle_level : List ℕ → List (List ℕ)
 triangle_level order = level_over_entries triangle three_tables order

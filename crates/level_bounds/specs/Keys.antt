@@ -9,11 +9,11 @@ use Rattle.csv_tables.specs.declared.types.Database.{Database}
 use Rattle.sql_meaning.specs.Conditions.{column_value}
 use Rattle.sql_meaning.specs.Tables.{Tables, cells_of, row_counts}
 
--- the key of a row, by its entry and a column
+-- for an entry, a column and a row: the key of this row
 abbrev pub Keys : Type 0
 Keys = ℕ → ℕ → ℕ → ℕ
 
--- the value of a row, by its entry and a column
+-- for an entry, a column and a row: the value of this row
 abbrev pub value_at : Tables → ℕ → ℕ → ℕ → Value
 value_at tables entry column row = column_value tables (λ e. row) (record { from = entry; column = column })
 

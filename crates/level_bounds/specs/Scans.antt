@@ -6,7 +6,7 @@ use Rattle.berge_tree.specs.declared.edges.Edge.{Edge}
 use Rattle.entry_sets.specs.Sets.{entries_of_set}
 use Rattle.query_types.specs.declared.types.Cond.{Cond}
 use Rattle.query_types.specs.declared.types.Query.{Query}
-use Rattle.join_graph.specs.Conjuncts.{equalities_of, names_just}
+use Rattle.join_graph.specs.Conjuncts.{equalities_of, is_own_conjunct}
 use Rattle.join_graph.specs.Kept.{equalities_within}
 use Rattle.tree_bounds.specs.Columns.{EachNamedColumn}
 use Rattle.tree_bounds.specs.SetBounds.{SetHasLists}
@@ -26,7 +26,7 @@ level_over_entries query tables order = level_of (conjuncts_of query tables) (ro
 
 -- the conjuncts that name the entry and no other entry
 abbrev pub own_conjuncts_of : Query → ℕ → List Cond
-own_conjuncts_of query entry = filter (names_just entry) query.conjuncts
+own_conjuncts_of query entry = filter (is_own_conjunct entry) query.conjuncts
 
 -- the equalities of the query that join two entries of a set
 abbrev pub equalities_in : Query → ℕ → List Edge

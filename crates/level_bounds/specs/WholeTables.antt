@@ -15,11 +15,11 @@ use Rattle.level_bounds.specs.Keys.{Keys}
 abbrev pub keys_of : Tables → Keys → ℕ → ℕ → List ℕ
 keys_of tables key entry column = map (key entry column) (range_with_len 0 (row_counts tables entry))
 
--- the number of rows of each table, and the degree list of each column
+-- bounds that are the number of rows of each table, and the degree list of each column
 abbrev pub uncompressed : Tables → Keys → EntryBounds
 uncompressed tables key = record { rows = row_counts tables; list = λ entry column. degree_list (keys_of tables key entry column) }
 
--- For the entries of a set, `b` has their row counts. It has the compressed degree list of each column that the set's equalities name
+-- `b` has the number of rows of each entry of the set, and the compressed degree list of each column that the set's equalities name
 pub record AreCompressed (accuracy : ℕ) (b : EntryBounds) (tables : Tables) (key : Keys) (es : List Edge) (subset : ℕ) : Type 0 where
   pub rows : AllByRecursion (λ entry. b.rows entry ≡ row_counts tables entry) (entries_of_set subset)
   pub columns : EachNamedColumn (λ entry column. b.list entry column ≡ compressed accuracy (degree_list (keys_of tables key entry column)))

@@ -24,7 +24,7 @@ pub fn triangles()
     ensures last_bound { bound_of_set triangle_bounds (equalities_of triangle) 7 ≡ 9 }
 {}
 
-/// The three tables meet all premises of the laws. Each scan is its whole table. The bounds are the compressed degree lists of
+/// The three tables meet all premises of the laws. The scan of each entry is its whole table. The bounds are the compressed degree lists of
 /// the tables, and they hold for the scans of the three entries. The list T, R, S is an order of the set of all three.
 pub fn instances()
     ensures scans { triangle_scan 1 ≡ 0 ∷ 1 ∷ 2 ∷ [] }

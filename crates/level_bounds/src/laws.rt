@@ -9,7 +9,7 @@ ghost use Rattle.query_types.specs.declared.types.ColumnRef.{ColumnRef};
 ghost use Rattle.query_types.specs.declared.types.Cond.{Cond};
 ghost use Rattle.query_types.specs.declared.types.Query.{Query};
 ghost use Rattle.query_types.specs.Named.{NamesItsEntries, entries_named};
-ghost use Rattle.join_graph.specs.Conjuncts.{equalities_of, equality_of, local_of, names_just};
+ghost use Rattle.join_graph.specs.Conjuncts.{equalities_of, equality_of, local_of, is_own_conjunct};
 ghost use Rattle.join_graph.specs.Kept.{equalities_within};
 ghost use Rattle.tree_bounds.specs.Scans.{SatisfiesScanned, scanned};
 ghost use Rattle.tree_bounds.specs.SetBounds.{SetHasLists, bound_of_set};
@@ -20,7 +20,7 @@ ghost use Rattle.csv_tables.specs.Pools.{TextsAreDifferent as AreDifferentTexts}
 ghost use Rattle.sql_meaning.specs.Answers.{answer, conjunct_of, conjuncts_of, entries_of, selected};
 ghost use Rattle.sql_meaning.specs.Conditions.{cond_holds};
 ghost use Rattle.sql_meaning.specs.Databases.{IsColumnOf, IsDatabaseOf};
-ghost use Rattle.sql_meaning.specs.Levels.{DependsOnNamed, Conjunct, level, level_of, names_just as names_just_it, row_in, scan};
+ghost use Rattle.sql_meaning.specs.Levels.{DependsOnNamed, Conjunct, level, level_of, is_own_conjunct as names_just_it, row_in, scan};
 ghost use Rattle.sql_meaning.specs.Tables.{Tables, cells_of, row_counts, tables_of};
 ghost use Rattle.level_bounds.specs.Equalities.{IsImplied};
 ghost use Rattle.level_bounds.specs.Keys.{AreKeys, HaveDifferentCharacters, Keys, are_equal_at, cell_at};
@@ -28,10 +28,10 @@ ghost use Rattle.level_bounds.specs.Orders.{IsOrderOfSet, reordered};
 ghost use Rattle.level_bounds.specs.Scans.{BoundsEachScan, BoundsScans, equalities_in, own_conjuncts_of, level_over_entries, query_scan};
 ghost use Rattle.level_bounds.specs.WholeTables.{AreCompressed, keys_of, uncompressed};
 
-/// The planner and the meaning of SQL agree which conjuncts are an entry's own. The entry's scan has the rows for which all
+/// The planner and the meaning of SQL agree on which conjuncts are an entry's own. The entry's scan has the rows for which all
 /// of its own conjuncts hold; `local_of` has the numbers of these conjuncts.
-pub fn scans_ask_local_conjuncts()
-    ensures same { (tables : Tables) (entry : ℕ) (cond : Cond) → names_just_it (conjunct_of tables cond) entry ≡ names_just entry cond }
+pub fn scans_test_own_conjuncts()
+    ensures same { (tables : Tables) (entry : ℕ) (cond : Cond) → names_just_it (conjunct_of tables cond) entry ≡ is_own_conjunct entry cond }
     ensures scan { (query : Query) (tables : Tables) (entry : ℕ)
         → query_scan query tables entry
         ≡ filter (λ row. list_all (cond_holds tables (λ e. row)) (own_conjuncts_of query entry)) (range_with_len 0 (row_counts tables entry)) }
@@ -41,7 +41,7 @@ pub fn scans_ask_local_conjuncts()
         → IsSomeAnd (slice_get query.conjuncts k) (λ cond. IsTrue (cond_holds tables (λ e. row) cond)))) }
 {}
 
-/// Each equality that joins two entries is a conjunct. The conjunct names only these two, and it holds exactly if the two values are equal.
+/// Each equality that joins two entries is a conjunct. The conjunct names only these two entries, and it holds exactly if the two values are equal.
 pub fn equalities_are_conjuncts()
     ensures stand { (query : Query) (e : Edge)
         → Contains (equalities_of query) e ↔ ((cond : Cond) × Contains query.conjuncts cond × (equality_of cond ≡ Some e)) }
@@ -70,7 +70,7 @@ pub fn orders_are_of_their_sets()
         → IsOrderOfSet (range_with_len 0 n) order }
 {}
 
-/// Take a level over the entries of a set, in any order. Its choices are different, and they are choices of scanned rows. Each of them
+/// Take a level over the entries of a set, in any order. Its choices are all different, and they are choices of scanned rows. Each choice
 /// satisfies all equalities of the set.
 pub fn levels_are_choices_of_scanned_rows()
     ensures satisfy { (query : Query) (tables : Tables) (key : Keys) (subset : ℕ) (order : List ℕ)
@@ -81,8 +81,8 @@ pub fn levels_are_choices_of_scanned_rows()
         → ChoicesAreDifferent (entries_of_set subset) (map (row_in order) (level_over_entries query tables order)) }
 {}
 
-/// No bound is too low: a level over the entries of a set, in any order, has no more rows than the set's bound.
-/// This needs bounds of the entries that hold for their scans.
+/// No bound is too low. If the bounds of the entries hold for their scans, a level over the entries of a set, in any order, has no more rows than
+/// the set's bound.
 pub fn levels_are_never_under()
     ensures database { (query : Query) (db : Database) (b : EntryBounds) (subset : ℕ) (order : List ℕ)
         → IsDatabaseOf query db → HaveDifferentCharacters db.pool → BoundsScans b query (tables_of db) (cell_at db) subset

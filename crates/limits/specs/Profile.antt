@@ -71,7 +71,7 @@ greatest_rows = 2 ^ 48
 abbrev pub greatest_budget : ℕ
 greatest_budget = 2 ^ 59
 
--- the greatest limit of the bytes of a plan's buffers. No plan within the limits above takes as many
+-- the greatest memory limit that a command may set for a plan's buffers, in bytes. Plans within the program's limits take less
 abbrev pub most_memory : ℕ
 most_memory = 2 ^ 40
 

@@ -1,7 +1,7 @@
 //! Limits of texts, tables, queries and plans: constants for the code, and definitions for contracts.
 //!
-//! A contract says `most_rows` where the code says `MOST_ROWS`; `specs/Profile.antt` defines it. A value of the type `Accuracy` is always within its
-//! limits.
+//! The code says `MOST_ROWS`, and a contract says `most_rows`, which `specs/Profile.antt` defines. A value of the type `Accuracy` is always within
+//! its limits.
 #![tactic(auto)]
 
 ghost use Rattle.std.specs.Prelude.{◌≡◌};
@@ -53,13 +53,13 @@ pub const LEAST_BUDGET: u64 = 1;
 /// The greatest budget, in rows.
 pub const MOST_BUDGET: u64 = 20_000_000;
 
-/// The most rows of a table in lists, bounds and compression, for every program.
+/// The most rows that a table may have in any call of the library on lists, bounds or compression.
 pub const GREATEST_ROWS: u64 = 1 << 48;
 
-/// The greatest budget that the searches accept, in rows, for every program.
+/// The greatest budget that any search of the library accepts, in rows.
 pub const GREATEST_BUDGET: u64 = 1 << 59;
 
-/// The greatest limit of the bytes of a plan's buffers.
+/// The greatest memory limit that a command may set for a plan's buffers, in bytes.
 pub const MOST_MEMORY: u64 = 1 << 40;
 
 /// The default budget, in rows.

@@ -1,4 +1,4 @@
--- The lemmas of the theory with inferred arguments, and lemmas for forms of rules that grammars share.
+-- The lemmas of the theory with implicit arguments, and lemmas for common forms of grammar rules.
 use Rattle.std.proofs.Common.{◌≡◌, false, true, inl, inr, Option, Some, None, List, [], ◌∷◌, ◌++◌, refl}
 use Rattle.ll_grammars.specs.declared.lexeme.Lexeme.{Lexeme}
 use Rattle.ll_grammars.specs.declared.terminal.Terminal.{Terminal}
@@ -12,20 +12,20 @@ use Rattle.ll_grammars.proofs.Sets.{among_right, BeginsOutside-right}
 use Rattle.ll_grammars.proofs.Steps.{one_shape, then_shape, either_shape, maybe_shape, reads_one, reads_then, reads_mapped, reads_either, reads_maybe}
 use Rattle.ll_grammars.proofs.Repeats.{many_shape, reads_many}
 
-pub row : {A B : Type 0} {L : Language A} {M : Language B} {s t : FirstAndFollow} {p : Parser A} {q : Parser B} → Parses L s p → Parses M t q → apart s.more t.first ≡ true → Parses (L ▸ M) (then_shape s t) (read_then p q)
-row first second h = reads_then _ _ _ _ _ _ first second h
+pub in_sequence : {A B : Type 0} {L : Language A} {M : Language B} {s t : FirstAndFollow} {p : Parser A} {q : Parser B} → Parses L s p → Parses M t q → apart s.more t.first ≡ true → Parses (L ▸ M) (then_shape s t) (read_then p q)
+in_sequence first second h = reads_then _ _ _ _ _ _ first second h
 
-pub value : {A B : Type 0} {L : Language A} {s : FirstAndFollow} {p : Parser A} → (f : A → B) → Parses L s p → Parses (mapped f L) s (read_mapped f p)
-value f reads = reads_mapped _ f _ _ reads
+pub with_value : {A B : Type 0} {L : Language A} {s : FirstAndFollow} {p : Parser A} → (f : A → B) → Parses L s p → Parses (mapped f L) s (read_mapped f p)
+with_value f reads = reads_mapped _ f _ _ reads
 
 pub choice : {A : Type 0} {L M : Language A} {s t : FirstAndFollow} {p q : Parser A} → Parses L s p → Parses M t q → s.nullable ≡ false → t.nullable ≡ false → apart s.first t.first ≡ true → Parses (L ∪ M) (either_shape s t) (read_either s.first p q)
-choice first second full full' h = reads_either _ _ _ _ _ _ first second full full' h
+choice first second not_nullable not_nullable' h = reads_either _ _ _ _ _ _ first second not_nullable not_nullable' h
 
 pub option : {A : Type 0} {L : Language A} {s : FirstAndFollow} {p : Parser A} → Parses L s p → s.nullable ≡ false → Parses (maybe L) (maybe_shape s) (read_maybe s.first p)
-option reads full = reads_maybe _ _ _ reads full
+option reads not_nullable = reads_maybe _ _ _ reads not_nullable
 
 pub repeat : {A : Type 0} {L : Language A} {s : FirstAndFollow} {p : Parser A} → Parses L s p → s.nullable ≡ false → apart s.more s.first ≡ true → Parses (many L) (many_shape s) (read_many s.first p)
-repeat reads full h = reads_many _ _ _ reads full h
+repeat reads not_nullable h = reads_many _ _ _ reads not_nullable h
 
 abbrev pub some_token : Terminal → Lexeme
 some_token t = record { terminal = t; start = 0; end = 0 }
@@ -39,8 +39,8 @@ a_word t e = reads_one (t ∷ []) (some_token t) e
 abbrev pub parentheses_shape : FirstAndFollow → FirstAndFollow
 parentheses_shape s = then_shape (word_shape terminal.Open) (then_shape s (word_shape terminal.Close))
 
-pub inside : {A : Type 0} {L : Language A} {s : FirstAndFollow} {p : Parser A} → Parses L s p → apart s.more (terminal.Close ∷ []) ≡ true → Parses (in_parentheses L) (parentheses_shape s) (read_in_parentheses p)
-inside reads h = value middle (row (a_word terminal.Open refl) (row reads (a_word terminal.Close refl) h) refl)
+pub parenthesized : {A : Type 0} {L : Language A} {s : FirstAndFollow} {p : Parser A} → Parses L s p → apart s.more (terminal.Close ∷ []) ≡ true → Parses (in_parentheses L) (parentheses_shape s) (read_in_parentheses p)
+parenthesized reads h = with_value middle (in_sequence (a_word terminal.Open refl) (in_sequence reads (a_word terminal.Close refl) h) refl)
 
 abbrev pub next_shape : Terminal → FirstAndFollow → FirstAndFollow
 next_shape separator s = then_shape (word_shape separator) s
@@ -65,7 +65,7 @@ reads_same {A = A} {L = L} {M = M} {s = s} {p = p} to from reads = record {
 -- ---- a choice between two languages, if one of them has no text
 
 pub right_only : {A : Type 0} {L M : Language A} {t : FirstAndFollow} {q : Parser A} → (s : FirstAndFollow) → ((text : List Lexeme) (v : A) → L text v → ⊥) → Parses M t q → t.nullable ≡ false → Parses (L ∪ M) (either_shape s t) q
-right_only {A = A} {L = L} {M = M} {t = t} {q = q} s none reads full = record {
+right_only {A = A} {L = L} {M = M} {t = t} {q = q} s none reads not_nullable = record {
   some = record { more = reads.some.more; value = reads.some.value; spelled = inr reads.some.spelled };
   begins = λ text v l. elim l [ inl a ↦ absurd (none text v a) | inr m ↦ wider text (reads.begins text v m) ];
   splits = λ text. split text (q text).0 (q text).1 (reads.splits text);

@@ -28,31 +28,31 @@ many_start answer = at answer.0 answer.1 where
   at None end = refl
   at (Some others) end = refl
 
-module _ {A : Type 0} (L : Language A) (s : FirstAndFollow) (p : Parser A) (reads : Parses L s p) (full : s.nullable ≡ false) where
+module _ {A : Type 0} (L : Language A) (s : FirstAndFollow) (p : Parser A) (reads : Parses L s p) (not_nullable : s.nullable ≡ false) where
   pub shorter : (text : List Lexeme) (a : A) (rest : List Lexeme) → p text ≡ (Some a, rest) → length rest < length text
   shorter text a rest e = at (p text).0 (p text).1 e (reads.splits text) where
     at : (o : Option A) (r : List Lexeme) → ◌≡◌ {A = Answer A} (o, r) (Some a, rest) → Splits L text o r → length rest < length text
     at None r e split = absurd (let k : ◌≡◌ {A = Option A} None (Some a) = ap (λ x. x.0) e in cc)
     at (Some b) r e split =
-        let pos : 0 < length split.front = begins_length s split.front full (reads.begins split.front b split.spelled) in
+        let pos : 0 < length split.front = begins_length s split.front not_nullable (reads.begins split.front b split.spelled) in
         let same : r ≡ rest = ap (λ x. x.1) e in
         omega (arith, ap length split.whole, length-append split.front r, ap length same)
 
   pub loop_more : (front : List A) (text : List Lexeme) (a : A) (rest : List Lexeme) → starts s.first text ≡ true → p text ≡ (Some a, rest)
       → with_front front (read_many s.first p text) ≡ with_front (front ++ a ∷ []) (read_many s.first p rest)
   loop_more front text a rest h e =
-      let step : read_many s.first p text ≡ read_others (read_many s.first p) a rest = many_step L s p reads full text h ∙ ap (λ x. x >>= read_others (read_many s.first p)) e in
+      let step : read_many s.first p text ≡ read_others (read_many s.first p) a rest = many_step L s p reads not_nullable text h ∙ ap (λ x. x >>= read_others (read_many s.first p)) e in
       rw step (front_others front a (read_many s.first p rest).0 (read_many s.first p rest).1)
 
   pub loop_stops : (e : Stop) (front : List A) (text rest : List Lexeme) (total : Answer (List A)) → starts s.first text ≡ true → IsReadAs {A = A} (Err e) rest (p text)
       → with_front front (read_many s.first p text) ≡ total → IsReadAs {A = List A} (Err e) rest total
   loop_stops stop.NoMemory front text rest total h g so_far = tt
   loop_stops stop.Syntax front text rest total h g so_far =
-      let step : read_many s.first p text ≡ (None, rest) = many_step L s p reads full text h ∙ ap (λ x. x >>= read_others (read_many s.first p)) g in
+      let step : read_many s.first p text ≡ (None, rest) = many_step L s p reads not_nullable text h ∙ ap (λ x. x >>= read_others (read_many s.first p)) g in
       sym so_far ∙ ap (with_front front) step
 
   pub loop_ends : (front : List A) (text : List Lexeme) (total : Answer (List A)) → starts s.first text ≡ false → with_front front (read_many s.first p text) ≡ total → total ≡ (Some front, text)
-  loop_ends front text total h so_far = sym so_far ∙ ap (with_front front) (many_stop L s p reads full text h) ∙ ap (λ x. (Some x, text)) (append-nil front)
+  loop_ends front text total h so_far = sym so_far ∙ ap (with_front front) (many_stop L s p reads not_nullable text h) ∙ ap (λ x. (Some x, text)) (append-nil front)
 
   pub loop_keeps : (front longer : List A) (text : List Lexeme) (a : A) (rest : List Lexeme) (total : Answer (List A)) → starts s.first text ≡ true → p text ≡ (Some a, rest) → longer ≡ front ++ a ∷ []
       → with_front front (read_many s.first p text) ≡ total → with_front longer (read_many s.first p rest) ≡ total

@@ -1,4 +1,4 @@
--- A choice whose second alternative may be empty. The parser takes this alternative if no text of the first begins with the next token.
+-- A choice whose second alternative may be empty. The parser takes the second alternative if no text of the first one begins with the next token.
 use Rattle.std.proofs.Common.{◌≡◌, Bool, true, false, cond, List, [], ◌∷◌, ◌++◌, Option, Some, None, sym, inl, inr}
 use Rattle.ll_grammars.specs.declared.lexeme.Lexeme.{Lexeme}
 use Rattle.ll_grammars.specs.Terminals.{apart}
@@ -10,7 +10,7 @@ use Rattle.ll_grammars.proofs.Sets.{apart_false, among_left, among_right, Begins
 abbrev pub otherwise_shape : FirstAndFollow → FirstAndFollow → FirstAndFollow
 otherwise_shape s t = record { first = s.first ++ t.first; nullable = t.nullable; more = s.first ++ (s.more ++ t.more) }
 
-module _ {A : Type 0} {L M : Language A} {s t : FirstAndFollow} {p q : Parser A} (first : Parses L s p) (second : Parses M t q) (full : s.nullable ≡ false) (apart_ : apart s.first t.first ≡ true) where
+module _ {A : Type 0} {L M : Language A} {s t : FirstAndFollow} {p q : Parser A} (first : Parses L s p) (second : Parses M t q) (not_nullable : s.nullable ≡ false) (apart_ : apart s.first t.first ≡ true) where
   left_splits : (text : List Lexeme) (o : Option A) (r : List Lexeme) → Splits L text o r → Splits (L ∪ M) text o r
   left_splits text None r d = record { front = d.front; whole = d.whole; spelled = record { more = d.spelled.more; value = d.spelled.value; spelled = inl d.spelled.spelled } }
   left_splits text (Some a) r d = record { front = d.front; whole = d.whole; spelled = inl d.spelled }
@@ -28,7 +28,7 @@ module _ {A : Type 0} {L M : Language A} {s t : FirstAndFollow} {p q : Parser A}
   none_starts (x ∷ front) rest b stop = apart_false s.first t.first x.terminal apart_ b
 
   completes : (front rest : List Lexeme) (value : A) → (L ∪ M) front value → BeginsOutside (s.first ++ (s.more ++ t.more)) rest → read_either s.first p q (front ++ rest) ≡ (Some value, rest)
-  completes front rest value (inl l) stop = rw (starts_front s front rest full (first.begins front value l)) (first.complete front rest value l (BeginsOutside-left s.more t.more rest (BeginsOutside-right s.first (s.more ++ t.more) rest stop)))
+  completes front rest value (inl l) stop = rw (starts_front s front rest not_nullable (first.begins front value l)) (first.complete front rest value l (BeginsOutside-left s.more t.more rest (BeginsOutside-right s.first (s.more ++ t.more) rest stop)))
   completes front rest value (inr m) stop =
       rw (none_starts front rest (second.begins front value m) (BeginsOutside-left s.first (s.more ++ t.more) rest stop))
       (second.complete front rest value m (BeginsOutside-right s.more t.more rest (BeginsOutside-right s.first (s.more ++ t.more) rest stop)))

@@ -14,18 +14,18 @@ abbrev pub many_shape : FirstAndFollow → FirstAndFollow
 many_shape s = record { first = s.first; nullable = true; more = s.first ++ s.more }
 
 begins_append : (s : FirstAndFollow) (f g : List Lexeme) → s.nullable ≡ false → BeginsIn s f → BeginsIn s (f ++ g)
-begins_append s [] g full b = absurd cc
-begins_append s (x ∷ f) g full b = b
+begins_append s [] g not_nullable b = absurd cc
+begins_append s (x ∷ f) g not_nullable b = b
 
 pub begins_length : (s : FirstAndFollow) (f : List Lexeme) → s.nullable ≡ false → BeginsIn s f → 0 < length f
-begins_length s [] full b = absurd cc
-begins_length s (x ∷ f) full b = omega arith
+begins_length s [] not_nullable b = absurd cc
+begins_length s (x ∷ f) not_nullable b = omega arith
 
 pub starts_none : (cs : List Terminal) (text : List Lexeme) → length text ≤ 0 → starts cs text ≡ false
 starts_none cs [] h = refl
 starts_none cs (x ∷ text) h = absurd (omega arith)
 
-module _ {A : Type 0} (L : Language A) (s : FirstAndFollow) (p : Parser A) (reads : Parses L s p) (full : s.nullable ≡ false) where
+module _ {A : Type 0} (L : Language A) (s : FirstAndFollow) (p : Parser A) (reads : Parses L s p) (not_nullable : s.nullable ≡ false) where
   many_splits_others : (text f r : List Lexeme) (a : A) → text ≡ f ++ r → L f a → (o : Option (List A)) (end : List Lexeme) → Splits (many L) r o end
       → Splits (many L) text (next {B = List A} o end (λ others. give (a ∷ others))).0 (next {B = List A} o end (λ others. give (a ∷ others))).1
   many_splits_others text f r a whole l None end split = record {
@@ -60,24 +60,24 @@ module _ {A : Type 0} (L : Language A) (s : FirstAndFollow) (p : Parser A) (read
   many_begins_at : (text : List Lexeme) (values : List A) → many L text values → BeginsIn (many_shape s) text
   many_begins_at [] values l = refl
   many_begins_at (x ∷ text) [] l = absurd cc
-  many_begins_at (x ∷ text) (v ∷ values) l = let k : BeginsIn s (x ∷ text) = subst (λ t. BeginsIn s t) (sym l.2) (begins_append s l.0 l.1 full (reads.begins l.0 v l.3)) in k
+  many_begins_at (x ∷ text) (v ∷ values) l = let k : BeginsIn s (x ∷ text) = subst (λ t. BeginsIn s t) (sym l.2) (begins_append s l.0 l.1 not_nullable (reads.begins l.0 v l.3)) in k
 
   many_complete : apart s.more s.first ≡ true → (n : ℕ) (values : List A) (front rest : List Lexeme) → length (front ++ rest) ≤ n → many L front values → BeginsOutside (s.first ++ s.more) rest
       → read_up_to n s.first p (front ++ rest) ≡ (Some values, rest)
   many_complete apart_ zero [] front rest le l stop = rw l refl
   many_complete apart_ (suc n) [] front rest le l stop = rw (l, BeginsOutside-starts s.first rest (BeginsOutside-left s.first s.more rest stop)) refl
   many_complete apart_ zero (v ∷ values) front rest le l stop =
-      let pos : 0 < length l.0 = begins_length s l.0 full (reads.begins l.0 v l.3) in
+      let pos : 0 < length l.0 = begins_length s l.0 not_nullable (reads.begins l.0 v l.3) in
       absurd (omega (arith, length-append front rest, ap length l.2, length-append l.0 l.1))
   many_complete apart_ (suc n) (v ∷ values) front rest le l stop =
       let begins = reads.begins l.0 v l.3 in
-      let pos : 0 < length l.0 = begins_length s l.0 full begins in
+      let pos : 0 < length l.0 = begins_length s l.0 not_nullable begins in
       let small : length (l.1 ++ rest) ≤ n = omega (arith, length-append front rest, ap length l.2, length-append l.0 l.1, length-append l.1 rest) in
       let stop1 : BeginsOutside s.more (l.1 ++ rest) = BeginsOutside-next s.more (many_shape s) l.1 rest apart_ (many_begins_at l.1 values l.4) (BeginsOutside-right s.first s.more rest stop) in
       let e1 = reads.complete l.0 (l.1 ++ rest) v l.3 stop1 in
       let e2 = many_complete apart_ n values l.1 rest small l.4 stop in
       let regroup : front ++ rest ≡ l.0 ++ (l.1 ++ rest) = ap (λ x. x ++ rest) l.2 ∙ append_assoc l.0 l.1 rest in
-      rw (regroup, starts_front s l.0 (l.1 ++ rest) full begins, e1, e2) refl
+      rw (regroup, starts_front s l.0 (l.1 ++ rest) not_nullable begins, e1, e2) refl
 
   up_stops : (m : ℕ) (text : List Lexeme) → starts s.first text ≡ false → read_up_to m s.first p text ≡ (Some [], text)
   up_stops zero text h = refl
@@ -103,7 +103,7 @@ module _ {A : Type 0} (L : Language A) (s : FirstAndFollow) (p : Parser A) (read
       let whole : front ++ rest ≡ one.front ++ (two.front ++ rest) = one.whole ∙ ap (λ x. one.front ++ x) (ap (λ x. x.1) e ∙ whole_r) in
       let fronts : front ≡ one.front ++ two.front = append_cancel_right front (one.front ++ two.front) rest (whole ∙ sym (append_assoc one.front two.front rest)) in
       let spelled : L one.front a = subst (λ (x : Option A). Spelled L one.front x) (ap (λ x. x.0) e) one.spelled in
-      let pos : 0 < length one.front = begins_length s one.front full (reads.begins one.front a spelled) in
+      let pos : 0 < length one.front = begins_length s one.front not_nullable (reads.begins one.front a spelled) in
       let small : length (two.front ++ rest) ≤ n = omega (arith, ap length whole, length-append one.front (two.front ++ rest)) in
       let small' : length (two.front ++ other) ≤ m = omega (arith, length-append front other, ap length fronts, length-append one.front two.front, length-append two.front other) in
       let e1 : p (one.front ++ (two.front ++ rest)) ≡ (Some a, two.front ++ rest) = ap p (sym whole) ∙ e ∙ ap (λ x. (Some a, x)) whole_r in
@@ -141,7 +141,7 @@ module _ {A : Type 0} (L : Language A) (s : FirstAndFollow) (p : Parser A) (read
       → (o : Option A) (r : List Lexeme) → Splits L text o r → next {B = List A} o r (read_others (read_up_to n s.first p)) ≡ next {B = List A} o r (read_others (read_up_to m s.first p))
   up_same_turn n m text ih le le' None r split = refl
   up_same_turn n m text ih le le' (Some a) r split =
-      let pos : 0 < length split.front = begins_length s split.front full (reads.begins split.front a split.spelled) in
+      let pos : 0 < length split.front = begins_length s split.front not_nullable (reads.begins split.front a split.spelled) in
       let all : length text ≡ length split.front + length r = ap length split.whole ∙ length-append split.front r in
       rw (ih r (omega arith) (omega arith)) refl
 
@@ -155,7 +155,7 @@ module _ {A : Type 0} (L : Language A) (s : FirstAndFollow) (p : Parser A) (read
   unfolding read_many
   step_at x text None r split = refl
   step_at x text (Some a) r split =
-      let pos : 0 < length split.front = begins_length s split.front full (reads.begins split.front a split.spelled) in
+      let pos : 0 < length split.front = begins_length s split.front not_nullable (reads.begins split.front a split.spelled) in
       let all : suc (length text) ≡ length split.front + length r = ap length split.whole ∙ length-append split.front r in
       rw (up_same (length text) (length r) r (omega arith) (omega arith)) refl
 
@@ -170,10 +170,10 @@ module _ {A : Type 0} (L : Language A) (s : FirstAndFollow) (p : Parser A) (read
 
 pub reads_many : {A : Type 0} → (L : Language A) (s : FirstAndFollow) (p : Parser A) → Parses L s p → s.nullable ≡ false → apart s.more s.first ≡ true → Parses (many L) (many_shape s) (read_many s.first p)
 unfolding read_many
-reads_many L s p reads full apart_ = record {
+reads_many L s p reads not_nullable apart_ = record {
   some = record { more = []; value = []; spelled = refl };
-  begins = many_begins_at L s p reads full;
-  splits = λ text. many_splits L s p reads full (length text) text;
-  complete = λ front rest value l stop. many_complete L s p reads full apart_ (length (front ++ rest)) value front rest (omega arith) l stop;
-  looks = λ front rest other same stop. many_looks L s p reads full (length (front ++ rest)) (length (front ++ other)) front rest other same (omega arith) (omega arith) stop;
+  begins = many_begins_at L s p reads not_nullable;
+  splits = λ text. many_splits L s p reads not_nullable (length text) text;
+  complete = λ front rest value l stop. many_complete L s p reads not_nullable apart_ (length (front ++ rest)) value front rest (omega arith) l stop;
+  looks = λ front rest other same stop. many_looks L s p reads not_nullable (length (front ++ rest)) (length (front ++ other)) front rest other same (omega arith) (omega arith) stop;
 }

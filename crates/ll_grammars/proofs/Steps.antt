@@ -162,34 +162,34 @@ reads_then L M s t p q first second apart_ = record {
 -- ---- `read_mapped`: a text with another value
 
 module _ {A B : Type 0} (L : Language A) (f : A → B) (s : FirstAndFollow) (p : Parser A) (reads : Parses L s p) where
-  made_splits : (text : List Lexeme) (o : Option A) (r : List Lexeme) → Splits L text o r → Splits (mapped f L) text (next o r (λ a. give (f a))).0 (next o r (λ a. give (f a))).1
-  made_splits text None r split = record { front = split.front; whole = split.whole; spelled = record { more = split.spelled.more; value = f split.spelled.value; spelled = (split.spelled.value, refl, split.spelled.spelled) } }
-  made_splits text (Some a) r split = record { front = split.front; whole = split.whole; spelled = (a, refl, split.spelled) }
+  mapped_splits : (text : List Lexeme) (o : Option A) (r : List Lexeme) → Splits L text o r → Splits (mapped f L) text (next o r (λ a. give (f a))).0 (next o r (λ a. give (f a))).1
+  mapped_splits text None r split = record { front = split.front; whole = split.whole; spelled = record { more = split.spelled.more; value = f split.spelled.value; spelled = (split.spelled.value, refl, split.spelled.spelled) } }
+  mapped_splits text (Some a) r split = record { front = split.front; whole = split.whole; spelled = (a, refl, split.spelled) }
 
-  made_looks : (front rest other : List Lexeme) → SameHead rest other → (o : Option A) (r : List Lexeme) → p (front ++ rest) ≡ (o, r) → (next o r (λ a. give (f a))).1 ≡ rest
+  mapped_looks : (front rest other : List Lexeme) → SameHead rest other → (o : Option A) (r : List Lexeme) → p (front ++ rest) ≡ (o, r) → (next o r (λ a. give (f a))).1 ≡ rest
       → read_mapped f p (front ++ other) ≡ ((next o r (λ a. give (f a))).0, other)
-  made_looks front rest other same None r e stop = rw (reads.looks front rest other same (ap (λ x. x.1) e ∙ stop), e) refl
-  made_looks front rest other same (Some a) r e stop = rw (reads.looks front rest other same (ap (λ x. x.1) e ∙ stop), e) refl
+  mapped_looks front rest other same None r e stop = rw (reads.looks front rest other same (ap (λ x. x.1) e ∙ stop), e) refl
+  mapped_looks front rest other same (Some a) r e stop = rw (reads.looks front rest other same (ap (λ x. x.1) e ∙ stop), e) refl
 
 pub reads_mapped : {A B : Type 0} → (L : Language A) (f : A → B) (s : FirstAndFollow) (p : Parser A) → Parses L s p → Parses (mapped f L) s (read_mapped f p)
 reads_mapped L f s p reads = record {
   some = record { more = reads.some.more; value = f reads.some.value; spelled = (reads.some.value, refl, reads.some.spelled) };
   begins = λ text value l. reads.begins text l.0 l.2;
-  splits = λ text. made_splits L f s p reads text (p text).0 (p text).1 (reads.splits text);
+  splits = λ text. mapped_splits L f s p reads text (p text).0 (p text).1 (reads.splits text);
   complete = λ front rest value l stop. rw (reads.complete front rest l.0 l.2 stop) (ap (λ x. (Some x, rest)) l.1);
-  looks = λ front rest other same stop. made_looks L f s p reads front rest other same (p (front ++ rest)).0 (p (front ++ rest)).1 refl stop;
+  looks = λ front rest other same stop. mapped_looks L f s p reads front rest other same (p (front ++ rest)).0 (p (front ++ rest)).1 refl stop;
 }
 
 -- ---- `read_either`: a text of one language or of another
 
 starts_not : (cs : List Terminal) (t : FirstAndFollow) (front rest : List Lexeme) → t.nullable ≡ false → apart cs t.first ≡ true → BeginsIn t front → starts cs (front ++ rest) ≡ false
-starts_not cs t [] rest full h b = absurd cc
-starts_not cs t (x ∷ front) rest full h b = apart_false cs t.first x.terminal h b
+starts_not cs t [] rest not_nullable h b = absurd cc
+starts_not cs t (x ∷ front) rest not_nullable h b = apart_false cs t.first x.terminal h b
 
 abbrev pub either_shape : FirstAndFollow → FirstAndFollow → FirstAndFollow
 either_shape s t = record { first = s.first ++ t.first; nullable = false; more = s.more ++ t.more }
 
-module _ {A : Type 0} (L M : Language A) (s t : FirstAndFollow) (p q : Parser A) (first : Parses L s p) (second : Parses M t q) (full : s.nullable ≡ false) (full' : t.nullable ≡ false) (apart_ : apart s.first t.first ≡ true) where
+module _ {A : Type 0} (L M : Language A) (s t : FirstAndFollow) (p q : Parser A) (first : Parses L s p) (second : Parses M t q) (not_nullable : s.nullable ≡ false) (not_nullable' : t.nullable ≡ false) (apart_ : apart s.first t.first ≡ true) where
   left_viable : (front : List Lexeme) → IsViablePrefix L front → IsViablePrefix (L ∪ M) front
   left_viable front v = record { more = v.more; value = v.value; spelled = inl v.spelled }
 
@@ -209,8 +209,8 @@ module _ {A : Type 0} (L M : Language A) (s t : FirstAndFollow) (p q : Parser A)
   either_splits text false = right_splits text (q text).0 (q text).1 (second.splits text)
 
   either_complete : (front rest : List Lexeme) (value : A) → (L ∪ M) front value → BeginsOutside (s.more ++ t.more) rest → read_either s.first p q (front ++ rest) ≡ (Some value, rest)
-  either_complete front rest value (inl l) stop = rw (starts_front s front rest full (first.begins front value l)) (first.complete front rest value l (BeginsOutside-left s.more t.more rest stop))
-  either_complete front rest value (inr m) stop = rw (starts_not s.first t front rest full' apart_ (second.begins front value m)) (second.complete front rest value m (BeginsOutside-right s.more t.more rest stop))
+  either_complete front rest value (inl l) stop = rw (starts_front s front rest not_nullable (first.begins front value l)) (first.complete front rest value l (BeginsOutside-left s.more t.more rest stop))
+  either_complete front rest value (inr m) stop = rw (starts_not s.first t front rest not_nullable' apart_ (second.begins front value m)) (second.complete front rest value m (BeginsOutside-right s.more t.more rest stop))
 
   either_begins : (text : List Lexeme) (value : A) → (L ∪ M) text value → BeginsIn (either_shape s t) text
   either_begins [] value (inl l) = absurd (let k : s.nullable ≡ true = first.begins [] value l in cc)
@@ -224,12 +224,12 @@ module _ {A : Type 0} (L M : Language A) (s t : FirstAndFollow) (p q : Parser A)
   either_looks front rest other same false stop = second.looks front rest other same stop
 
 pub reads_either : {A : Type 0} → (L M : Language A) (s t : FirstAndFollow) (p q : Parser A) → Parses L s p → Parses M t q → s.nullable ≡ false → t.nullable ≡ false → apart s.first t.first ≡ true → Parses (L ∪ M) (either_shape s t) (read_either s.first p q)
-reads_either L M s t p q first second full full' apart_ = record {
-  some = left_viable L M s t p q first second full full' apart_ [] first.some;
-  begins = either_begins L M s t p q first second full full' apart_;
-  splits = λ text. either_splits L M s t p q first second full full' apart_ text (starts s.first text);
-  complete = either_complete L M s t p q first second full full' apart_;
-  looks = λ front rest other same stop. rw (sym (starts_same s.first front rest other same)) (either_looks L M s t p q first second full full' apart_ front rest other same (starts s.first (front ++ rest)) stop);
+reads_either L M s t p q first second not_nullable not_nullable' apart_ = record {
+  some = left_viable L M s t p q first second not_nullable not_nullable' apart_ [] first.some;
+  begins = either_begins L M s t p q first second not_nullable not_nullable' apart_;
+  splits = λ text. either_splits L M s t p q first second not_nullable not_nullable' apart_ text (starts s.first text);
+  complete = either_complete L M s t p q first second not_nullable not_nullable' apart_;
+  looks = λ front rest other same stop. rw (sym (starts_same s.first front rest other same)) (either_looks L M s t p q first second not_nullable not_nullable' apart_ front rest other same (starts s.first (front ++ rest)) stop);
 }
 
 -- ---- `read_maybe`: a text, or no token
@@ -237,7 +237,7 @@ reads_either L M s t p q first second full full' apart_ = record {
 abbrev pub maybe_shape : FirstAndFollow → FirstAndFollow
 maybe_shape s = record { first = s.first; nullable = true; more = s.first ++ s.more }
 
-module _ {A : Type 0} (L : Language A) (s : FirstAndFollow) (p : Parser A) (reads : Parses L s p) (full : s.nullable ≡ false) where
+module _ {A : Type 0} (L : Language A) (s : FirstAndFollow) (p : Parser A) (reads : Parses L s p) (not_nullable : s.nullable ≡ false) where
   maybe_splits_some : (text : List Lexeme) (o : Option A) (r : List Lexeme) → Splits L text o r → Splits (maybe L) text (next {B = Option A} o r (λ a. give (Some a))).0 (next {B = Option A} o r (λ a. give (Some a))).1
   maybe_splits_some text None r split = record { front = split.front; whole = split.whole; spelled = record { more = split.spelled.more; value = Some split.spelled.value; spelled = split.spelled.spelled } }
   maybe_splits_some text (Some a) r split = record { front = split.front; whole = split.whole; spelled = split.spelled }
@@ -248,7 +248,7 @@ module _ {A : Type 0} (L : Language A) (s : FirstAndFollow) (p : Parser A) (read
 
   maybe_complete : (front rest : List Lexeme) (value : Option A) → maybe L front value → BeginsOutside (s.first ++ s.more) rest → read_maybe s.first p (front ++ rest) ≡ (Some value, rest)
   maybe_complete front rest None l stop = rw (l, BeginsOutside-starts s.first rest (BeginsOutside-left s.first s.more rest stop)) refl
-  maybe_complete front rest (Some a) l stop = rw (starts_front s front rest full (reads.begins front a l), reads.complete front rest a l (BeginsOutside-right s.first s.more rest stop)) refl
+  maybe_complete front rest (Some a) l stop = rw (starts_front s front rest not_nullable (reads.begins front a l), reads.complete front rest a l (BeginsOutside-right s.first s.more rest stop)) refl
 
   maybe_begins : (text : List Lexeme) (value : Option A) → maybe L text value → BeginsIn (maybe_shape s) text
   maybe_begins [] value l = refl
@@ -266,10 +266,10 @@ module _ {A : Type 0} (L : Language A) (s : FirstAndFollow) (p : Parser A) (read
   maybe_looks front rest other same false stop = let k : front ≡ [] = self_append front rest stop in rw k refl
 
 pub reads_maybe : {A : Type 0} → (L : Language A) (s : FirstAndFollow) (p : Parser A) → Parses L s p → s.nullable ≡ false → Parses (maybe L) (maybe_shape s) (read_maybe s.first p)
-reads_maybe L s p reads full = record {
+reads_maybe L s p reads not_nullable = record {
   some = record { more = []; value = None; spelled = refl };
-  begins = maybe_begins L s p reads full;
-  splits = λ text. maybe_splits L s p reads full text (starts s.first text);
-  complete = maybe_complete L s p reads full;
-  looks = λ front rest other same stop. rw (sym (starts_same s.first front rest other same)) (maybe_looks L s p reads full front rest other same (starts s.first (front ++ rest)) stop);
+  begins = maybe_begins L s p reads not_nullable;
+  splits = λ text. maybe_splits L s p reads not_nullable text (starts s.first text);
+  complete = maybe_complete L s p reads not_nullable;
+  looks = λ front rest other same stop. rw (sym (starts_same s.first front rest other same)) (maybe_looks L s p reads not_nullable front rest other same (starts s.first (front ++ rest)) stop);
 }

@@ -19,22 +19,22 @@ tails separators L text (value ∷ values) = (t : Lexeme) × (front : List Lexem
 abbrev pub repeated : {A : Type 0} → List Terminal → Language A → Language (List A × Option Lexeme)
 repeated separators L = many (mapped second (one separators ▸ L)) ▸ maybe (one separators)
 
-pub tails_are : {A : Type 0} (separators : List Terminal) (L : Language A) (values : List A) (end : Option Lexeme) (text : List Lexeme) → repeated separators L text (values, end) → tails separators L text values
-tails_are separators L [] None text l = inl (l.whole ∙ ap (λ x. x ++ l.rest) l.first ∙ l.second)
-tails_are separators L [] (Some t) text l = inr (t, l.whole ∙ ap (λ x. x ++ l.rest) l.first ∙ l.second.0, l.second.1)
-tails_are separators L (v ∷ values) end text l =
+pub repeated_is_tails : {A : Type 0} (separators : List Terminal) (L : Language A) (values : List A) (end : Option Lexeme) (text : List Lexeme) → repeated separators L text (values, end) → tails separators L text values
+repeated_is_tails separators L [] None text l = inl (l.whole ∙ ap (λ x. x ++ l.rest) l.first ∙ l.second)
+repeated_is_tails separators L [] (Some t) text l = inr (t, l.whole ∙ ap (λ x. x ++ l.rest) l.first ∙ l.second.0, l.second.1)
+repeated_is_tails separators L (v ∷ values) end text l =
     let item = l.first.3 in
     let parts = item.2 in
-    let others = tails_are separators L values end (l.first.1 ++ l.rest) (record { front = l.first.1; rest = l.rest; whole = refl; first = l.first.4; second = l.second }) in
+    let others = repeated_is_tails separators L values end (l.first.1 ++ l.rest) (record { front = l.first.1; rest = l.rest; whole = refl; first = l.first.4; second = l.second }) in
     let whole : text ≡ item.0.0 ∷ (parts.rest ++ (l.first.1 ++ l.rest)) =
     l.whole ∙ ap (λ x. x ++ l.rest) l.first.2 ∙ append_assoc l.first.0 l.first.1 l.rest ∙ ap (λ x. x ++ (l.first.1 ++ l.rest)) (parts.whole ∙ ap (λ x. x ++ parts.rest) parts.first.0) in
     (item.0.0, parts.rest, l.first.1 ++ l.rest, whole, parts.first.1, subst (λ x. L parts.rest x) item.1 parts.second, others)
 
-pub are_tails : {A : Type 0} (separators : List Terminal) (L : Language A) (values : List A) (text : List Lexeme) → tails separators L text values → (end : Option Lexeme) × repeated separators L text (values, end)
-are_tails separators L [] text (inl e) = (None, record { front = []; rest = text; whole = refl; first = refl; second = e })
-are_tails separators L [] text (inr l) = (Some l.0, record { front = []; rest = text; whole = refl; first = refl; second = (l.1, l.2) })
-are_tails separators L (v ∷ values) text l =
-    let others = are_tails separators L values l.2 l.6 in
+pub tails_is_repeated : {A : Type 0} (separators : List Terminal) (L : Language A) (values : List A) (text : List Lexeme) → tails separators L text values → (end : Option Lexeme) × repeated separators L text (values, end)
+tails_is_repeated separators L [] text (inl e) = (None, record { front = []; rest = text; whole = refl; first = refl; second = e })
+tails_is_repeated separators L [] text (inr l) = (Some l.0, record { front = []; rest = text; whole = refl; first = refl; second = (l.1, l.2) })
+tails_is_repeated separators L (v ∷ values) text l =
+    let others = tails_is_repeated separators L values l.2 l.6 in
     let o = others.1 in
     let item : mapped second (one separators ▸ L) (l.0 ∷ l.1) v = ((l.0, v), refl, record { front = l.0 ∷ []; rest = l.1; whole = refl; first = (refl, l.4); second = l.5 }) in (
       others.0,
@@ -53,12 +53,12 @@ tails_shape separators s = record { first = separators; nullable = true; more = 
 none_goes : (cs : List Terminal) (rest other : List Lexeme) → SameHead rest other → starts cs rest ≡ false → starts cs other ≡ false
 none_goes cs rest other same h = sym (starts_same cs [] rest other same) ∙ h
 
-module _ {A : Type 0} (separators : List Terminal) (L : Language A) (s : FirstAndFollow) (p : Parser A) (reads : Parses L s p) (full : s.nullable ≡ false) where
+module _ {A : Type 0} (separators : List Terminal) (L : Language A) (s : FirstAndFollow) (p : Parser A) (reads : Parses L s p) (not_nullable : s.nullable ≡ false) where
   abbrev tail : ℕ → Parser (List A)
   tail n = read_tails_up_to n separators s.first p
 
-  abbrev behind : ℕ → Parser (List A)
-  behind n rest = cond (starts s.first rest) (p rest >>= read_others (tail n)) (give [] rest)
+  abbrev after_separator : ℕ → Parser (List A)
+  after_separator n rest = cond (starts s.first rest) (p rest >>= read_others (tail n)) (give [] rest)
 
   tail_stops : (n : ℕ) (text : List Lexeme) → starts separators text ≡ false → tail n text ≡ (Some [], text)
   tail_stops zero text h = refl
@@ -99,7 +99,7 @@ module _ {A : Type 0} (separators : List Terminal) (L : Language A) (s : FirstAn
   split_behind q ih t rest sep false = record { front = t ∷ []; whole = refl; spelled = inr (t, refl, sep) }
 
   split_if : (n : ℕ) → ((r : List Lexeme) → Splits (tails separators L) r (tail n r).0 (tail n r).1) → (t : Lexeme) (rest : List Lexeme) (b : Bool) → among separators t.terminal ≡ b
-      → Splits (tails separators L) (t ∷ rest) (cond b (behind n rest) (give [] (t ∷ rest))).0 (cond b (behind n rest) (give [] (t ∷ rest))).1
+      → Splits (tails separators L) (t ∷ rest) (cond b (after_separator n rest) (give [] (t ∷ rest))).0 (cond b (after_separator n rest) (give [] (t ∷ rest))).1
   split_if n ih t rest true e = split_behind (tail n) ih t rest e (starts s.first rest)
   split_if n ih t rest false e = record { front = []; whole = refl; spelled = inl refl }
 
@@ -121,7 +121,7 @@ module _ {A : Type 0} (separators : List Terminal) (L : Language A) (s : FirstAn
       let e1 = reads.complete l.1 (l.2 ++ rest) v l.5 stop1 in
       let e2 = tails_complete apart_ n values l.2 rest small l.6 stop in
       let regroup : front ++ rest ≡ l.0 ∷ (l.1 ++ (l.2 ++ rest)) = ap (λ x. x ++ rest) l.3 ∙ ap (λ x. l.0 ∷ x) (append_assoc l.1 l.2 rest) in
-      rw (regroup, l.4, starts_front s l.1 (l.2 ++ rest) full begins, e1, e2) refl
+      rw (regroup, l.4, starts_front s l.1 (l.2 ++ rest) not_nullable begins, e1, e2) refl
 
   turn_front : (n : ℕ) (o : Option A) (r text : List Lexeme) → Splits L text o r → (front : List Lexeme) × (text ≡ front ++ (next {B = List A} o r (read_others (tail n))).1)
   turn_front n None r text d = (d.front, d.whole)
@@ -167,15 +167,15 @@ module _ {A : Type 0} (separators : List Terminal) (L : Language A) (s : FirstAn
   looks_behind n m ih front rest other same le le' true stop = looks_turn n m ih front rest other same le le' (p (front ++ rest)).0 (p (front ++ rest)).1 refl stop
   looks_behind n m ih front rest other same le le' false stop = let k : front ≡ [] = self_append front rest stop in rw k refl
 
-  looks_here : (n m : ℕ) (t : Lexeme) (r other : List Lexeme) → SameHead (t ∷ r) other → (b : Bool) → among separators t.terminal ≡ b → (cond b (behind n r) (give [] (t ∷ r))).1 ≡ t ∷ r
-      → tail m other ≡ ((cond b (behind n r) (give [] (t ∷ r))).0, other)
+  looks_here : (n m : ℕ) (t : Lexeme) (r other : List Lexeme) → SameHead (t ∷ r) other → (b : Bool) → among separators t.terminal ≡ b → (cond b (after_separator n r) (give [] (t ∷ r))).1 ≡ t ∷ r
+      → tail m other ≡ ((cond b (after_separator n r) (give [] (t ∷ r))).0, other)
   looks_here n m t r other same true e stop =
-      absurd (let f = behind_front n r (starts s.first r) in let le : length r ≡ length f.0 + length (t ∷ r) = ap length f.1 ∙ length-append f.0 (behind n r).1 ∙ ap (λ x. length f.0 + length x) stop in omega arith)
+      absurd (let f = behind_front n r (starts s.first r) in let le : length r ≡ length f.0 + length (t ∷ r) = ap length f.1 ∙ length-append f.0 (after_separator n r).1 ∙ ap (λ x. length f.0 + length x) stop in omega arith)
   looks_here n m t r other same false e stop = tail_stops m other (none_goes separators (t ∷ r) other same e)
 
   looks_at : (n m : ℕ) → ((m : ℕ) (front rest other : List Lexeme) → SameHead rest other → length (front ++ rest) ≤ n → length (front ++ other) ≤ m → (tail n (front ++ rest)).1 ≡ rest → tail m (front ++ other) ≡ ((tail n (front ++ rest)).0, other))
       → (f : Lexeme) (fs rest other : List Lexeme) → SameHead rest other → length (f ∷ (fs ++ rest)) ≤ suc n → length (f ∷ (fs ++ other)) ≤ m → (b : Bool) → among separators f.terminal ≡ b
-      → (cond b (behind n (fs ++ rest)) (give [] (f ∷ (fs ++ rest)))).1 ≡ rest → tail m (f ∷ (fs ++ other)) ≡ ((cond b (behind n (fs ++ rest)) (give [] (f ∷ (fs ++ rest)))).0, other)
+      → (cond b (after_separator n (fs ++ rest)) (give [] (f ∷ (fs ++ rest)))).1 ≡ rest → tail m (f ∷ (fs ++ other)) ≡ ((cond b (after_separator n (fs ++ rest)) (give [] (f ∷ (fs ++ rest)))).0, other)
   looks_at n zero ih f fs rest other same le le' b e stop = absurd (omega arith)
   looks_at n (suc m) ih f fs rest other same le le' true e stop =
       let starts_other = sym (starts_same s.first fs rest other same) in
@@ -193,17 +193,17 @@ module _ {A : Type 0} (separators : List Terminal) (L : Language A) (s : FirstAn
 
 pub reads_tails : {A : Type 0} (separators : List Terminal) {L : Language A} {s : FirstAndFollow} {p : Parser A} → Parses L s p → s.nullable ≡ false → apart s.more separators ≡ true → Parses (tails separators L) (tails_shape separators s) (read_tails separators s.first p)
 unfolding read_tails
-reads_tails separators {L = L} {s = s} {p = p} reads full apart_ = record {
+reads_tails separators {L = L} {s = s} {p = p} reads not_nullable apart_ = record {
   some = record { more = []; value = []; spelled = inl refl };
-  begins = tails_begins separators L s p reads full;
-  splits = λ text. tails_splits separators L s p reads full (length text) text;
-  complete = λ front rest value l stop. tails_complete separators L s p reads full apart_ (length (front ++ rest)) value front rest (omega arith) l stop;
-  looks = λ front rest other same stop. tails_looks separators L s p reads full (length (front ++ rest)) (length (front ++ other)) front rest other same (omega arith) (omega arith) stop;
+  begins = tails_begins separators L s p reads not_nullable;
+  splits = λ text. tails_splits separators L s p reads not_nullable (length text) text;
+  complete = λ front rest value l stop. tails_complete separators L s p reads not_nullable apart_ (length (front ++ rest)) value front rest (omega arith) l stop;
+  looks = λ front rest other same stop. tails_looks separators L s p reads not_nullable (length (front ++ rest)) (length (front ++ other)) front rest other same (omega arith) (omega arith) stop;
 }
 
 -- ---- the steps of a loop that reads items with separators
 
-module _ {A : Type 0} (separators : List Terminal) (L : Language A) (s : FirstAndFollow) (p : Parser A) (reads : Parses L s p) (full : s.nullable ≡ false) where
+module _ {A : Type 0} (separators : List Terminal) (L : Language A) (s : FirstAndFollow) (p : Parser A) (reads : Parses L s p) (not_nullable : s.nullable ≡ false) where
   same_turn : (n m : ℕ) (rest : List Lexeme) → ((r : List Lexeme) → length r ≤ n → length r ≤ m → read_tails_up_to n separators s.first p r ≡ read_tails_up_to m separators s.first p r) → length rest ≤ n → length rest ≤ m
       → (o : Option A) (r : List Lexeme) → Splits L rest o r → next {B = List A} o r (read_others (read_tails_up_to n separators s.first p)) ≡ next {B = List A} o r (read_others (read_tails_up_to m separators s.first p))
   same_turn n m rest ih le le' None r d = refl
@@ -239,4 +239,4 @@ module _ {A : Type 0} (separators : List Terminal) (L : Language A) (s : FirstAn
 
   pub tails_none : (text : List Lexeme) → starts separators text ≡ false → read_tails separators s.first p text ≡ (Some [], text)
   unfolding read_tails
-  tails_none text h = tail_stops separators L s p reads full (length text) text h
+  tails_none text h = tail_stops separators L s p reads not_nullable (length text) text h

@@ -1,6 +1,6 @@
 -- A parser that reads a language finds the value of each text. If a list of tokens is no text, the parser stops at the syntax error: no text begins
--- with the tokens that were read and the next token. This follows from two facts: the parser finds every text, and it looks at no token after the one
--- at which it stops.
+-- with the tokens that were read and the next token. This follows from two facts: the parser finds every text, and it looks at no token after the
+-- token at which it stops.
 use Rattle.std.proofs.Common.{◌≡◌, List, [], ◌∷◌, ◌++◌, Option, Some, None, sym, ap, subst, ◌∙◌, append_assoc}
 use Rattle.std.proofs.lemmas.List.{append-nil}
 use Rattle.ll_grammars.specs.declared.lexeme.Lexeme.{Lexeme}

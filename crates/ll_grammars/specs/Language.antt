@@ -49,7 +49,7 @@ pub record IsViablePrefix {A : Type 0} (L : Language A) (front : List Lexeme) : 
   pub value : A
   pub spelled : L (front ++ more) value
 
--- `front` followed by the next token of the second list is no viable prefix. If this list is empty, `front` itself is no text of L
+-- the first list, followed by the first token of the second list, is no viable prefix. If the second list is empty, the first list is no text of L
 abbrev pub Fails : {A : Type 0} → Language A → List Lexeme → List Lexeme → Type 0
 Fails {A} L front [] = (value : A) → L front value → ⊥
 Fails L front (token ∷ rest) = IsViablePrefix L (front ++ token ∷ []) → ⊥

@@ -7,7 +7,7 @@ use Rattle.ll_grammars.specs.Language.{Language, IsViablePrefix}
 use Rattle.ll_grammars.specs.Reading.{Parser}
 
 -- the sets that the conditions of an LL(1) grammar compare, for a language and its parser. `first` has the terminals with which texts of the language
--- begin. `nullable` says whether the empty list is a text. `more` has the terminals with which the parser goes on after a text
+-- begin. `nullable` says whether the empty list is a text. `more` has the terminals with which the parser reads on after a text
 pub record FirstAndFollow : Type 0 where
   pub first : List Terminal
   pub nullable : Bool
@@ -49,6 +49,6 @@ pub record Parses {A : Type 0} (L : Language A) (s : FirstAndFollow) (p : Parser
   pub splits : (text : List Lexeme) → Splits L text (p text).0 (p text).1
   -- each text is read to its end, if the token after it isn't one with which the parser goes on
   pub complete : (front rest : List Lexeme) (value : A) → L front value → BeginsOutside s.more rest → p (front ++ rest) ≡ (Some value, rest)
-  -- the parser looks at no token after the one at which it stops
+  -- the parser looks at no token after the token at which it stops
   pub looks : (front rest other : List Lexeme) → SameHead rest other → (p (front ++ rest)).1 ≡ rest
       → p (front ++ other) ≡ ((p (front ++ rest)).0, other)

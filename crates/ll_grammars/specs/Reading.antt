@@ -1,4 +1,4 @@
--- Predictive parsers. A parser gives a value or no value, and the tokens that it hasn't read. It decides by the next token alone.
+-- Predictive parsers. A parser gives a value or no value, and the tokens that it hasn't read. It decides only by the next token.
 use Rattle.std.specs.Prelude.{ℕ, zero, suc, Bool, false, if◌then◌else◌, Option, Some, None, List, [], ◌∷◌, ◌++◌, length}
 use Rattle.ll_grammars.specs.declared.lexeme.Lexeme.{Lexeme}
 use Rattle.ll_grammars.specs.declared.terminal.Terminal.{Terminal}
@@ -60,7 +60,7 @@ abbrev pub read_up_to : {A : Type 0} → ℕ → List Terminal → Parser A → 
 read_up_to zero first p text = give [] text
 read_up_to (suc n) first p text = if starts first text then (p text >>= read_others (read_up_to n first p)) else give [] text
 
--- any number of items. Each item takes a token, so there are at most as many items as tokens
+-- any number of items. Each item takes at least one token, so there are no more items than tokens
 unfoldable pub read_many : {A : Type 0} → List Terminal → Parser A → Parser (List A)
 read_many first p text = read_up_to (length text) first p text
 
@@ -68,7 +68,7 @@ read_many first p text = read_up_to (length text) first p text
 abbrev pub with_front : {A : Type 0} → List A → Answer (List A) → Answer (List A)
 with_front front answer = answer >>= λ others. give (front ++ others)
 
--- items, each after a separator, and maybe a last separator alone. The token after a separator decides whether an item follows
+-- items, each after a separator, and maybe one more separator at the end. The token after a separator decides whether an item follows
 abbrev pub read_tails_up_to : {A : Type 0} → ℕ → List Terminal → List Terminal → Parser A → Parser (List A)
 read_tails_up_to zero separators first p text = give [] text
 read_tails_up_to (suc n) separators first p [] = give [] []

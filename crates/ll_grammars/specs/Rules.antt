@@ -1,4 +1,4 @@
--- Forms of rules that grammars share, and parsers of some of them.
+-- Common forms of grammar rules, and parsers for some of these forms.
 use Rattle.std.specs.Prelude.{◌≡◌, ℕ, Bool, true, false, ⊤, List, [], ◌∷◌, Some, None, Result, Ok, Err}
 use Rattle.ll_grammars.specs.declared.lexeme.Lexeme.{Lexeme}
 use Rattle.ll_grammars.specs.declared.terminal.Terminal.{Terminal}

@@ -66,7 +66,8 @@ abbrev pub among : List Terminal → Terminal → Bool
 among [] t = false
 among (s ∷ rest) t = (code s == code t) || among rest t
 
--- whether no terminal is in both sets. An LL(1) grammar requires this of the FIRST sets of alternatives, and of what may follow
+-- whether no terminal is in both sets. An LL(1) grammar requires this of the FIRST sets of two alternatives. It also requires this of the terminals
+-- that can continue a part, and the FIRST set of the next part
 abbrev pub apart : List Terminal → List Terminal → Bool
 apart [] others = true
 apart (s ∷ rest) others = if among others s then false else apart rest others

@@ -1,19 +1,19 @@
 //! Reserves the buffers of a small plan, while tools/memory-bytes counts the requests for memory.
 //!
 //! The plan is an order of two entries. With the word `take-trees` the program reserves the buffers of its join tree. With another word of the same
-//! length it reserves nothing. So what the first run requests beyond the second run is the reservation. Each run prints how many bytes the plan
-//! takes, as an order and as a tree.
+//! length it reserves nothing. So the requests that only the run with `take-trees` makes are those of the reservation. Each run prints how many bytes
+//! the plan takes, as an order and as a tree.
 #![tactic(auto)]
 
 ghost use Rattle.std.specs.Prelude.{IfOk, length};
-ghost use Rattle.tree_plans.specs.TreePlans.{IsTreePlan};
+ghost use Rattle.plans.specs.TreePlans.{IsTreePlan};
 ghost use Rattle.tree_rows.specs.Rooms.{BoundsFitBuffers};
 
 use base_io::{NoMemory, Seq};
+use plans::{BushyPlan, Join};
 use reserve_plan::row_buffers;
 use std::alloc::Global;
 use std::{env, io};
-use tree_plans::{BushyPlan, Join};
 use tree_rows::{order_memory, reserve_bushy, tree_memory};
 
 const JOIN: Join = Join {

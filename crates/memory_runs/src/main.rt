@@ -1,8 +1,8 @@
 //! Runs over devices in memory, while tools/memory refuses their requests for memory one after another.
 //!
 //! An argument names a run; without an argument all runs are made. A run that ends with the expected bytes prints `done`, and its status is 0. If the
-//! call answers that memory ran out, in one line and without a row, the status is 11. If memory ran out for the files and devices that the run is
-//! given, it is 12. In both cases nothing is printed. For any other answer the run prints `another answer` with the status 0, which tools/memory
+//! call answers that memory ran out, in one line and without a row, the status is 11. If memory ran out while the run's files and devices were made,
+//! the status is 12. Neither of these two prints anything. For any other answer the run prints `another answer` with the status 0, which tools/memory
 //! takes for a failure.
 #![tactic(auto)]
 
@@ -17,14 +17,14 @@ use std::{env, io};
 
 const MEMORY_RAN_OUT: u8 = 11;
 
-const NOT_MADE: u8 = 12;
+const DEVICES_NOT_MADE: u8 = 12;
 
 // How a run went.
 #[derive(Clone, Copy)]
 enum Outcome {
     Done,
     RanOutOfMemory,
-    NotMade,
+    DevicesNotMade,
     Other,
 }
 
@@ -33,7 +33,7 @@ impl Outcome {
         match self {
             Outcome::Done | Outcome::Other => 0,
             Outcome::RanOutOfMemory => MEMORY_RAN_OUT,
-            Outcome::NotMade => NOT_MADE,
+            Outcome::DevicesNotMade => DEVICES_NOT_MADE,
         }
     }
 }
@@ -68,7 +68,7 @@ fn code_of(
     status.code()
 }
 
-fn judged(run: &Run, code: u8, notes: &[u8], out: &[u8]) -> Outcome {
+fn outcome_of(run: &Run, code: u8, notes: &[u8], out: &[u8]) -> Outcome {
     if code == 0 && notes == run.notes && is_text(out, run.out) {
         Outcome::Done
     } else if code == MEMORY_RAN_OUT && notes == b"error memory\n".as_slice() && out.is_empty() {
@@ -83,20 +83,20 @@ fn attempt(alloc: Global, run: &Run) -> Result<Outcome, NoMemory> {
     let mut out = sink(alloc)?;
     let mut notes = sink(alloc)?;
     let code = code_of(alloc, run.words, &mut store, &mut out, &mut notes);
-    Ok(judged(run, code, notes.written(), out.written()))
+    Ok(outcome_of(run, code, notes.written(), out.written()))
 }
 
 fn print_outcome(rt: &HostRuntime, name: &str, outcome: Outcome) -> io::Result<()> {
-    let told = match outcome {
+    let text = match outcome {
         Outcome::Done => "done",
         Outcome::Other => "another answer",
-        Outcome::RanOutOfMemory | Outcome::NotMade => return Ok(()),
+        Outcome::RanOutOfMemory | Outcome::DevicesNotMade => return Ok(()),
     };
-    println!(rt; "{name}: {told}")
+    println!(rt; "{name}: {text}")
 }
 
 fn status_of(rt: &HostRuntime, run: &Run) -> io::Result<u8> {
-    let outcome = attempt(rt.alloc(), run).unwrap_or(Outcome::NotMade);
+    let outcome = attempt(rt.alloc(), run).unwrap_or(Outcome::DevicesNotMade);
     print_outcome(rt, run.name, outcome)?;
     Ok(outcome.status())
 }
@@ -133,7 +133,7 @@ fn status_of_all(rt: &HostRuntime, runs: &[Run], word: &Option<String>) -> io::R
 
 fn main(rt: HostRuntime) -> ExitCode {
     let Ok(word) = first_argument(&rt) else {
-        return ExitCode::from(NOT_MADE);
+        return ExitCode::from(DEVICES_NOT_MADE);
     };
     ExitCode::from(status_of_all(&rt, &RUNS, &word).unwrap_or(1))
 }

@@ -25,19 +25,19 @@ const TWO_TABLES: Text<'static> = Text::Whole(
 
 const JOIN: Text<'static> = Text::Whole(b"SELECT R.X FROM R, S WHERE R.X = S.X");
 
-const PLAIN: &[&str] = &["run", "schema.sql", "query.sql"];
+const RUN_WORDS: &[&str] = &["run", "schema.sql", "query.sql"];
 
-const ONES: Text<'static> = Text::Column {
+const HUNDRED_ONES: Text<'static> = Text::Column {
     record: b"1\r\n",
     count: 100,
 };
 
-const TWOS: Text<'static> = Text::Column {
+const HUNDRED_TWOS: Text<'static> = Text::Column {
     record: b"2\r\n",
     count: 100,
 };
 
-const HUNDREDS: &[u8] = b"scan R 100\nscan S 100\nlevel 1 R 100\nlevel 2 S 10000\n";
+const PLAN_OF_HUNDREDS: &[u8] = b"scan R 100\nscan S 100\nlevel 1 R 100\nlevel 2 S 10000\n";
 
 const TABLE_K: Text<'static> = Text::Whole(b"CREATE TABLE K (X INTEGER NOT NULL)");
 
@@ -48,33 +48,33 @@ const FILE_OF_THREE: Text<'static> = Text::Whole(
     b"safebound-stats 1 1\ntable x4b 3\npair x58 x58\nwhole 1*3\nfrequent 1 1*1\nfrequent 2 1*1\nfrequent 3 1*1\nrest -\ncut 1\ncut 1\ncut 1\ncut 1\ncut 1\ncut 1\ncut 1\ncut 1\ncut 1\ncut 1\ncut 1\ncut 2\ncut 2\ncut 2\ncut 2\ncut 2\ncut 2\ncut 2\ncut 2\ncut 2\ncut 2\ncut 2\ncut 3\ncut 3\ncut 3\ncut 3\ncut 3\ncut 3\ncut 3\ncut 3\ncut 3\ncut 3\nnode -\nnode -\nnode -\nnode -\nnode -\nnode -\nnode -\nnode -\nnode -\nnode -\nnode 1*1\nnode -\nnode -\nnode -\nnode -\nnode -\nnode -\nnode -\nnode -\nnode -\nnode -\nnode 1*1\nnode -\nnode -\nnode -\nnode -\nnode -\nnode -\nnode -\nnode -\nnode -\nnode 1*1\nnode -\nnode -\nnode -\nnode -\nnode -\nnode 1*1\nnode -\nnode -\nnode -\nnode -\nnode 1*1\nnode -\nnode -\nnode -\nnode -\nnode 1*1\nnode -\nnode -\nnode 1*1\nnode -\nnode -\nnode 1*1\nnode -\nnode 1*1\nnode -\nnode 1*1\nnode 1*1\nnode 1*1\nnode 1*1\nnode 1*2\nnode 1*3\nend\n",
 );
 
-// The same file after a row with the value 99 is appended. 99 isn't among the frequent values.
+// The same statistics file after a row with the value 99 is appended. 99 isn't among the frequent values.
 const FILE_OF_FOUR: Text<'static> = Text::Whole(
     b"safebound-stats 1 1\ntable x4b 4\npair x58 x58\nwhole 2*1 1*2\nfrequent 1 1*1\nfrequent 2 1*1\nfrequent 3 1*1\nrest 1*1\ncut 1\ncut 1\ncut 1\ncut 1\ncut 1\ncut 1\ncut 1\ncut 1\ncut 1\ncut 1\ncut 1\ncut 2\ncut 2\ncut 2\ncut 2\ncut 2\ncut 2\ncut 2\ncut 2\ncut 2\ncut 2\ncut 2\ncut 3\ncut 3\ncut 3\ncut 3\ncut 3\ncut 3\ncut 3\ncut 3\ncut 3\ncut 3\nnode -\nnode -\nnode -\nnode -\nnode -\nnode -\nnode -\nnode -\nnode -\nnode -\nnode 1*1\nnode -\nnode -\nnode -\nnode -\nnode -\nnode -\nnode -\nnode -\nnode -\nnode -\nnode 1*1\nnode -\nnode -\nnode -\nnode -\nnode -\nnode -\nnode -\nnode -\nnode -\nnode 2*1\nnode -\nnode -\nnode -\nnode -\nnode -\nnode 1*1\nnode -\nnode -\nnode -\nnode -\nnode 1*1\nnode -\nnode -\nnode -\nnode -\nnode 2*1\nnode -\nnode -\nnode 1*1\nnode -\nnode -\nnode 1*1\nnode -\nnode 2*1\nnode -\nnode 1*1\nnode 1*1\nnode 2*1\nnode 1*1\nnode 2*1 1*1\nnode 2*1 1*2\nend\n",
 );
 
 // Two tables of 6 and 5 rows, and the 6 rows of their join.
-const SIX: Text<'static> = Text::Whole(b"X\r\n1\r\n1\r\n1\r\n2\r\n2\r\n3\r\n");
+const SIX_ROWS: Text<'static> = Text::Whole(b"X\r\n1\r\n1\r\n1\r\n2\r\n2\r\n3\r\n");
 
-const FIVE: Text<'static> = Text::Whole(b"X\r\n1\r\n1\r\n4\r\n5\r\n6\r\n");
+const FIVE_ROWS: Text<'static> = Text::Whole(b"X\r\n1\r\n1\r\n4\r\n5\r\n6\r\n");
 
 const SIX_ONES: Text<'static> = Text::Column {
     record: b"1\r\n",
     count: 6,
 };
 
-/// A join of two tables, in four ways: plain, over reduced scans, as a tree, and as a tree over reduced scans. Then a condition that is
-/// carried through a key, a table of texts, and a triangle. Then two pairs of tables with the same bounds and different answers. Last the
-/// statistics file of a table, a plan from it, and the file after a row is appended.
+/// A join of two tables, in four ways: plain, over reduced scans, as a tree, and as a tree over reduced scans. Then a condition that is carried
+/// through a key, a table of texts, and a triangle. Then two pairs of tables with the same bounds and different answers. The last three runs make
+/// the statistics file of a table, a plan from this file, and the statistics file after a row is appended.
 pub const RUNS: [Run<'static>; 12] = [
     Run {
         name: "join",
-        words: PLAIN,
+        words: RUN_WORDS,
         files: &[
             ("schema.sql", TWO_TABLES),
             ("query.sql", JOIN),
-            ("r.csv", SIX),
-            ("s.csv", FIVE),
+            ("r.csv", SIX_ROWS),
+            ("s.csv", FIVE_ROWS),
         ],
         notes: b"scan R 6\nscan S 5\nlevel 1 S 5\nlevel 2 R 12\n",
         out: SIX_ONES,
@@ -85,8 +85,8 @@ pub const RUNS: [Run<'static>; 12] = [
         files: &[
             ("schema.sql", TWO_TABLES),
             ("query.sql", JOIN),
-            ("r.csv", SIX),
-            ("s.csv", FIVE),
+            ("r.csv", SIX_ROWS),
+            ("s.csv", FIVE_ROWS),
         ],
         notes: b"scan R 3\nscan S 2\nlevel 1 S 2\nlevel 2 R 6\n",
         out: SIX_ONES,
@@ -97,8 +97,8 @@ pub const RUNS: [Run<'static>; 12] = [
         files: &[
             ("schema.sql", TWO_TABLES),
             ("query.sql", JOIN),
-            ("r.csv", SIX),
-            ("s.csv", FIVE),
+            ("r.csv", SIX_ROWS),
+            ("s.csv", FIVE_ROWS),
         ],
         notes: b"scan R 6\nscan S 5\nnode 2 0 1 12\n",
         out: SIX_ONES,
@@ -109,8 +109,8 @@ pub const RUNS: [Run<'static>; 12] = [
         files: &[
             ("schema.sql", TWO_TABLES),
             ("query.sql", JOIN),
-            ("r.csv", SIX),
-            ("s.csv", FIVE),
+            ("r.csv", SIX_ROWS),
+            ("s.csv", FIVE_ROWS),
         ],
         notes: b"scan R 3\nscan S 2\nnode 2 0 1 6\n",
         out: SIX_ONES,
@@ -143,7 +143,7 @@ pub const RUNS: [Run<'static>; 12] = [
     },
     Run {
         name: "texts",
-        words: PLAIN,
+        words: RUN_WORDS,
         files: &[
             (
                 "schema.sql",
@@ -160,7 +160,7 @@ pub const RUNS: [Run<'static>; 12] = [
     },
     Run {
         name: "triangle",
-        words: PLAIN,
+        words: RUN_WORDS,
         files: &[
             (
                 "schema.sql",
@@ -183,14 +183,14 @@ pub const RUNS: [Run<'static>; 12] = [
     },
     Run {
         name: "meeting",
-        words: PLAIN,
+        words: RUN_WORDS,
         files: &[
             ("schema.sql", TWO_TABLES),
             ("query.sql", JOIN),
-            ("r.csv", ONES),
-            ("s.csv", ONES),
+            ("r.csv", HUNDRED_ONES),
+            ("s.csv", HUNDRED_ONES),
         ],
-        notes: HUNDREDS,
+        notes: PLAN_OF_HUNDREDS,
         out: Text::Column {
             record: b"1\r\n",
             count: 10_000,
@@ -198,14 +198,14 @@ pub const RUNS: [Run<'static>; 12] = [
     },
     Run {
         name: "apart",
-        words: PLAIN,
+        words: RUN_WORDS,
         files: &[
             ("schema.sql", TWO_TABLES),
             ("query.sql", JOIN),
-            ("r.csv", ONES),
-            ("s.csv", TWOS),
+            ("r.csv", HUNDRED_ONES),
+            ("s.csv", HUNDRED_TWOS),
         ],
-        notes: HUNDREDS,
+        notes: PLAN_OF_HUNDREDS,
         out: Text::Column {
             record: b"1\r\n",
             count: 0,

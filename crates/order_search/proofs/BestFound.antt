@@ -11,18 +11,18 @@ use Rattle.order_search.proofs.WholeWays.{order_from_way, way_from_order}
 use Rattle.order_search.proofs.Prefixes.{total-small}
 use Rattle.order_search.proofs.Weights.{weighs_cost, weighs_most, weighs_total}
 
-last_place : (bounds : List ℕ) (n : ℕ) → length bounds ≡ 2 ^ n → length bounds - 1 ≡ 2 ^ n - 1
-last_place bounds n size = omega arith
+last_index : (bounds : List ℕ) (n : ℕ) → length bounds ≡ 2 ^ n → length bounds - 1 ≡ 2 ^ n - 1
+last_index bounds n size = omega arith
 
-whole_entry : (bounds table : List ℕ) (n : ℕ) → length bounds ≡ 2 ^ n → HasLeastWeights weight.Greatest bounds (length bounds - 1) table (2 ^ n)
+weight_of_all_entries : (bounds table : List ℕ) (n : ℕ) → length bounds ≡ 2 ^ n → HasLeastWeights weight.Greatest bounds (length bounds - 1) table (2 ^ n)
     → IsLeastWeight weight.Greatest bounds (2 ^ n - 1) (2 ^ n - 1) (get_or table (length bounds - 1) 0)
-whole_entry bounds table n size is_table =
-    subst (λ k. IsLeastWeight weight.Greatest bounds k k (get_or table (length bounds - 1) 0)) (last_place bounds n size) (is_table (length bounds - 1) (omega (arith, pow_pos n)))
+weight_of_all_entries bounds table n size is_table =
+    subst (λ k. IsLeastWeight weight.Greatest bounds k k (get_or table (length bounds - 1) 0)) (last_index bounds n size) (is_table (length bounds - 1) (omega (arith, pow_pos n)))
 
 pub least_cost_from : (bounds table : List ℕ) (n least : ℕ) → length bounds ≡ 2 ^ n → HasLeastWeights weight.Greatest bounds (length bounds - 1) table (2 ^ n)
     → least ≡ get_or table (length bounds - 1) 0 → IsLeastCost bounds n least
 least_cost_from bounds table n least size is_table is =
-    let lightest : IsLeastWeight weight.Greatest bounds (2 ^ n - 1) (2 ^ n - 1) (get_or table (length bounds - 1) 0) = whole_entry bounds table n size is_table in
+    let lightest : IsLeastWeight weight.Greatest bounds (2 ^ n - 1) (2 ^ n - 1) (get_or table (length bounds - 1) 0) = weight_of_all_entries bounds table n size is_table in
     record {
       order = lightest.way;
       is_order = order_from_way n lightest.way lightest.is_way;
@@ -30,31 +30,31 @@ least_cost_from bounds table n least size is_table is =
       none_cheaper = λ other is_order. (let way : IsWay (2 ^ n - 1) other = way_from_order n other is_order in omega (arith, is, lightest.none_lighter other way, weighs_cost bounds (2 ^ n - 1) other way));
     }
 
--- ---- the weight of orders of least cost is their sum
+-- ---- the weight of an order of least cost is the sum of its levels' bounds
 
 abbrev sum_weight : ℕ → List ℕ → ℕ → List ℕ → ℕ
-sum_weight least bounds n order = weight_of (weight.SumOfBoundsUpTo least) bounds (2 ^ n - 1) (2 ^ n - 1) order
+sum_weight least bounds n order = weight_of (weight.SumIfBoundsAtMost least) bounds (2 ^ n - 1) (2 ^ n - 1) order
 
 -- the sum of the order's bounds is below 2 ^ 64, so it isn't the greatest weight
 weighs_sum : (bounds : List ℕ) (n least : ℕ) (order : List ℕ) → n ≤ greatest_entries → least ≤ 2 ^ 59 → IsOrder n order → cost bounds order ≤ least
     → (sum_weight least bounds n order ≡ total bounds order) × (total bounds order < 2 ^ 64)
-weighs_sum bounds n least order few small is_order low =
-    let sum_small : total bounds order < 2 ^ 64 = total-small bounds n order few is_order (omega arith) in
+weighs_sum bounds n least order within_limit small is_order low =
+    let sum_small : total bounds order < 2 ^ 64 = total-small bounds n order within_limit is_order (omega arith) in
     (omega (arith, weighs_total least bounds (2 ^ n - 1) order (way_from_order n order is_order) low, sum_small), sum_small)
 
 pub sum_is_light : (bounds table : List ℕ) (n least : ℕ) → n ≤ greatest_entries → least ≤ 2 ^ 59 → IsLeastCost bounds n least → length bounds ≡ 2 ^ n
-    → HasLeastWeights (weight.SumOfBoundsUpTo least) bounds (length bounds - 1) table (2 ^ n) → get_or table (length bounds - 1) 0 < 2 ^ 128 - 1
-sum_is_light bounds table n least few small found size is_table =
+    → HasLeastWeights (weight.SumIfBoundsAtMost least) bounds (length bounds - 1) table (2 ^ n) → get_or table (length bounds - 1) 0 < 2 ^ 128 - 1
+sum_is_light bounds table n least within_limit small found size is_table =
     let value : ℕ = get_or table (length bounds - 1) 0 in
-    let lightest : IsLeastWeight (weight.SumOfBoundsUpTo least) bounds (2 ^ n - 1) (2 ^ n - 1) (get_or table (length bounds - 1) 0) =
-    subst (λ k. IsLeastWeight (weight.SumOfBoundsUpTo least) bounds k k (get_or table (length bounds - 1) 0)) (last_place bounds n size) (is_table (length bounds - 1) (omega (arith, pow_pos n))) in
+    let lightest : IsLeastWeight (weight.SumIfBoundsAtMost least) bounds (2 ^ n - 1) (2 ^ n - 1) (get_or table (length bounds - 1) 0) =
+    subst (λ k. IsLeastWeight (weight.SumIfBoundsAtMost least) bounds k k (get_or table (length bounds - 1) 0)) (last_index bounds n size) (is_table (length bounds - 1) (omega (arith, pow_pos n))) in
     let weighs : (sum_weight least bounds n found.order ≡ total bounds found.order) × (total bounds found.order < 2 ^ 64) =
-    weighs_sum bounds n least found.order few small found.is_order (omega (arith, found.costs)) in
+    weighs_sum bounds n least found.order within_limit small found.is_order (omega (arith, found.costs)) in
     omega (arith, lightest.none_lighter found.order (way_from_order n found.order found.is_order), weighs.0, weighs.1)
 
 best_of_whole : (bounds : List ℕ) (n least : ℕ) (order : List ℕ) → n ≤ greatest_entries → least ≤ 2 ^ 59 → IsLeastCost bounds n least
-    → IsFirstLightest (weight.SumOfBoundsUpTo least) bounds (2 ^ n - 1) (2 ^ n - 1) order → IsBest bounds n order × (cost bounds order ≡ least)
-best_of_whole bounds n least order few small found first = (best, costs)
+    → IsFirstLightest (weight.SumIfBoundsAtMost least) bounds (2 ^ n - 1) (2 ^ n - 1) order → IsBest bounds n order × (cost bounds order ≡ least)
+best_of_whole bounds n least order within_limit small found first = (best, costs)
   where
     is_order : IsOrder n order
     is_order = order_from_way n order first.is_way
@@ -62,16 +62,16 @@ best_of_whole bounds n least order few small found first = (best, costs)
     costs : cost bounds order ≡ least
     costs = elim (cases_lt least (cost bounds order)) [
       | inl above ↦ (let weighs : (sum_weight least bounds n found.order ≡ total bounds found.order) × (total bounds found.order < 2 ^ 64) =
-          weighs_sum bounds n least found.order few small found.is_order (omega (arith, found.costs)) in
+          weighs_sum bounds n least found.order within_limit small found.is_order (omega (arith, found.costs)) in
           absurd (omega (arith, first.none_lighter found.order (way_from_order n found.order found.is_order), weighs.0, weighs.1, weighs_most least bounds (2 ^ n - 1) order first.is_way above)))
       | inr below ↦ omega (arith, found.none_cheaper order is_order)
     ]
 
     own : sum_weight least bounds n order ≡ total bounds order
-    own = (weighs_sum bounds n least order few small is_order (omega (arith, costs))).0
+    own = (weighs_sum bounds n least order within_limit small is_order (omega (arith, costs))).0
 
     theirs : (other : List ℕ) → IsOrder n other → cost bounds other ≡ cost bounds order → sum_weight least bounds n other ≡ total bounds other
-    theirs other other_order same = (weighs_sum bounds n least other few small other_order (omega (arith, costs))).0
+    theirs other other_order same = (weighs_sum bounds n least other within_limit small other_order (omega (arith, costs))).0
 
     best : IsBest bounds n order
     best = record {
@@ -82,6 +82,6 @@ best_of_whole bounds n least order few small found first = (best, costs)
     }
 
 pub best_found : (bounds order : List ℕ) (n least : ℕ) → n ≤ greatest_entries → least ≤ 2 ^ 59 → IsLeastCost bounds n least → length bounds ≡ 2 ^ n
-    → IsFirstLightest (weight.SumOfBoundsUpTo least) bounds (length bounds - 1) (length bounds - 1) order → IsBest bounds n order × (cost bounds order ≡ least)
-best_found bounds order n least few small found size first =
-    best_of_whole bounds n least order few small found (subst (λ k. IsFirstLightest (weight.SumOfBoundsUpTo least) bounds k k order) (last_place bounds n size) first)
+    → IsFirstLightest (weight.SumIfBoundsAtMost least) bounds (length bounds - 1) (length bounds - 1) order → IsBest bounds n order × (cost bounds order ≡ least)
+best_found bounds order n least within_limit small found size first =
+    best_of_whole bounds n least order within_limit small found (subst (λ k. IsFirstLightest (weight.SumIfBoundsAtMost least) bounds k k order) (last_index bounds n size) first)

@@ -7,11 +7,11 @@ use Rattle.std.proofs.lemmas.List.{append_assoc, drop_more}
 use Rattle.order_search.specs.Orders.{cost, greatest, levels}
 use Rattle.plans.specs.LeftDeep.{IsOrder}
 use Rattle.order_search.specs.Ways.{IsWay}
-use Rattle.entry_sets.proofs.Bits.{entry_below, power_within, twice}
+use Rattle.entry_sets.proofs.Bits.{entry_below, power_within, power_of_next}
 use Rattle.order_search.proofs.Prefixes.{levels_after, levels_are}
 use Rattle.order_search.proofs.WholeWays.{way_from_order}
 
--- the state of the loop after i entries. The other entries are a way through the set of entries that are left
+-- the state of the loop after i entries. The other entries of the order are a way through the set of entries that are still to be joined
 pub record LevelsOfPrefix (bounds : List ℕ) (n : ℕ) (order : List ℕ) (i placed : ℕ) (so_far_levels : List ℕ) : Type 0 where
   pub within : placed ≤ 2 ^ n - 1
   pub is_way : IsWay (2 ^ n - 1 - placed) (drop i order)
@@ -45,11 +45,11 @@ placed_no_bit : (entry n placed : ℕ) → placed < 2 ^ n → bit_at (2 ^ n - 1 
 placed_no_bit entry zero placed fits left = let none : placed ≡ 0 = omega arith in rw none (bit_at-zero entry)
 placed_no_bit zero (suc n) placed fits left =
     let odd : (2 ^ suc n - 1 - placed) % 2 ≡ 1 = sym (bit_at_lowest (2 ^ suc n - 1 - placed)) ∙ left in
-    bit_at_lowest placed ∙ omega (arith, twice n, odd, fits)
+    bit_at_lowest placed ∙ omega (arith, power_of_next n, odd, fits)
 placed_no_bit (suc entry) (suc n) placed fits left =
-    let half : (2 ^ suc n - 1 - placed) / 2 ≡ 2 ^ n - 1 - placed / 2 = omega (arith, twice n, fits) in
+    let half : (2 ^ suc n - 1 - placed) / 2 ≡ 2 ^ n - 1 - placed / 2 = omega (arith, power_of_next n, fits) in
     bit_at-suc placed entry
-    ∙ placed_no_bit entry n (placed / 2) (omega (arith, twice n, fits)) (sym (ap (λ k. bit_at k entry) half) ∙ sym (bit_at-suc (2 ^ suc n - 1 - placed) entry) ∙ left)
+    ∙ placed_no_bit entry n (placed / 2) (omega (arith, power_of_next n, fits)) (sym (ap (λ k. bit_at k entry) half) ∙ sym (bit_at-suc (2 ^ suc n - 1 - placed) entry) ∙ left)
 
 pub not_placed : (bounds : List ℕ) (n : ℕ) (order : List ℕ) (i placed : ℕ) (so_far_levels : List ℕ) → LevelsOfPrefix bounds n order i placed so_far_levels → i < length order → bit_at placed (get_or order i 0) ≡ 0
 not_placed bounds n order i placed so_far_levels so_far more =

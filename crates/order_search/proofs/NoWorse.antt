@@ -1,4 +1,4 @@
--- An order that is no worse than another. The lower cost decides; if the costs are equal, the smaller sum; if the sums are equal too, the
+-- Which of two orders is no worse than the other. The lower cost decides; if the costs are equal, the smaller sum; if the sums are equal too, the
 -- lexicographic order.
 use Rattle.std.proofs.Common.{◌≡◌, ℕ, ◌<◌, ◌≤◌, List, [], ◌∷◌, refl, sym, ◌∙◌, arith, inl, inr}
 use Rattle.std.specs.Prelude.{◌⊎◌}
@@ -6,11 +6,11 @@ use Rattle.std.proofs.lemmas.Bool.{cases_order}
 use Rattle.order_search.specs.Orders.{IsBest, IsLeastCost, IsNotAfter, cost, total}
 use Rattle.plans.specs.LeftDeep.{IsOrder}
 
-abbrev pub First : (List ℕ → ℕ) → (List ℕ → List ℕ → Type 0) → List ℕ → List ℕ → Type 0
-First f Then a b = (f a < f b) ⊎ ((f a ≡ f b) × Then a b)
+abbrev pub LowerThen : (List ℕ → ℕ) → (List ℕ → List ℕ → Type 0) → List ℕ → List ℕ → Type 0
+LowerThen f Then a b = (f a < f b) ⊎ ((f a ≡ f b) × Then a b)
 
-first_either : (f : List ℕ → ℕ) (Then : List ℕ → List ℕ → Type 0) (a b : List ℕ) → Then a b ⊎ Then b a → First f Then a b ⊎ First f Then b a
-first_either f Then a b either = elim (cases_order (f a) (f b)) [
+lower_then_total : (f : List ℕ → ℕ) (Then : List ℕ → List ℕ → Type 0) (a b : List ℕ) → Then a b ⊎ Then b a → LowerThen f Then a b ⊎ LowerThen f Then b a
+lower_then_total f Then a b either = elim (cases_order (f a) (f b)) [
   | inl same ↦ elim either [
     | inl p ↦ inl (inr (same, p))
     | inr q ↦ inr (inr (sym same, q))
@@ -21,8 +21,8 @@ first_either f Then a b either = elim (cases_order (f a) (f b)) [
   ]
 ]
 
-first_both : (f : List ℕ → ℕ) (Then : List ℕ → List ℕ → Type 0) (a b c : List ℕ) → (Then a b → Then b c → Then a c) → First f Then a b → First f Then b c → First f Then a c
-first_both f Then a b c both p q = elim p [
+lower_then_transitive : (f : List ℕ → ℕ) (Then : List ℕ → List ℕ → Type 0) (a b c : List ℕ) → (Then a b → Then b c → Then a c) → LowerThen f Then a b → LowerThen f Then b c → LowerThen f Then a c
+lower_then_transitive f Then a b c both p q = elim p [
   | inl below ↦ elim q [
     | inl further ↦ inl (omega arith)
     | inr same ↦ inl (omega (arith, same.0))
@@ -63,13 +63,13 @@ lexical_transitive (x ∷ a) (y ∷ b) (z ∷ c) p q = elim p [
 ]
 
 abbrev pub NoWorse : List ℕ → List ℕ → List ℕ → Type 0
-NoWorse bounds = First (cost bounds) (First (total bounds) IsNotAfter)
+NoWorse bounds = LowerThen (cost bounds) (LowerThen (total bounds) IsNotAfter)
 
 pub is_total : (bounds a b : List ℕ) → NoWorse bounds a b ⊎ NoWorse bounds b a
-is_total bounds a b = first_either (cost bounds) (First (total bounds) IsNotAfter) a b (first_either (total bounds) IsNotAfter a b (lexical_total a b))
+is_total bounds a b = lower_then_total (cost bounds) (LowerThen (total bounds) IsNotAfter) a b (lower_then_total (total bounds) IsNotAfter a b (lexical_total a b))
 
 pub is_transitive : (bounds a b c : List ℕ) → NoWorse bounds a b → NoWorse bounds b c → NoWorse bounds a c
-is_transitive bounds a b c p q = first_both (cost bounds) (First (total bounds) IsNotAfter) a b c (first_both (total bounds) IsNotAfter a b c (lexical_transitive a b c)) p q
+is_transitive bounds a b c p q = lower_then_transitive (cost bounds) (LowerThen (total bounds) IsNotAfter) a b c (lower_then_transitive (total bounds) IsNotAfter a b c (lexical_transitive a b c)) p q
 
 pub is_reflexive : (bounds a : List ℕ) → NoWorse bounds a a
 is_reflexive bounds a = elim (is_total bounds a a) [
@@ -77,13 +77,13 @@ is_reflexive bounds a = elim (is_total bounds a a) [
   | inr q ↦ q
 ]
 
-not_above : (bounds a b : List ℕ) → NoWorse bounds a b → cost bounds a ≤ cost bounds b
-not_above bounds a b p = elim p [
+cost_at_most : (bounds a b : List ℕ) → NoWorse bounds a b → cost bounds a ≤ cost bounds b
+cost_at_most bounds a b p = elim p [
   | inl below ↦ omega arith
   | inr same ↦ omega (arith, same.0)
 ]
 
-then_sum : (bounds a b : List ℕ) → NoWorse bounds a b → cost bounds b ≡ cost bounds a → First (total bounds) IsNotAfter a b
+then_sum : (bounds a b : List ℕ) → NoWorse bounds a b → cost bounds b ≡ cost bounds a → LowerThen (total bounds) IsNotAfter a b
 then_sum bounds a b p equal = elim p [
   | inl below ↦ absurd (omega arith)
   | inr same ↦ same.1
@@ -92,7 +92,7 @@ then_sum bounds a b p equal = elim p [
 pub best_of : (bounds : List ℕ) (n : ℕ) (best : List ℕ) → IsOrder n best → ((other : List ℕ) → IsOrder n other → NoWorse bounds best other) → IsBest bounds n best
 best_of bounds n best is_order no_worse = record {
   is_order = is_order;
-  none_cheaper = λ other other_order. not_above bounds best other (no_worse other other_order);
+  none_cheaper = λ other other_order. cost_at_most bounds best other (no_worse other other_order);
   none_smaller = λ other other_order same. elim (then_sum bounds best other (no_worse other other_order) same) [
     | inl below ↦ omega arith
     | inr equal ↦ omega (arith, equal.0)

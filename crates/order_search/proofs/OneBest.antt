@@ -33,9 +33,9 @@ one_least bounds n a b p q = omega (arith, p.none_cheaper q.order q.is_order, q.
 -- ---- at most one refusal, for any predicate `IsLeast`
 
 pub none_refused : (IsLeast : ℕ → Type 0) (budget cost : ℕ) (e : PlanError) → budget ≤ 2 ^ 59 → cost ≤ budget → ((least : ℕ) → IsLeast least → least ≤ cost) → IsCauseOf IsLeast budget e → e ≡ error.NoMemory
-none_refused IsLeast budget cost (error.Budget least) few within below cause = absurd (omega (arith, below least cause.0))
-none_refused IsLeast budget cost error.PastBits few within below cause = absurd (omega (arith, below cause.0 cause.1))
-none_refused IsLeast budget cost error.NoMemory few within below cause = refl
+none_refused IsLeast budget cost (error.Budget least) within_limit within below cause = absurd (omega (arith, below least cause.0))
+none_refused IsLeast budget cost error.PastBits within_limit within below cause = absurd (omega (arith, below cause.0 cause.1))
+none_refused IsLeast budget cost error.NoMemory within_limit within below cause = refl
 
 pub one_refusal : (IsLeast : ℕ → Type 0) (budget : ℕ) (e f : PlanError) → ((a b : ℕ) → IsLeast a → IsLeast b → a ≡ b) → IsCauseOf IsLeast budget e → IsCauseOf IsLeast budget f → (e ≡ error.NoMemory) ⊎ ((f ≡ error.NoMemory) ⊎ (e ≡ f))
 one_refusal IsLeast budget error.NoMemory f one p q = inl refl
@@ -49,8 +49,8 @@ one_refusal IsLeast budget error.PastBits error.PastBits one p q = inr (inr refl
 -- ---- at most one refusal of a search for orders
 
 pub accepted : (bounds : List ℕ) (n budget : ℕ) (best : List ℕ) (e : PlanError) → budget ≤ 2 ^ 59 → IsBest bounds n best → cost bounds best ≤ budget → IsCause bounds n budget e → e ≡ error.NoMemory
-accepted bounds n budget best e few is_best within cause =
-    none_refused (IsLeastCost bounds n) budget (cost bounds best) e few within (λ least is. omega (arith, is.none_cheaper best is_best.is_order)) cause
+accepted bounds n budget best e within_limit is_best within cause =
+    none_refused (IsLeastCost bounds n) budget (cost bounds best) e within_limit within (λ least is. omega (arith, is.none_cheaper best is_best.is_order)) cause
 
 pub refused : (bounds : List ℕ) (n budget : ℕ) (e f : PlanError) → IsCause bounds n budget e → IsCause bounds n budget f → (e ≡ error.NoMemory) ⊎ ((f ≡ error.NoMemory) ⊎ (e ≡ f))
 refused bounds n budget e f p q = one_refusal (IsLeastCost bounds n) budget e f (one_least bounds n) p q

@@ -54,7 +54,7 @@ sum-at_most most (x ∷ xs) h = omega (arith, sum-cons x xs, sum-at_most most xs
     product = omega arith
 
 pub total-small : (bounds : List ℕ) (n : ℕ) (order : List ℕ) → n ≤ greatest_entries → IsOrder n order → cost bounds order ≤ 2 ^ 59 → total bounds order < 2 ^ 64
-total-small bounds n order few is_order h =
+total-small bounds n order within_limit is_order h =
     let size : length (levels_after bounds 0 order) ≡ n = length-levels_after bounds 0 order ∙ is_order.all in
     omega (arith, size, total_is bounds order, sum-at_most (2 ^ 59) (levels_after bounds 0 order) (omega (arith, cost_is bounds order)))
 

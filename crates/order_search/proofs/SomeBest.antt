@@ -8,7 +8,7 @@ use Rattle.std.proofs.lemmas.Nat.{pow_pos}
 use Rattle.order_search.specs.Orders.{IsBest}
 use Rattle.order_search.specs.Ways.{IsWay}
 use Rattle.order_search.proofs.Bits.{set_is_empty, size_below, size-none, size-whole, size-without, some_entry}
-use Rattle.entry_sets.proofs.Bits.{entry_below, less_without}
+use Rattle.entry_sets.proofs.Bits.{entry_below, set_without_is_less}
 use Rattle.order_search.proofs.NoWorse.{NoWorse, best_of, is_transitive, is_total, is_reflexive}
 use Rattle.order_search.proofs.WholeWays.{order_from_way, way_from_order}
 
@@ -27,9 +27,9 @@ record BestBelow (bounds front : List ℕ) (left end : ℕ) : Type 0 where
 abbrev NoneBelow : ℕ → ℕ → Type 0
 NoneBelow left end = (entry : ℕ) → entry < end → bit_at left entry ≡ 1 → ⊥
 
-through : (bounds front : List ℕ) (left entry : ℕ) → bit_at left entry ≡ 1 → Best bounds (front ++ entry ∷ []) (left - 2 ^ entry)
+best_through : (bounds front : List ℕ) (left entry : ℕ) → bit_at left entry ≡ 1 → Best bounds (front ++ entry ∷ []) (left - 2 ^ entry)
     → (way : List ℕ) × IsWay left way × ((entries : List ℕ) → IsWay left (entry ∷ entries) → NoWorse bounds (front ++ way) (front ++ (entry ∷ entries)))
-through bounds front left entry has best = (
+best_through bounds front left entry has best = (
   entry ∷ best.way,
   (has, best.is_way),
   λ entries way.
@@ -59,7 +59,7 @@ below_more bounds front left end has best so_far = elim so_far [
 ]
   where
     new : (way : List ℕ) × IsWay left way × ((entries : List ℕ) → IsWay left (end ∷ entries) → NoWorse bounds (front ++ way) (front ++ (end ∷ entries)))
-    new = through bounds front left end has best
+    new = best_through bounds front left end has best
 
     here : (entry : ℕ) (entries : List ℕ) → entry ≡ end → IsWay left (entry ∷ entries) → NoWorse bounds (front ++ new.0) (front ++ (entry ∷ entries))
     here entry entries same way =
@@ -135,7 +135,7 @@ best_behind bounds zero n left front fits none = record {
   where
     only : (other : List ℕ) → IsWay left other → NoWorse bounds (front ++ []) (front ++ other)
     only [] way = is_reflexive bounds (front ++ [])
-    only (entry ∷ entries) way = absurd (omega (arith, less_without left entry way.0, set_is_empty n left fits none))
+    only (entry ∷ entries) way = absurd (omega (arith, set_without_is_less left entry way.0, set_is_empty n left fits none))
 best_behind bounds (suc size) n left front fits some =
     from_all bounds n left front fits (omega arith)
     (best_below bounds front left n

@@ -8,7 +8,7 @@ use Rattle.std.proofs.lemmas.Nat.{pow_pos}
 use Rattle.order_search.specs.Orders.{IsBest, IsNotAfter, cost, total}
 use Rattle.order_search.specs.Ways.{IsWay}
 use Rattle.order_search.proofs.Bits.{set_is_empty, size_below, size-none, size-whole, size-without}
-use Rattle.entry_sets.proofs.Bits.{entry_below, less_without}
+use Rattle.entry_sets.proofs.Bits.{entry_below, set_without_is_less}
 use Rattle.order_search.proofs.NoWorse.{NoWorse, best_of}
 use Rattle.order_search.proofs.WholeWays.{order_from_way, way_from_order}
 
@@ -33,17 +33,17 @@ at_entry (suc n) test entry h below = elim (cases_eq entry n) [
   | inr apart ↦ at_entry n test entry (both_true (test n) (each_below n test) h).1 (omega arith)
 ]
 
-taken : (bit : ℕ) (b : Bool) → bit ≡ 1 → cond (eqb bit 1) b true ≡ true → b ≡ true
-taken bit b is h = rw (eq-eqb bit 1 is) at h
+true_if_bit : (bit : ℕ) (b : Bool) → bit ≡ 1 → cond (eqb bit 1) b true ≡ true → b ≡ true
+true_if_bit bit b is h = rw (eq-eqb bit 1 is) at h
 
 at_way : (size n : ℕ) (test : List ℕ → Bool) (left : ℕ) (front way : List ℕ) → left < 2 ^ n → size_below n left ≡ size → each_way size n test left front ≡ true → IsWay left way → test (front ++ way) ≡ true
 at_way zero n test left front [] fits none h is_way = rw (append-nil front) h
-at_way zero n test left front (entry ∷ entries) fits none h is_way = absurd (omega (arith, less_without left entry is_way.0, set_is_empty n left fits none))
+at_way zero n test left front (entry ∷ entries) fits none h is_way = absurd (omega (arith, set_without_is_less left entry is_way.0, set_is_empty n left fits none))
 at_way (suc size) n test left front [] fits some h is_way = absurd (omega (arith, size-none n, ap (size_below n) is_way))
 at_way (suc size) n test left front (entry ∷ entries) fits some h is_way =
     let below : entry < n = entry_below n left entry fits is_way.0 in
     let behind : each_way size n test (left - 2 ^ entry) (front ++ entry ∷ []) ≡ true =
-    taken (bit_at left entry) (each_way size n test (left - 2 ^ entry) (front ++ entry ∷ [])) is_way.0
+    true_if_bit (bit_at left entry) (each_way size n test (left - 2 ^ entry) (front ++ entry ∷ [])) is_way.0
     (at_entry n (λ e. cond (eqb (bit_at left e) 1) (each_way size n test (left - 2 ^ e) (front ++ e ∷ [])) true) entry h below) in
     let whole : test ((front ++ entry ∷ []) ++ entries) ≡ true =
     at_way size n test (left - 2 ^ entry) (front ++ entry ∷ []) entries (omega arith) (omega (arith, size-without n entry left below is_way.0)) behind is_way.1 in

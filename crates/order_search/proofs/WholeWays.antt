@@ -12,9 +12,9 @@ use Rattle.order_search.specs.Ways.{IsWay}
 use Rattle.order_search.proofs.Bits.{set_is_empty, size_below, size-none, size-whole, size-without}
 use Rattle.entry_sets.proofs.Bits.{bit_without_other, bit_without_same, entry_below}
 
-all_so : (P Q : ℕ → Type 0) → ((x : ℕ) → P x → Q x) → (xs : List ℕ) → AllByRecursion P xs → AllByRecursion Q xs
-all_so P Q so [] all = tt
-all_so P Q so (x ∷ xs) all = (so x all.0, all_so P Q so xs all.1)
+all_weaker : (P Q : ℕ → Type 0) → ((x : ℕ) → P x → Q x) → (xs : List ℕ) → AllByRecursion P xs → AllByRecursion Q xs
+all_weaker P Q so [] all = tt
+all_weaker P Q so (x ∷ xs) all = (so x all.0, all_weaker P Q so xs all.1)
 
 all_both : (P Q : ℕ → Type 0) → (xs : List ℕ) → AllByRecursion P xs → AllByRecursion Q xs → AllByRecursion (λ x. P x × Q x) xs
 all_both P Q [] p q = tt
@@ -24,7 +24,7 @@ pub way_within : (set : ℕ) (xs : List ℕ) → IsWay set xs → AllByRecursion
 way_within set [] way = tt
 way_within set (x ∷ xs) way = (
   way.0,
-  all_so (λ y. bit_at (set - 2 ^ x) y ≡ 1) (λ y. bit_at set y ≡ 1) (λ y has. elim (cases_eq y x) [
+  all_weaker (λ y. bit_at (set - 2 ^ x) y ≡ 1) (λ y. bit_at set y ≡ 1) (λ y has. elim (cases_eq y x) [
     | inl same ↦ ap (bit_at set) same ∙ way.0
     | inr apart ↦ sym (bit_without_other x set y way.0 apart) ∙ has
   ]) xs (way_within (set - 2 ^ x) xs way.1),
@@ -37,7 +37,7 @@ none_distinct = tt
 way_distinct : (set : ℕ) (xs : List ℕ) → IsWay set xs → IsDistinct eqb xs
 way_distinct set [] way = none_distinct
 way_distinct set (x ∷ xs) way = IsDistinct-cons eqb x xs
-    (all_so (λ y. bit_at (set - 2 ^ x) y ≡ 1) (λ y. eqb x y ≡ false)
+    (all_weaker (λ y. bit_at (set - 2 ^ x) y ≡ 1) (λ y. eqb x y ≡ false)
     (λ y has. ne_eqb x y (λ same. absurd (omega (arith, has, bit_without_same x set way.0, ap (bit_at (set - 2 ^ x)) same))))
     xs (way_within (set - 2 ^ x) xs way.1))
     (way_distinct (set - 2 ^ x) xs way.1)
@@ -52,7 +52,7 @@ way_from n set [] fits apart within all = set_is_empty n set fits (sym all)
 way_from n set (x ∷ xs) fits apart within all = (
   within.0,
   way_from n (set - 2 ^ x) xs (omega arith) (IsDistinct-tail eqb x xs apart)
-      (all_so (λ y. (eqb x y ≡ false) × (bit_at set y ≡ 1)) (λ y. bit_at (set - 2 ^ x) y ≡ 1)
+      (all_weaker (λ y. (eqb x y ≡ false) × (bit_at set y ≡ 1)) (λ y. bit_at (set - 2 ^ x) y ≡ 1)
       (λ y so. bit_without_other x set y within.0 (λ same. eqb-false x y so.0 (sym same)) ∙ so.1) xs
       (all_both (λ y. eqb x y ≡ false) (λ y. bit_at set y ≡ 1) xs (IsDistinct-head eqb x xs apart) within.1))
       (omega (arith, size-without n x set (entry_below n set x fits within.0) within.0, all)),
@@ -62,7 +62,7 @@ pub order_from_way : (n : ℕ) (xs : List ℕ) → IsWay (2 ^ n - 1) xs → IsOr
 order_from_way n xs way =
     let fits : 2 ^ n - 1 < 2 ^ n = omega (arith, pow_pos n) in
     record {
-      entries = all_so (λ y. bit_at (2 ^ n - 1) y ≡ 1) (λ y. y < n) (λ y has. entry_below n (2 ^ n - 1) y fits has) xs (way_within (2 ^ n - 1) xs way);
+      entries = all_weaker (λ y. bit_at (2 ^ n - 1) y ≡ 1) (λ y. y < n) (λ y has. entry_below n (2 ^ n - 1) y fits has) xs (way_within (2 ^ n - 1) xs way);
       once = way_distinct (2 ^ n - 1) xs way;
       all = length-way n (2 ^ n - 1) xs fits way ∙ size-whole n;
     }
@@ -71,5 +71,5 @@ pub way_from_order : (n : ℕ) (xs : List ℕ) → IsOrder n xs → IsWay (2 ^ n
 way_from_order n xs order =
     let fits : 2 ^ n - 1 < 2 ^ n = omega (arith, pow_pos n) in
     way_from n (2 ^ n - 1) xs fits order.once
-    (all_so (λ y. y < n) (λ y. bit_at (2 ^ n - 1) y ≡ 1) (λ y below. bit_at_ones n y below) xs order.entries)
+    (all_weaker (λ y. y < n) (λ y. bit_at (2 ^ n - 1) y ≡ 1) (λ y below. bit_at_ones n y below) xs order.entries)
     (order.all ∙ sym (size-whole n))

@@ -14,9 +14,9 @@ IsWay left (entry ∷ entries) = (bit_at left entry ≡ 1) × IsWay (left - 2 ^ 
 -- a bound combined with the weight of the rest of the way. In a sum, a bound above `most` makes the weight `top_bound`, the greatest weight
 abbrev pub combined : Weighing → ℕ → ℕ → ℕ
 combined weight.Greatest bound weight_of_rest = max bound weight_of_rest
-combined (weight.SumOfBoundsUpTo most) bound weight_of_rest = if nat_le bound most then (min (bound + weight_of_rest) top_bound) else top_bound
+combined (weight.SumIfBoundsAtMost most) bound weight_of_rest = if nat_le bound most then (min (bound + weight_of_rest) top_bound) else top_bound
 
--- the bound of the set of joined entries, after `entry` is joined next. This set has all entries except those that are then still to be joined
+-- the bound of `entry` together with all entries that aren't in `left`
 abbrev pub bound_with : List ℕ → ℕ → ℕ → ℕ → ℕ
 bound_with bounds all left entry = slice_index bounds (all - (left - 2 ^ entry))
 

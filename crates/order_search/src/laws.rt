@@ -17,8 +17,8 @@ pub fn sets_have_their_bits()
 
 /// For any number of entries, and any bounds, exactly one order is best.
 pub fn one_best_order()
-    ensures some { (bounds : List ℕ) (n : ℕ) → (best : List ℕ) × IsBest bounds n best }
-    ensures one { (bounds : List ℕ) (n : ℕ) (a b : List ℕ) → IsBest bounds n a → IsBest bounds n b → a ≡ b }
+    ensures exists { (bounds : List ℕ) (n : ℕ) → (best : List ℕ) × IsBest bounds n best }
+    ensures unique { (bounds : List ℕ) (n : ℕ) (a b : List ℕ) → IsBest bounds n a → IsBest bounds n b → a ≡ b }
 {}
 
 /// If the best order costs at most the budget, only `NoMemory` is a possible refusal. In any case, at most one refusal other than `NoMemory` has a
@@ -40,7 +40,7 @@ pub fn examples()
     ensures total { total three_entries (0 ∷ 2 ∷ 1 ∷ []) ≡ 13 }
     ensures best { IsBest three_entries 3 (0 ∷ 2 ∷ 1 ∷ []) }
     ensures budget { IsCause three_entries 3 5 (error.Budget 6) }
-    ensures from_order { IsBest equal_bounds 3 (0 ∷ 1 ∷ 2 ∷ []) }
+    ensures first_of_equal { IsBest equal_bounds 3 (0 ∷ 1 ∷ 2 ∷ []) }
     ensures dearer { IsBest dearer_prefix 4 (2 ∷ 1 ∷ 0 ∷ 3 ∷ []) }
     ensures past_bits { IsCause past_bits 3 6 error.PastBits }
     ensures avoided { IsBest one_pair_past_bits 3 (0 ∷ 2 ∷ 1 ∷ []) }

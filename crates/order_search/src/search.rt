@@ -20,9 +20,9 @@ use std::alloc::Global;
 /// the orders of this cost and sum it comes first in lexicographic order.
 ///
 /// All bounds and the budget are in rows. A bound of 2^128 - 1 means 2^128 - 1 rows or more. The search fills two arrays of 2^n numbers, one after
-/// the other, in n 2^n steps each. A set has the entries that are still to be joined. In the first array its number is the least cost of joining
-/// them. In the second it is the least sum of joining them without a bound above the least cost of an order. The method is from *Access Path
-/// Selection in a Relational Database Management System* (Selinger and others, SIGMOD 1979).
+/// the other, in n 2^n steps each. Each array has a number for each set of entries that are still to be joined. In the first array, this is the least
+/// cost of joining these entries. In the second array, it is the least sum of bounds, over orders without a bound above the best order's cost. The
+/// method is from *Access Path Selection in a Relational Database Management System* (Selinger and others, SIGMOD 1979).
 ///
 /// The call returns `Budget` or `PastBits` exactly if `IsCause` says so, and `NoMemory` if there is too little memory.
 pub fn choose(
@@ -31,8 +31,8 @@ pub fn choose(
     scans: &Seq<u64>,
     budget: u64,
 ) -> Result<Plan, PlanError>
-    requires some { 1 ≤ length scans.now }
-    requires few { length scans.now ≤ greatest_entries }
+    requires not_empty { 1 ≤ length scans.now }
+    requires within_limit { length scans.now ≤ greatest_entries }
     requires bounds { length bounds.now ≡ 2 ^ length scans.now }
     requires budget { budget ≤ greatest_budget }
 
@@ -71,7 +71,7 @@ fn least_cost(alloc: Global, count: u8, bounds: &[u128]) -> Result<u128, NoMemor
     Ok(costs[bounds.len() - 1])
 }
 
-// The best order: among the orders of least cost and least sum, the first. `least` is the least cost.
+// The best order: among the orders of least cost and least sum, the first in lexicographic order. `least` is the least cost.
 fn best_order(alloc: Global, count: u8, bounds: &[u128], least: u128) -> Result<Vec<u8>, NoMemory>
     requires count { count ≤ greatest_entries }
     requires bounds { length bounds.now ≡ 2 ^ count }
@@ -80,7 +80,7 @@ fn best_order(alloc: Global, count: u8, bounds: &[u128], least: u128) -> Result<
     ensures best { IfOk result (λ order. IsBest bounds.now count order.items) }
     ensures cost { IfOk result (λ order. cost bounds.now order.items ≡ least) }
 {
-    let sums = least_weights(alloc, Weighing::SumOfBoundsUpTo(least), count, bounds)?;
+    let sums = least_weights(alloc, Weighing::SumIfBoundsAtMost(least), count, bounds)?;
     first_lightest(alloc, least, count, bounds, sums.as_slice())
 }
 

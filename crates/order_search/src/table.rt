@@ -1,5 +1,5 @@
-//! Fills an array with the least weight for each set of entries that are still to be joined. weight.rt defines weights. A subset has a smaller number
-//! than the set, so its weight is found earlier.
+//! Fills an array with the least weight for each set of entries that are still to be joined. weight.rt defines weights. The subsets of a set have
+//! smaller numbers than the set, so their weights are found earlier.
 ghost use Rattle.std.specs.Prelude.{◌≡◌, ◌-◌, ◌^◌, ◌<◌, ◌≤◌, length, IfOk};
 ghost use Rattle.std.specs.Int.{bit_at};
 ghost use Rattle.limits.specs.Profile.{greatest_entries};
@@ -11,7 +11,7 @@ use entry_sets::EntrySet;
 use std::alloc::Global;
 
 // The weight of the lightest way through the set `left` that begins with this entry.
-#[tactic(auto, using(entry_sets::proofs::Bits::less_without))]
+#[tactic(auto, using(entry_sets::proofs::Bits::set_without_is_less))]
 pub(crate) fn weight_through(
     weight: Weighing,
     bounds: &[u128],
@@ -56,7 +56,7 @@ fn least_weight(
     least
 }
 
-// The least weights of all sets, by the set's number.
+// The least weight of each set, at the index that is the set's number.
 pub(crate) fn least_weights(
     alloc: Global,
     weight: Weighing,

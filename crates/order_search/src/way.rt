@@ -29,7 +29,7 @@ fn begins_lightest(
 fn next_entry(weight: Weighing, count: u8, bounds: &[u128], table: &[u128], left: EntrySet) -> u8
     requires count { count ≤ greatest_entries }
     requires bounds { length bounds.now ≡ 2 ^ count }
-    requires some { 0 < left }
+    requires not_empty { 0 < left }
     requires left { left < length bounds.now }
     requires filled { length table.now ≡ length bounds.now }
     requires table { HasLeastWeights weight bounds.now (length bounds.now - 1) table.now (length bounds.now) }
@@ -55,15 +55,21 @@ pub(crate) fn first_lightest(
     requires count { count ≤ greatest_entries }
     requires bounds { length bounds.now ≡ 2 ^ count }
     requires filled { length table.now ≡ length bounds.now }
-    requires table { HasLeastWeights (Weighing.SumOfBoundsUpTo most) bounds.now (length bounds.now - 1) table.now (length bounds.now) }
+    requires table { HasLeastWeights (Weighing.SumIfBoundsAtMost most) bounds.now (length bounds.now - 1) table.now (length bounds.now) }
     requires light { slice_index table.now (length bounds.now - 1) < top_bound }
     ensures { IfOk result
-        (λ order. IsFirstLightest (Weighing.SumOfBoundsUpTo most) bounds.now (length bounds.now - 1) (length bounds.now - 1) order.items) }
+        (λ order. IsFirstLightest (Weighing.SumIfBoundsAtMost most) bounds.now (length bounds.now - 1) (length bounds.now - 1) order.items) }
 {
     let mut order = Vec::new(alloc);
     let mut left = EntrySet::from_bits((bounds.len() - 1) as u16);
     while left.bits() > 0 {
-        let entry = next_entry(Weighing::SumOfBoundsUpTo(most), count, bounds, table, left);
+        let entry = next_entry(
+            Weighing::SumIfBoundsAtMost(most),
+            count,
+            bounds,
+            table,
+            left,
+        );
         order.push(entry)?;
         left = left.without(entry);
     }

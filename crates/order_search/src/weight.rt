@@ -11,7 +11,7 @@ pub(crate) enum Weighing {
     /// The greatest of the bounds.
     Greatest,
     /// The sum of the bounds, or TOP_BOUND if the sum is greater. If a bound is above the given number, the weight is TOP_BOUND too.
-    SumOfBoundsUpTo(u128),
+    SumIfBoundsAtMost(u128),
 }
 
 impl Weighing {
@@ -21,7 +21,7 @@ impl Weighing {
     {
         match self {
             Weighing::Greatest => bound.max(weight_of_rest),
-            Weighing::SumOfBoundsUpTo(most) => {
+            Weighing::SumIfBoundsAtMost(most) => {
                 if bound <= most {
                     bound.saturating_add(weight_of_rest)
                 } else {

@@ -27,7 +27,7 @@ joined first second = record {
   misses_after = second.misses_after;
 }
 
-pub record Meets (first second : Reading) : Type 0 where
+pub record IsFollowedBy (first second : Reading) : Type 0 where
   pub files : first.files_after ≡ second.files
   pub faults : first.faults_after ≡ second.faults_before
   pub misses : first.misses_after ≡ second.misses_before
@@ -62,7 +62,7 @@ module _ {A B : Type 0} (one : OfFiles A) (two : A → OfFiles B) where
       ends (failure.Fault file) k = (k.0, λ files told. more files file (k.1 files told))
       ends failure.NoMemory k = tt
 
-  pub then_reads : (first second : Reading) (C D E : FilesRead) (x : A) (answer : Result B Failure) → Meets first second
+  pub then_reads : (first second : Reading) (C D E : FilesRead) (x : A) (answer : Result B Failure) → IsFollowedBy first second
       → ((files : Files) (file : FileId) → one files ≡ Ok x → D files file → E files file)
       → Reads first one C (Ok x) → Reads second (two x) D answer → Reads (joined first second) both E answer
   then_reads first second C D E x answer meets more h k = record {
@@ -94,7 +94,7 @@ module _ {A B : Type 0} (one : OfFiles A) (two : A → OfFiles B) where
       given (Ok y) w = λ files told. at_ok (one files) (λ z. two z files) x (h.gives files told) ∙ w files (told_again files told)
       given (Err e) w = ends e w
 
--- here the second step reads no file
+-- a second step that reads no file
 module _ {A B : Type 0} (store : Reading) (one : OfFiles A) (next : A → Result B Refusal) (C D : FilesRead) (x : A) where
   abbrev after : OfFiles B
   after files = one files >>= next
@@ -107,8 +107,8 @@ module _ {A B : Type 0} (store : Reading) (one : OfFiles A) (next : A → Result
     same = h.same;
   }
 
-  pub then_tells : (e : Failure) → StopsBy (next x) e → Reads store one C (Ok x) → Reads store after D (Err e)
-  then_tells e tells h = record {
+  pub then_fails : (e : Failure) → StopsBy (next x) e → Reads store one C (Ok x) → Reads store after D (Err e)
+  then_fails e tells h = record {
     gives = ends e tells;
     misses = λ files told missed. h.misses files told (misses_first (one files) next missed);
     later = h.later;

@@ -24,7 +24,7 @@ ended_not_done (failure.Refused r) h = cc
 ended_not_done (failure.Fault f) h = cc
 ended_not_done failure.NoMemory h = cc
 
-pub ended_not_cut : (e : Failure) (sink : SinkId) → status_of_failure e ≢ status.WriteFault sink
-ended_not_cut (failure.Refused r) sink h = cc
-ended_not_cut (failure.Fault f) sink h = cc
-ended_not_cut failure.NoMemory sink h = cc
+pub ended_without_write_fault : (e : Failure) (sink : SinkId) → status_of_failure e ≢ status.WriteFault sink
+ended_without_write_fault (failure.Refused r) sink h = cc
+ended_without_write_fault (failure.Fault f) sink h = cc
+ended_without_write_fault failure.NoMemory sink h = cc

@@ -1,7 +1,7 @@
 -- Each error of a reader or of the planner, as a refusal and as a failure.
 --
--- An error may be `NoMemory`, which isn't a refusal. The functions to `Refusal` need some value for it, and give `Usage`. No definition gives
--- the error `NoMemory` (law `definitions_never_give_no_memory` of safebound_laws), so the verdict never has this `Usage`.
+-- An error may be `NoMemory`, which isn't a refusal. For `NoMemory` the functions to `Refusal` give `Usage`. It never reaches the verdict, since no
+-- definition gives `NoMemory` (law `definitions_never_give_no_memory` of safebound_laws).
 use Rattle.std.specs.Prelude.{ℕ}
 use Rattle.schema_types.specs.declared.errors.LimitKind.TheVariants as limit
 use Rattle.schema_types.specs.declared.errors.SchemaError.{SchemaError}

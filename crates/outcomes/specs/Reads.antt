@@ -39,7 +39,7 @@ StopsBy stage (failure.Refused r) = (stage ≡ Err r) × IsNotMissing r × (r �
 StopsBy stage (failure.Fault file) = ⊥
 StopsBy stage failure.NoMemory = ⊤
 
--- for a step that reads only `file`: `other` is this file
+-- `other` is `file`, the only file that the step reads
 abbrev pub AtFile : FileId → Files → FileId → Type 0
 AtFile file files other = other ≡ file
 

@@ -1,7 +1,7 @@
 //! How a run and its steps may end: refusals of the input, early ends of a reading, and statuses. The crate also
 //! says what a step that reads promises.
 //!
-//! A `Refusal` says what is wrong with the words of the command line, or with a file. It follows from words and files alone. A step that
+//! A `Refusal` says what is wrong with the words of the command line, or with a file. It follows only from words and files. A step that
 //! reads may stop with a `Failure`: a refusal, a failed read with its file, or too little memory. A run ends with a `Status`.
 //!
 //! In contracts `status_of_failure` and `code_of` (in `specs/Statuses.antt`) give the status of a failure and the exit status. `Reads` (in

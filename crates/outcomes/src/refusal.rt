@@ -41,7 +41,7 @@ pub enum StatsCause {
     Missing,
 }
 
-/// A refusal, which follows from the words and the files alone. `at` is an offset in bytes, from 0, except in `Stats`.
+/// A refusal, which follows only from the words and the files. `at` is an offset in bytes, from 0, except in `Stats`.
 #[derive(Clone, Copy, Debug, PartialEq, Eq)]
 pub enum Refusal {
     /// The words are no command of the program.

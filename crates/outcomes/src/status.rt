@@ -5,7 +5,7 @@ ghost use Rattle.outcomes.specs.declared.status.Status.TheVariants as status;
 
 use crate::{Failure, FileId, Refusal, SinkId};
 
-/// The exit status if memory ran out before the first byte of the plan text, or for the words of the command line.
+/// The exit status if memory ran out while fetching the command line's words, or before the plan text's first byte.
 pub const NO_MEMORY: u8 = 11;
 
 /// The exit status if the system doesn't give the words. Then there is no run and no `Status`.

@@ -6,4 +6,4 @@ use Rattle.csv_tables.specs.declared.types.Cells.{Cells}
 
 -- a filter column of this kind, and a joined column of numbers
 abbrev pub table_of : Kind → List ℕ → List ℕ → Cells
-table_of of filter joined = record { kinds = of ∷ kind.Int ∷ []; columns = filter ∷ joined ∷ []; rows = length filter }
+table_of kind_of_filter filter joined = record { kinds = kind_of_filter ∷ kind.Int ∷ []; columns = filter ∷ joined ∷ []; rows = length filter }

@@ -24,8 +24,8 @@ pub fn for_equal(stats: &ColumnStats, cell: Option<u64>) -> &Pieces
     &stats.rest
 }
 
-/// The list of a range, by the leaves of its ends: the list of the least node that holds both leaves. Either leaf may be the greater one. `None`
-/// is leaf 0 as the low end, and leaf 31 as the high end. Without rows the list is empty.
+/// The list of a range, by the leaves of its ends: the list of the smallest node that holds both leaves. Either leaf may be the greater one. `None`
+/// as the low end is leaf 0; as the high end it is leaf 31. If the column has no rows, the list is empty.
 pub fn for_range(stats: &ColumnStats, low: Option<u8>, high: Option<u8>) -> &Pieces
     requires valid { IsValid stats.now }
     requires low { IfSome low (λ leaf. leaf < 32) }

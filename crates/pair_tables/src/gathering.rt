@@ -1,4 +1,4 @@
-//! Makes all statistics of a filter column for a joined column, from the cells of a table.
+//! Makes all statistics of a joined column by the values of a filter column, from the cells of a table.
 ghost use Rattle.std.specs.Prelude.{◌≡◌, IfOk};
 ghost use Rattle.std.specs.List.{sum};
 ghost use Rattle.cond_stats.specs.Columns.{cell_le};
@@ -22,7 +22,7 @@ fn row_count(cells: &Cells) -> u32
 }
 
 // The statistics of two columns of a table.
-fn made(
+fn statistics_of_columns(
     alloc: Global,
     cells: &Cells,
     pool: &Pool,
@@ -43,8 +43,8 @@ fn made(
     gather_sorted(alloc, &column, kind, keys, accuracy)
 }
 
-/// The statistics of a filter column for a joined column (SafeBound, SIGMOD 2023). `filter` and `joined` number the table's columns from 0.
-/// `accuracy` says how near compressed lists are to the degrees. The one error is `NoMemory`, and then nothing is kept.
+/// The statistics of a joined column by the values of a filter column (SafeBound, SIGMOD 2023). `filter` and `joined` number the table's columns from
+/// 0. `accuracy` says how near compressed lists are to the degrees. The only error is `NoMemory`, and then nothing is kept.
 pub fn gather(
     alloc: Global,
     cells: &Cells,
@@ -61,12 +61,12 @@ pub fn gather(
         stats_of pool.now (kind_of_column cells.now filter) accuracy (rows_of_pair cells.now filter joined)) }
     ensures valid { IfOk result IsValid }
 
-    // values and ranges have the lists that cond_stats makes on demand
+    // each value and each range has the list that cond_stats makes for it on demand
     ensures values { IfOk result (GivesValueLists accuracy (rows_of_pair cells.now filter joined)) }
     ensures ranges { IfOk result (GivesRangeLists (cell_le pool.now (kind_of_column cells.now filter)) accuracy
         (rows_of_pair cells.now filter joined)) }
 
-    // each list dominates the joined keys of the rows that it is a list of
+    // each list dominates the joined keys of its rows
     ensures whole_never_under { IfOk result (WholeDominates (rows_of_pair cells.now filter joined)) }
     ensures whole_total { IfOk result (λ stats. sum stats.whole ≡ cells.now.rows) }
     ensures value_never_under { IfOk result (ValuesDominate (rows_of_pair cells.now filter joined)) }
@@ -75,5 +75,5 @@ pub fn gather(
     ensures range_never_under { IfOk result (RangesDominate (cell_le pool.now (kind_of_column cells.now filter))
         (rows_of_pair cells.now filter joined)) }
 {
-    made(alloc, cells, pool, filter, joined, accuracy)
+    statistics_of_columns(alloc, cells, pool, filter, joined, accuracy)
 }

@@ -1,4 +1,4 @@
-//! Tables of a filter column and a joined column, their statistics, and the lists that these give, for tests and measurements.
+//! Tables of a filter column and a joined column, their statistics, and the lists that the statistics give, for tests and measurements.
 //!
 //! In: cells, a pool and the filter column's kind. Out: a table (`table_of`, in `specs/Tables.antt`), and from its cells a `ColumnStats`. The
 //! contract says that the table has columns 0 and 1, by `HasColumn` of column_stats. Contracts of statistics use `stats_of`, `list_for_value`,

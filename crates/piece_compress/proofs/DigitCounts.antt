@@ -14,8 +14,8 @@ below_power (suc room) (suc n) h =
     let q : ℕ = suc n / 2 in
     omega (arith, below_power room q (omega arith), pow-suc 2 (digits_within room q))
 
-pub digits_hold : (n : ℕ) → n < 2 ^ binary_digits n
-digits_hold n = below_power n n (omega arith)
+pub below_power_of_digits : (n : ℕ) → n < 2 ^ binary_digits n
+below_power_of_digits n = below_power n n (omega arith)
 
 half_above : (room n : ℕ) → n ≤ room → 0 < n → 2 ^ digits_within room n ≤ 2 * n
 half_above zero n h pos = absurd (omega arith)
@@ -37,8 +37,8 @@ digits_needed : (n : ℕ) → 2 ^ binary_digits n ≤ 2 * n + 1
 digits_needed zero = omega (arith, pow-zero 2)
 digits_needed (suc n) = omega (arith, half_above (suc n) (suc n) (omega arith) (omega arith))
 
-fewer : (n a b : ℕ) → n < 2 ^ a → 2 ^ b ≤ 2 * n + 1 → b ≤ a
-fewer n a b above within = elim (cases_lt a b) [
+fewer_digits : (n a b : ℕ) → n < 2 ^ a → 2 ^ b ≤ 2 * n + 1 → b ≤ a
+fewer_digits n a b above within = elim (cases_lt a b) [
   | inl more ↦ absurd (let most : 2 ^ suc a ≤ 2 ^ b = pow_mono more in omega (arith, most, pow-suc 2 a))
   | inr h ↦ h
 ]
@@ -52,6 +52,6 @@ digits_counted n leading fits same =
       arith,
       same,
       total,
-      fewer n m (binary_digits n) counted.2 (digits_needed n),
-      fewer n (binary_digits n) m (digits_hold n) counted.3,
+      fewer_digits n m (binary_digits n) counted.2 (digits_needed n),
+      fewer_digits n (binary_digits n) m (below_power_of_digits n) counted.3,
     )

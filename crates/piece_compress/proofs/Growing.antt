@@ -1,15 +1,14 @@
--- The walk along a degree list keeps a state (`Growing`): the result so far, and what is still to be added to it. These lemmas are about its start,
--- its steps and its end.
+-- Start, steps and end of the walk along a degree list. Its state (`Growing`) has the result so far, and says what is still to be added.
 use Rattle.std.proofs.Common.{◌≡◌, ℕ, zero, suc, ◌+◌, ◌-◌, ◌*◌, ◌<◌, ◌≤◌, min, ltb, List, [], ◌∷◌, ◌++◌, length, get_or, drop, replicate, refl, ap, sym, ◌∙◌, sum, arith, inl, inr, length-append, drop-cons}
 use Rattle.std.specs.List.{All}
 use Rattle.std.proofs.lemmas.Bool.{cases_lt, cond_both, lt-ltb}
 use Rattle.std.proofs.lemmas.List.{append_assoc, length-replicate}
-use Rattle.degree_sequences.specs.Compression.{next_head, heads_from, heads, slope, compressed_from, compressed}
+use Rattle.degree_sequences.specs.Compression.{next_head, heads_from, heads, head_of_row, compressed_from, compressed}
 use Rattle.degree_sequences.specs.Descending.{IsDescending}
 use Rattle.degree_sequences.specs.Rank.{rank}
 use Rattle.degree_sequences.specs.RunningSums.{running_sum}
 use Rattle.degree_sequences.proofs.CompressedLists.{step_above}
-use Rattle.degree_sequences.proofs.FewRuns.{stops}
+use Rattle.degree_sequences.proofs.FewRuns.{empty_if_sum_reached}
 use Rattle.degree_sequences.proofs.Ranks.{rank_reaches, rank_least}
 use Rattle.degree_sequences.proofs.RunningSums.{running_sum-mono, running_sum-suc, running_sum-past, running_sum-le-sum}
 
@@ -18,8 +17,8 @@ use Rattle.degree_sequences.proofs.RunningSums.{running_sum-mono, running_sum-su
 pub is_element : (f : List ℕ) (i m : ℕ) → running_sum f i ≤ m → m < sum f → i < length f
 is_element f i m h j = elim (cases_lt i (length f)) [ inl l ↦ l | inr l ↦ absurd (omega (arith, running_sum-past f i l)) ]
 
-pub slope_at : (k : ℕ) (f : List ℕ) (i m : ℕ) → running_sum f i ≤ m → m < running_sum f (suc i) → slope k f m ≡ get_or (heads k f) i 0
-slope_at k f i m before after =
+pub head_of_row_at : (k : ℕ) (f : List ℕ) (i m : ℕ) → running_sum f i ≤ m → m < running_sum f (suc i) → head_of_row k f m ≡ get_or (heads k f) i 0
+head_of_row_at k f i m before after =
     let r : ℕ = rank f (suc m) in
     let reaches : suc m ≤ running_sum f r = rank_reaches f (suc m) (omega (arith, running_sum-le-sum f (suc i))) in
     let low : i < r = elim (cases_lt i r) [ inl h ↦ h | inr h ↦ absurd (omega (arith, running_sum-mono f r i h)) ] in
@@ -55,8 +54,8 @@ heads-step k f i head within same =
 
 -- ---- the result so far
 
--- The state after i elements has the pieces, the run that still grows, and the head. It also has how many rows were passed, and how many the
--- result covers
+-- The state after i elements has the pieces, the run that still grows, and the head. It also has the sum of the i passed degrees (`rows`) and the
+-- sum of the result (`covered`)
 pub record Growing (k : ℕ) (f : List ℕ) (i : ℕ) (pieces : List ℕ) (value count head rows covered : ℕ) : Type 0 where
   pub within : i ≤ length f
   pub rows_are : rows ≡ running_sum f i
@@ -73,8 +72,8 @@ pub record Growing (k : ℕ) (f : List ℕ) (i : ℕ) (pieces : List ℕ) (value
   pub last : 0 < count → covered < sum f + value
   pub short : length pieces + count ≤ length f
 
-pub growing_none : (k : ℕ) (f : List ℕ) → Growing k f 0 [] (get_or f 0 0) 0 (get_or f 0 0) 0 0
-growing_none k f = record {
+pub growing_start : (k : ℕ) (f : List ℕ) → Growing k f 0 [] (get_or f 0 0) 0 (get_or f 0 0) 0 0
+growing_start k f = record {
   within = omega arith;
   rows_are = refl;
   heads_are = refl;
@@ -136,7 +135,7 @@ growing_more k f i pieces value count head rows covered pieces' count' head' row
     let inside : covered < sum f = omega (arith, g.rows_are, running_sum-le-sum f (suc i)) in
     let step : (next_head k head x ≡ get_or (heads k f) i 0) × (heads_from k (next_head k head x) (drop (suc i) f) ≡ drop (suc i) (heads k f)) = heads-step k f i head here g.heads_are in
     let between : (x ≤ next_head k head x) × (next_head k head x ≤ head) = next_head-between k head x g.head_above in
-    let slope_is : slope k f covered ≡ head' = slope_at k f i covered g.ahead (omega (arith, g.rows_are)) ∙ sym step.0 ∙ sym head_is in
+    let slope_is : head_of_row k f covered ≡ head' = head_of_row_at k f i covered g.ahead (omega (arith, g.rows_are)) ∙ sym step.0 ∙ sym head_is in
     let n : ℕ = length pieces + count in
     let element : n < length f = is_element f n covered (g.keeps_up inside) inside in
     let fuel : ℕ = length f - suc n in
@@ -173,7 +172,7 @@ growing_more k f i pieces value count head rows covered pieces' count' head' row
       keeps_up = λ h. let e : next ≡ head' = omega arith in
           rw count_is (omega (arith, step_above k f fall n covered (g.keeps_up inside) inside, slope_is));
       complete = λ some past. let e : next ≡ head' - (covered + head' - sum f) = omega arith in
-          let over : compressed_from k f fuel (covered + next) ≡ [] = stops k f fuel (covered + next) (omega arith) in
+          let over : compressed_from k f fuel (covered + next) ≡ [] = empty_if_sum_reached k f fuel (covered + next) (omega arith) in
           rw (same, sym e) (ap (λ (s : List ℕ). list ++ next ∷ s) (sym over) ∙ whole);
       last = λ some. omega arith;
       short = omega arith;
@@ -185,9 +184,9 @@ pub growing_empty : (k : ℕ) (f : List ℕ) (i : ℕ) (pieces : List ℕ) (valu
 growing_empty k f i pieces value count head rows covered g end none =
     let nothing : (pieces ≡ []) × (covered ≡ 0) = g.none_yet (omega arith) in
     let sum_is : sum f ≤ 0 = omega (arith, g.ahead, running_sum-past f i end, nothing.1) in
-    nothing.0 ∙ sym (stops k f (length f) 0 sum_is)
+    nothing.0 ∙ sym (empty_if_sum_reached k f (length f) 0 sum_is)
 
--- Otherwise the last element of the run is too great by `covered - rows`. By this excess the result's sum exceeds the list's sum. The element is
+-- Otherwise the last element of the run is too great by `covered - rows`. The result's sum exceeds the list's sum by this much. The element is
 -- greater than the excess.
 pub growing_ended : (k : ℕ) (f : List ℕ) (i : ℕ) (pieces : List ℕ) (value count head rows covered : ℕ) → Growing k f i pieces value count head rows covered
     → length f ≤ i → 0 < count → (rows ≡ sum f) × (sum f ≤ covered) × (covered - rows < value)

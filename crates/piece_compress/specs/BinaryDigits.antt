@@ -11,6 +11,6 @@ digits_within (suc room) (suc n) = suc (digits_within room (suc n / 2))
 abbrev pub binary_digits : ℕ → ℕ
 binary_digits n = digits_within n n
 
--- the most pieces: at accuracy K, there are K heads for each binary digit of the first degree, and one more for the last piece
+-- the greatest number of pieces at accuracy K: K for each binary digit of the first degree, and one more
 abbrev pub most_pieces : ℕ → ℕ → ℕ
 most_pieces first accuracy = accuracy * binary_digits first + 1

@@ -2,7 +2,7 @@
 //!
 //! In: the degree list of a column, or of some of its rows. It has one element for each different key. Out: a list of few pieces. Statistics
 //! keep this list, and bounds are made from it. At accuracy K each of its elements exceeds the degree at the same rank by at most one K-th. Its
-//! sum is the sum of the degrees. Each of its runs has the value of one degree, the run's head. This compression by heads is this project's own.
+//! sum is the sum of the degrees. The elements of a run have the value of one degree, the run's head. Compression by heads is this project's own.
 //! Domination is that of SafeBound (SIGMOD 2023).
 //!
 //! In contracts the result is `compressed` of crate `degree_sequences`, and `most_pieces` is the greatest number of its pieces.

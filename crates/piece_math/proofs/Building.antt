@@ -7,7 +7,7 @@ use Rattle.std.proofs.lemmas.List.{length-replicate, length-take, take_all}
 use Rattle.degree_sequences.specs.Descending.{IsDescending}
 use Rattle.degree_sequences.specs.Saturation.{saturated}
 use Rattle.piece_math.specs.Expanded.{IsAppended}
-use Rattle.piece_math.proofs.Falling.{at_least_next}
+use Rattle.piece_math.proofs.Falling.{at_least_element}
 
 first_run : (s : List ℕ) (c v : ℕ) → ((k : ℕ) → k < c → get_or s k 0 ≡ v) → 0 < v → take c s ≡ replicate c v
 first_run s zero v same pos = refl
@@ -38,7 +38,7 @@ module _ {goal list : List ℕ} {n c v : ℕ} (so_far : list ≡ take n goal) (r
   pub run_falls : IsDescending goal → 0 < c → All (λ x. v ≤ x) list
   run_falls fall some =
       let e : get_or goal n 0 ≡ v = ap (λ i. get_or goal i 0) (sym (add-zero n)) ∙ run.same 0 some in
-      subst (All (λ x. v ≤ x)) (sym so_far) (subst (λ (y : ℕ). All (λ x. y ≤ x) (take n goal)) e (at_least_next goal fall n))
+      subst (All (λ x. v ≤ x)) (sym so_far) (subst (λ (y : ℕ). All (λ x. y ≤ x) (take n goal)) e (at_least_element goal fall n))
 
   pub run_fits : 0 < v → length list + c ≤ length goal
   run_fits pos =

@@ -1,4 +1,4 @@
--- Two lists are combined rank by rank. These lemmas are about the walk that combines them.
+-- The walk along two lists that combines them rank by rank.
 use Rattle.std.proofs.Common.{◌≡◌, ℕ, ◌+◌, ◌^◌, ◌<◌, ◌≤◌, max, List, [], ◌∷◌, length, get_or, map, take, refl, ap, sym, ◌∙◌, arith}
 use Rattle.std.specs.List.{AllByRecursion, All}
 use Rattle.std.proofs.Math.Nat.{mul-pos}
@@ -18,7 +18,7 @@ use Rattle.piece_math.specs.PiecePlaces.{IsStretch}
 use Rattle.piece_math.specs.ByRank.{combined, combined_by_rank}
 use Rattle.piece_math.proofs.Expansion.{IsDescending-expanded, positive-expanded}
 use Rattle.piece_math.proofs.Building.{HasRun, run_falls, run_fits, run_built, get_or-saturated, IsDescending-saturated, positive-saturated}
-use Rattle.piece_math.proofs.Walking.{Walked, at_left, at_right, walk_on, walk_start, rest_none}
+use Rattle.piece_math.proofs.Walking.{Walked, at_left, at_right, walk_on, walk_start, rest_past_end}
 
 pub get_or-combined : (how : Combination) (s t : List ℕ) (r : ℕ) → get_or (combined_by_rank how s t) r 0 ≡ combined how (get_or s r 0) (get_or t r 0)
 get_or-combined Product s t r = get_or-rank_product s t r
@@ -62,7 +62,7 @@ abbrev pub goal_of : Combination → List Piece → List Piece → List ℕ
 goal_of how a b = map saturated (combined_by_rank how (expanded a) (expanded b))
 
 -- this is the state of the walk: the list is built up to the rank of the positions
-pub record Combined (how : Combination) (a b : List Piece) (places : PiecePlaces) (list : List ℕ) : Type 0 where
+pub record CombinedSoFar (how : Combination) (a b : List Piece) (places : PiecePlaces) (list : List ℕ) : Type 0 where
   pub walked : Walked a b places
   pub built : list ≡ take walked.rank (goal_of how a b)
   pub few : runs list ≤ places.left.at + places.right.at
@@ -77,8 +77,8 @@ goal_positive how a b are_a are_b =
     positive-saturated (combined_by_rank how (expanded a) (expanded b))
     (positive-combined how (expanded a) (expanded b) (positive-expanded a are_a.falls) (positive-expanded b are_b.falls))
 
-pub goal_short : (how : Combination) (a b : List Piece) → length (goal_of how a b) ≤ max (length (expanded a)) (length (expanded b))
-goal_short how a b = omega (arith, length-map (combined_by_rank how (expanded a) (expanded b)) saturated, length-combined-le how (expanded a) (expanded b))
+pub goal_length : (how : Combination) (a b : List Piece) → length (goal_of how a b) ≤ max (length (expanded a)) (length (expanded b))
+goal_length how a b = omega (arith, length-map (combined_by_rank how (expanded a) (expanded b)) saturated, length-combined-le how (expanded a) (expanded b))
 
 pub goal_run : (how : Combination) (a b : List Piece) (places : PiecePlaces) (stretch : Stretch) (v : ℕ) → (t : IsStretch a b places stretch) (w : Walked a b places)
     → v ≡ saturated (combined how stretch.left stretch.right) → HasRun (goal_of how a b) w.rank stretch.count v
@@ -89,32 +89,32 @@ goal_run how a b places stretch v t w is = record {
 }
 
 pub combine_start : (how : Combination) (a b : List Piece) → ArePieces a → ArePieces b
-    → Combined how a b (record { left = record { at = 0; used = 0 }; right = record { at = 0; used = 0 } }) []
+    → CombinedSoFar how a b (record { left = record { at = 0; used = 0 }; right = record { at = 0; used = 0 } }) []
 combine_start how a b are_a are_b = record { walked = walk_start a b are_a are_b; built = refl; few = omega arith }
 
 module _ {how : Combination} {a b : List Piece} {places : PiecePlaces} {stretch : Stretch} {list : List ℕ} {v : ℕ} (are_a : ArePieces a) (are_b : ArePieces b)
-    (so_far : Combined how a b places list) (t : IsStretch a b places stretch) (value : v ≡ saturated (combined how stretch.left stretch.right)) where
+    (so_far : CombinedSoFar how a b places list) (t : IsStretch a b places stretch) (value : v ≡ saturated (combined how stretch.left stretch.right)) where
   pub combine_falls : 0 < stretch.count → All (λ x. v ≤ x) list
   combine_falls some = run_falls so_far.built (goal_run how a b places stretch v t so_far.walked value) (goal_falls how a b are_a are_b) some
 
   pub combine_fits : 0 < v → length list + stretch.count < 2 ^ 64
-  combine_fits pos = omega (arith, run_fits so_far.built (goal_run how a b places stretch v t so_far.walked value) pos, goal_short how a b, are_a.fits, are_b.fits)
+  combine_fits pos = omega (arith, run_fits so_far.built (goal_run how a b places stretch v t so_far.walked value) pos, goal_length how a b, are_a.fits, are_b.fits)
 
-  pub combine_step : {new : List ℕ} → IsAppended list new v stretch.count → Combined how a b stretch.next new
+  pub combine_step : {new : List ℕ} → IsAppended list new v stretch.count → CombinedSoFar how a b stretch.next new
   combine_step put = record {
     walked = walk_on t so_far.walked;
     built = run_built so_far.built (goal_run how a b places stretch v t so_far.walked value) (goal_positive how a b are_a are_b) put;
     few = omega (arith, put.few, so_far.few, t.onward);
   }
 
-pub combine_end : (how : Combination) (a b : List Piece) (places : PiecePlaces) (list : List ℕ) → Combined how a b places list → length a ≤ places.left.at → length b ≤ places.right.at
+pub combine_end : (how : Combination) (a b : List Piece) (places : PiecePlaces) (list : List ℕ) → CombinedSoFar how a b places list → length a ≤ places.left.at → length b ≤ places.right.at
     → list ≡ goal_of how a b
 combine_end how a b places list so_far over_a over_b =
     so_far.built
     ∙ take_all so_far.walked.rank (goal_of how a b)
     (omega (
       arith,
-      goal_short how a b,
-      rest_none a places.left so_far.walked.rank so_far.walked.left over_a,
-      rest_none b places.right so_far.walked.rank so_far.walked.right over_b,
+      goal_length how a b,
+      rest_past_end a places.left so_far.walked.rank so_far.walked.left over_a,
+      rest_past_end b places.right so_far.walked.rank so_far.walked.right over_b,
     ))

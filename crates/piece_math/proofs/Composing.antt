@@ -1,5 +1,5 @@
--- A composition may be computed from weights that are saturated and trimmed. Saturated: numbers above 2 ^ 128 - 1 become 2 ^ 128 - 1. Trimmed: zeros
--- at the end are left out.
+-- A composition may be computed from weights that are saturated (numbers above 2 ^ 128 - 1 become 2 ^ 128 - 1) and trimmed (zeros at the end are
+-- left out).
 use Rattle.std.proofs.Common.{Result, ◌≡◌, ℕ, suc, ◌+◌, ◌*◌, ◌<◌, ◌≤◌, List, [], ◌∷◌, length, map, drop, replicate, refl, ap, sym, ◌∙◌, sum, arith}
 use Rattle.std.specs.List.{AllByRecursion, All}
 use Rattle.std.proofs.lemmas.Result.{IfOk-weaker}
@@ -53,12 +53,12 @@ composed_value r g weights cs is grouped =
     IfOk-weaker r (λ list. list ≡ map saturated (trimmed (block_sums g weights))) (λ list. list ≡ map saturated (composed g cs))
     (λ list e. e ∙ ap (λ u. map saturated (trimmed (block_sums g u))) is ∙ saturated-composed g (row_weights cs (sum g))) grouped
 
-pub composed_few : {E : Type 0} (r : Result (List ℕ) E) (g weights : List ℕ) (cs : List Child) → IsDescending g → All (λ x. 0 < x) g
+pub composed_runs : {E : Type 0} (r : Result (List ℕ) E) (g weights : List ℕ) (cs : List Child) → IsDescending g → All (λ x. 0 < x) g
     → (0 < length cs → runs weights ≤ class_runs cs) → IfOk r (λ list. list ≡ map saturated (composed g (map lists_of cs)))
     → IfOk r (λ list. runs list ≤ runs g + 2 * runs weights) → IfOk r (λ list. runs list ≤ runs g + 2 * class_runs cs)
-composed_few r g weights [] fall pos few_weights value few =
+composed_runs r g weights [] fall pos few_weights value few =
     IfOk-weaker r (λ list. list ≡ map saturated (composed g [])) (λ list. runs list ≤ runs g + 2 * class_runs [])
     (λ list is. omega (arith, ap runs (is ∙ ap (map saturated) (composed-none g fall (All-recursion g pos))), runs-saturated g)) value
-composed_few r g weights (c ∷ cs) fall pos few_weights value few =
+composed_runs r g weights (c ∷ cs) fall pos few_weights value few =
     IfOk-weaker r (λ list. runs list ≤ runs g + 2 * runs weights) (λ list. runs list ≤ runs g + 2 * class_runs (c ∷ cs))
     (λ list le. omega (arith, le, few_weights (omega arith))) few

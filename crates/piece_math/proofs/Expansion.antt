@@ -1,4 +1,4 @@
--- Pieces stand for a list. These lemmas say how the list and its runs change when a piece is appended or the last piece grows.
+-- How the list that pieces stand for, and its runs, change when a piece is appended or the last piece grows.
 use Rattle.std.proofs.Common.{eqb, ◌≡◌, ℕ, zero, suc, ◌+◌, ◌-◌, ◌*◌, ◌^◌, ◌<◌, ◌≤◌, List, [], ◌∷◌, ◌++◌, length, get_or, take, replicate, refl, ap, sym, ◌∙◌, subst, sum, arith, length-append, zero-add}
 use Rattle.std.specs.List.{AllByRecursion, All}
 use Rattle.std.proofs.Math.Seq.{get_or-append_seam}
@@ -76,17 +76,17 @@ split_last old d some =
     let whole : length old - 1 + 1 ≡ length old = omega arith in
     sym (take_all (length old) old (omega arith)) ∙ ap (λ k. take k old) (sym whole) ∙ take_more old (length old - 1) d (omega arith)
 
-module _ (old : List Piece) (d : Piece) (v n : ℕ) (some : 0 < length old) (same : (get_or old (length old - 1) d).value ≡ v) where
+module _ (old : List Piece) (d : Piece) (v n : ℕ) (not_empty : 0 < length old) (last_has_value : (get_or old (length old - 1) d).value ≡ v) where
   pub expanded-with_last : expanded (take (length old - 1) old ++ record { value = v; count = (get_or old (length old - 1) d).count + n } ∷ []) ≡ expanded old ++ replicate n v
   expanded-with_last =
-      expanded-grown (take (length old - 1) old) (get_or old (length old - 1) d) (record { value = v; count = (get_or old (length old - 1) d).count + n }) n (sym same) refl
-      ∙ ap (λ ps. expanded ps ++ replicate n v) (sym (split_last old d some))
+      expanded-grown (take (length old - 1) old) (get_or old (length old - 1) d) (record { value = v; count = (get_or old (length old - 1) d).count + n }) n (sym last_has_value) refl
+      ∙ ap (λ ps. expanded ps ++ replicate n v) (sym (split_last old d not_empty))
 
   pub ArePieces-with_last : ArePieces old → length (expanded old) + n < 2 ^ 64
       → ArePieces (take (length old - 1) old ++ record { value = v; count = (get_or old (length old - 1) d).count + n } ∷ [])
   ArePieces-with_last are room = record {
-    falls = AreRuns-grown (take (length old - 1) old) (get_or old (length old - 1) d) (record { value = v; count = (get_or old (length old - 1) d).count + n }) n (sym same) refl
-        (subst AreRuns (split_last old d some) are.falls);
+    falls = AreRuns-grown (take (length old - 1) old) (get_or old (length old - 1) d) (record { value = v; count = (get_or old (length old - 1) d).count + n }) n (sym last_has_value) refl
+        (subst AreRuns (split_last old d not_empty) are.falls);
     fits = omega (arith, ap length expanded-with_last, length-append (expanded old) (replicate n v), length-replicate n v);
   }
 

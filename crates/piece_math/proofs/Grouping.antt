@@ -1,10 +1,10 @@
--- A walk goes along the blocks of a parent list and along the weights of their rows. An element x of the parent list makes a block of x rows.
+-- The walk along the blocks of a parent list and along the weights of their rows. An element x of the parent list makes a block of x rows.
 use Rattle.std.proofs.Common.{◌≡◌, ℕ, zero, suc, ◌+◌, ◌-◌, ◌*◌, ◌/◌, ◌^◌, ◌<◌, ◌≤◌, min, List, [], ◌∷◌, ◌++◌, length, get_or, map, take, drop, replicate, refl, ap, sym, ◌∙◌, arith, length-drop, length-append, inl, inr, ◌⊎◌}
 use Rattle.std.specs.List.{AllByRecursion}
 use Rattle.std.proofs.Math.Nat.{mul-le-mul_left}
 use Rattle.std.proofs.lemmas.Bool.{cases_lt}
 use Rattle.std.proofs.lemmas.List.{take_all, length-map, length-replicate}
-use Rattle.degree_sequences.proofs.FallingLists.{IsDescending-from_sums, window, trimmed_positive}
+use Rattle.degree_sequences.proofs.FallingLists.{IsDescending-from_sums, sums_of_windows, trimmed_positive}
 use Rattle.degree_sequences.proofs.RunningSums.{running_sum-suc, running_sum-past, running_sum-add, running_sum-mono, running_sum-block_sums}
 use Rattle.degree_sequences.specs.Composition.{block_sums}
 use Rattle.degree_sequences.specs.Descending.{IsDescending, trimmed}
@@ -20,7 +20,7 @@ use Rattle.piece_math.proofs.Expansion.{IsDescending-expanded}
 use Rattle.piece_math.proofs.PiecePlaces.{equal_ahead, IsPiecePlace-start}
 use Rattle.piece_math.proofs.RunningMinima.{element_from_sums, running_sum-has_run}
 use Rattle.piece_math.proofs.Spreading.{IsDescending-trimmed, length-trimmed-le, get_or-trimmed}
-use Rattle.piece_math.proofs.Walking.{element_ahead, rest_after, rest_none}
+use Rattle.piece_math.proofs.Walking.{element_ahead, rest_after, rest_past_end}
 
 -- ---- sums of blocks
 
@@ -39,7 +39,7 @@ IsDescending-block_sums g u fg fu = IsDescending-from_sums (block_sums g u) (λ 
       running_sum-block_sums g u (suc (suc r)),
       ap (running_sum u) one,
       ap (running_sum u) two,
-      window u fu (running_sum g r) (running_sum g (suc r)) (get_or g r 0) (get_or g (suc r) 0) (running_sum-mono g r (suc r) (omega arith)) (fg r),
+      sums_of_windows u fu (running_sum g r) (running_sum g (suc r)) (get_or g r 0) (get_or g (suc r) 0) (running_sum-mono g r (suc r) (omega arith)) (fg r),
     ))
 
 block_element : (g u : List ℕ) (r v : ℕ) → running_sum u (running_sum g (r + 1)) ≡ running_sum u (running_sum g r) + v → get_or (block_sums g u) r 0 ≡ v
@@ -71,7 +71,7 @@ rest_longer (p ∷ ps) (suc i) used h = rest_longer ps i used (omega arith)
 
 -- ---- the walk
 
--- the next block has more rows than are left in the piece of its first row
+-- the next block goes on past the end of the piece that has its first row
 abbrev pub IsMixed : List Piece → List Piece → PiecePlace → PiecePlace → Type 0
 IsMixed g u at row = (ahead_of u row).count < (ahead_of g at).value
 
@@ -121,8 +121,8 @@ module _ {g u : List Piece} (are_g : ArePieces g) (are_u : ArePieces u) where
   module _ {at row : PiecePlace} {list : List ℕ} (so_far : GroupedSoFar g u at row list) where
     pub grouped_end : (length g ≤ at.at) ⊎ (length u ≤ row.at) → list ≡ grouped_list g u
     grouped_end over = so_far.built ∙ take_all so_far.rank (grouped_list g u) (elim over [
-      | inl no_block ↦ omega (arith, grouped_short, rest_none g at so_far.rank so_far.blocks no_block)
-      | inr no_row ↦ (let past : length (expanded u) ≤ running_sum (expanded g) so_far.rank = rest_none u row (running_sum (expanded g) so_far.rank) so_far.rows no_row in
+      | inl no_block ↦ omega (arith, grouped_short, rest_past_end g at so_far.rank so_far.blocks no_block)
+      | inr no_row ↦ (let past : length (expanded u) ≤ running_sum (expanded g) so_far.rank = rest_past_end u row (running_sum (expanded g) so_far.rank) so_far.rows no_row in
           ends_at_zero (grouped_list g u) grouped_positive so_far.rank
           (get_or-grouped g u so_far.rank 0
           (omega (
@@ -149,8 +149,8 @@ module _ {g u : List Piece} (are_g : ArePieces g) (are_u : ArePieces u) where
     -- ---- whole blocks within one run of rows
 
     module _ {count : ℕ} (some_blocks : count ≤ (ahead_of g at).count) (some_rows : (ahead_of g at).value * count ≤ (ahead_of u row).count) where
-      pub whole_run : HasRun (grouped_list g u) so_far.rank count (saturated ((ahead_of g at).value * (ahead_of u row).value))
-      whole_run = record {
+      pub full_blocks_run : HasRun (grouped_list g u) so_far.rank count (saturated ((ahead_of g at).value * (ahead_of u row).value))
+      full_blocks_run = record {
         same = λ k h.
             let x : ℕ = (ahead_of g at).value in
             let w : ℕ = (ahead_of u row).value in
@@ -166,21 +166,21 @@ module _ {g u : List Piece} (are_g : ArePieces g) (are_u : ArePieces u) where
             (ap (running_sum U) rows_next ∙ there ∙ omega arith ∙ ap (λ n. n + x * w) (sym here ∙ ap (running_sum U) (sym (block_rows k (omega arith)))));
       }
 
-      pub whole_step : {new : List ℕ} {at' row' : PiecePlace} → IsAppended list new (saturated ((ahead_of g at).value * (ahead_of u row).value)) count
+      pub full_blocks_step : {new : List ℕ} {at' row' : PiecePlace} → IsAppended list new (saturated ((ahead_of g at).value * (ahead_of u row).value)) count
           → rest_from g at' ≡ drop count (rest_from g at) → rest_from u row' ≡ drop ((ahead_of g at).value * count) (rest_from u row) → IsPiecePlace g at' → IsPiecePlace u row'
           → (runs new ≤ at'.at + 2 * row'.at) ⊎ ((runs new ≤ at'.at + 2 * row'.at + 1) × IsMixed g u at' row') → GroupedSoFar g u at' row' new
-      whole_step {new} {at'} {row'} put rest_g rest_u place_g place_u few = record {
+      full_blocks_step {new} {at'} {row'} put rest_g rest_u place_g place_u few = record {
         rank = so_far.rank + count;
         blocks = rest_after g at at' so_far.rank count so_far.blocks rest_g;
         rows = rest_after u row row' (running_sum (expanded g) so_far.rank) ((ahead_of g at).value * count) so_far.rows rest_u
             ∙ ap (λ n. drop n (expanded u)) (omega (arith, block_rows count some_blocks));
         block_place = place_g;
         row_place = place_u;
-        built = run_built so_far.built whole_run grouped_positive put;
+        built = run_built so_far.built full_blocks_run grouped_positive put;
         few = few;
       }
 
-    pub whole_few : (new : List ℕ) (at' row' : PiecePlace) (count : ℕ) → at.at < length g → row.at < length u → 0 < (ahead_of g at).value → (ahead_of g at).value ≤ (ahead_of u row).count
+    pub full_blocks_runs : (new : List ℕ) (at' row' : PiecePlace) (count : ℕ) → at.at < length g → row.at < length u → 0 < (ahead_of g at).value → (ahead_of g at).value ≤ (ahead_of u row).count
         → count ≡ min ((ahead_of u row).count / (ahead_of g at).value) (ahead_of g at).count → runs new ≤ runs list + 1 → at.at ≤ at'.at → row.at ≤ row'.at
         → (at.at < length g → count ≡ (ahead_of g at).count → at'.at ≡ at.at + 1)
         → (at.at < length g → count < (ahead_of g at).count → at' ≡ record { at = at.at; used = at.used + count })
@@ -188,7 +188,7 @@ module _ {g u : List Piece} (are_g : ArePieces g) (are_u : ArePieces u) where
         → (row.at < length u → (ahead_of g at).value * count < (ahead_of u row).count → row' ≡ record { at = row.at; used = row.used + (ahead_of g at).value * count })
         → (ahead_of g at).value * count ≤ (ahead_of u row).count
         → (runs new ≤ at'.at + 2 * row'.at) ⊎ ((runs new ≤ at'.at + 2 * row'.at + 1) × IsMixed g u at' row')
-    whole_few new at' row' count in_g in_u pos fits count_is more stays_g stays_u ends_g within_g ends_u within_u some_rows =
+    full_blocks_runs new at' row' count in_g in_u pos fits count_is more stays_g stays_u ends_g within_g ends_u within_u some_rows =
         let before : runs list ≤ at.at + 2 * row.at = elim so_far.few [ inl few ↦ few | inr mixed ↦ absurd (omega (arith, mixed.1)) ] in
         elim (cases_lt count (ahead_of g at).count) [
           | inr all_blocks ↦ inl (omega (arith, before, ends_g in_g (omega (arith, count_is))))
@@ -248,11 +248,11 @@ block_positive (p ∷ ps) (suc i) used fall h = block_positive ps i used fall.2 
 
 -- ---- how many whole blocks fit into a run
 
-pub no_whole : (rows x : ℕ) → 0 < x → rows / x ≡ 0 → rows < x
-no_whole rows x pos none = omega (arith, ap (λ n. x * n) none)
+pub block_exceeds_run : (rows x : ℕ) → 0 < x → rows / x ≡ 0 → rows < x
+block_exceeds_run rows x pos none = omega (arith, ap (λ n. x * n) none)
 
-pub some_whole : (rows x : ℕ) → 0 < x → (rows / x ≡ 0 → ⊥) → x ≤ rows
-some_whole rows x pos some = let one : x * 1 ≤ x * (rows / x) = mul-le-mul_left x (omega (arith, some)) in omega (arith, one)
+pub block_fits_run : (rows x : ℕ) → 0 < x → (rows / x ≡ 0 → ⊥) → x ≤ rows
+block_fits_run rows x pos some = let one : x * 1 ≤ x * (rows / x) = mul-le-mul_left x (omega (arith, some)) in omega (arith, one)
 
-pub whole_rows : (rows x count : ℕ) → 0 < x → count ≤ rows / x → x * count ≤ rows
-whole_rows rows x count pos h = let le : x * count ≤ x * (rows / x) = mul-le-mul_left x h in omega (arith, le)
+pub blocks_fit_run : (rows x count : ℕ) → 0 < x → count ≤ rows / x → x * count ≤ rows
+blocks_fit_run rows x count pos h = let le : x * count ≤ x * (rows / x) = mul-le-mul_left x h in omega (arith, le)

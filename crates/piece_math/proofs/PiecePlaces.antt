@@ -1,4 +1,4 @@
--- These lemmas are about the positions of a walk along pieces. They say which elements are ahead of a position, and which position comes next.
+-- Positions of a walk along pieces: which elements are ahead of a position, and which position comes next.
 use Rattle.std.proofs.Common.{◌≡◌, ℕ, zero, suc, ◌+◌, ◌-◌, ◌^◌, ◌<◌, ◌≤◌, min, List, [], ◌∷◌, ◌++◌, length, get_or, drop, replicate, refl, ap, sym, ◌∙◌, arith, length-append, zero-add, ◌⊎◌, inl, inr}
 use Rattle.std.proofs.Math.Nat.{suc-add}
 use Rattle.std.proofs.Math.Seq.{drop-nil}

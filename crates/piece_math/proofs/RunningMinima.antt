@@ -1,4 +1,4 @@
--- The lesser of two lists is defined by its running sums. These lemmas are about the walk that builds it.
+-- The walk that builds the lesser of two lists, which is defined by its running sums.
 use Rattle.std.proofs.Common.{◌≡◌, ℕ, zero, suc, ◌+◌, ◌*◌, ◌^◌, ◌<◌, ◌≤◌, min, max, List, [], ◌∷◌, length, get_or, take, refl, ap, sym, ◌∙◌, subst, sum, arith, add-zero}
 use Rattle.std.specs.List.{AllByRecursion}
 use Rattle.std.proofs.lemmas.List.{take_all}
@@ -16,7 +16,7 @@ use Rattle.piece_math.specs.PiecePlaces.{IsStretch}
 use Rattle.piece_math.specs.Lines.{lower_at, IsBend}
 use Rattle.piece_math.proofs.Expansion.{IsDescending-expanded}
 use Rattle.piece_math.proofs.Building.{HasRun, run_built, ends_at_zero}
-use Rattle.piece_math.proofs.Walking.{Walked, at_left, at_right, walk_on, walk_start, rest_none}
+use Rattle.piece_math.proofs.Walking.{Walked, at_left, at_right, walk_on, walk_start, rest_past_end}
 
 pub element_from_sums : (s : List ℕ) (r v : ℕ) → running_sum s (r + 1) ≡ running_sum s r + v → get_or s r 0 ≡ v
 element_from_sums s r v h = let e : r + 1 ≡ suc r = omega arith in omega (arith, running_sum-suc s r, ap (running_sum s) e, h)
@@ -27,19 +27,19 @@ running_sum-has_run s n c x run (suc k) h =
     let e : n + suc k ≡ suc (n + k) = omega arith in
     omega (arith, ap (running_sum s) e, running_sum-suc s (n + k), run.same k (omega arith), running_sum-has_run s n c x run k (omega arith))
 
-onto_tail : (x : ℕ) (s : List ℕ) → IsDescending (cons_unless_zero_at_end x s) → IsDescending s
-onto_tail zero [] fall = λ r. omega arith
-onto_tail zero (y ∷ s) fall = λ r. fall (suc r)
-onto_tail (suc x) s fall = λ r. fall (suc r)
+tail_descends : (x : ℕ) (s : List ℕ) → IsDescending (cons_unless_zero_at_end x s) → IsDescending s
+tail_descends zero [] fall = λ r. omega arith
+tail_descends zero (y ∷ s) fall = λ r. fall (suc r)
+tail_descends (suc x) s fall = λ r. fall (suc r)
 
-onto_positive : (x : ℕ) (s : List ℕ) → IsDescending (cons_unless_zero_at_end x s) → AllByRecursion (λ y. 0 < y) s → AllByRecursion (λ y. 0 < y) (cons_unless_zero_at_end x s)
-onto_positive zero [] fall all = tt
-onto_positive zero (y ∷ s) fall all = absurd (omega (arith, fall 0, all.0))
-onto_positive (suc x) s fall all = (omega arith, all)
+cons_is_positive : (x : ℕ) (s : List ℕ) → IsDescending (cons_unless_zero_at_end x s) → AllByRecursion (λ y. 0 < y) s → AllByRecursion (λ y. 0 < y) (cons_unless_zero_at_end x s)
+cons_is_positive zero [] fall all = tt
+cons_is_positive zero (y ∷ s) fall all = absurd (omega (arith, fall 0, all.0))
+cons_is_positive (suc x) s fall all = (omega arith, all)
 
 pub positive-falling_trimmed : (s : List ℕ) → IsDescending (trimmed s) → AllByRecursion (λ y. 0 < y) (trimmed s)
 positive-falling_trimmed [] fall = tt
-positive-falling_trimmed (x ∷ s) fall = onto_positive x (trimmed s) fall (positive-falling_trimmed s (onto_tail x (trimmed s) fall))
+positive-falling_trimmed (x ∷ s) fall = cons_is_positive x (trimmed s) fall (positive-falling_trimmed s (tail_descends x (trimmed s) fall))
 
 -- ---- the lesser of two lists
 
@@ -62,7 +62,7 @@ lesser_ends s t r over_s over_t fs ft =
     )))
 
 -- This is the state of the walk. The lesser list is built up to the positions; `left_sum` and `right_sum` are the two running sums there
-pub record Lessened (a b : List Piece) (places : PiecePlaces) (list : List ℕ) (left_sum right_sum : ℕ) : Type 0 where
+pub record LesserSoFar (a b : List Piece) (places : PiecePlaces) (list : List ℕ) (left_sum right_sum : ℕ) : Type 0 where
   pub walked : Walked a b places
   pub left : left_sum ≡ running_sum (expanded a) walked.rank
   pub right : right_sum ≡ running_sum (expanded b) walked.rank
@@ -70,7 +70,7 @@ pub record Lessened (a b : List Piece) (places : PiecePlaces) (list : List ℕ) 
   pub few : runs list ≤ 3 * (places.left.at + places.right.at)
 
 pub lesser_start : (a b : List Piece) → ArePieces a → ArePieces b
-    → Lessened a b (record { left = record { at = 0; used = 0 }; right = record { at = 0; used = 0 } }) [] 0 0
+    → LesserSoFar a b (record { left = record { at = 0; used = 0 }; right = record { at = 0; used = 0 } }) [] 0 0
 lesser_start a b are_a are_b = record { walked = walk_start a b are_a are_b; left = refl; right = refl; built = refl; few = omega arith }
 
 module _ {a b : List Piece} (are_a : ArePieces a) (are_b : ArePieces b) where
@@ -91,32 +91,32 @@ module _ {a b : List Piece} (are_a : ArePieces a) (are_b : ArePieces b) where
   pub lesser_positive : AllByRecursion (λ y. 0 < y) (lesser (expanded a) (expanded b))
   lesser_positive = positive-lesser (expanded a) (expanded b) falls_a falls_b
 
-  pub lesser_end : (places : PiecePlaces) (list : List ℕ) (left_sum right_sum : ℕ) → Lessened a b places list left_sum right_sum → length a ≤ places.left.at → length b ≤ places.right.at
+  pub lesser_end : (places : PiecePlaces) (list : List ℕ) (left_sum right_sum : ℕ) → LesserSoFar a b places list left_sum right_sum → length a ≤ places.left.at → length b ≤ places.right.at
       → list ≡ lesser (expanded a) (expanded b)
   lesser_end places list left_sum right_sum so_far over_a over_b =
       so_far.built
       ∙ take_all so_far.walked.rank (lesser (expanded a) (expanded b))
       (lesser_ends (expanded a) (expanded b) so_far.walked.rank
-      (rest_none a places.left so_far.walked.rank so_far.walked.left over_a)
-      (rest_none b places.right so_far.walked.rank so_far.walked.right over_b) falls_a falls_b)
+      (rest_past_end a places.left so_far.walked.rank so_far.walked.left over_a)
+      (rest_past_end b places.right so_far.walked.rank so_far.walked.right over_b) falls_a falls_b)
 
-  module _ {places : PiecePlaces} {list : List ℕ} {left_sum right_sum : ℕ} {stretch : Stretch} (so_far : Lessened a b places list left_sum right_sum) (t : IsStretch a b places stretch) where
-    pub left_rises : (k : ℕ) → k ≤ stretch.count → running_sum (expanded a) (so_far.walked.rank + k) ≡ left_sum + k * stretch.left
-    left_rises k h = omega (arith, so_far.left, running_sum-has_run (expanded a) so_far.walked.rank stretch.count stretch.left (record { same = at_left t so_far.walked }) k h)
+  module _ {places : PiecePlaces} {list : List ℕ} {left_sum right_sum : ℕ} {stretch : Stretch} (so_far : LesserSoFar a b places list left_sum right_sum) (t : IsStretch a b places stretch) where
+    pub left_sum_rises : (k : ℕ) → k ≤ stretch.count → running_sum (expanded a) (so_far.walked.rank + k) ≡ left_sum + k * stretch.left
+    left_sum_rises k h = omega (arith, so_far.left, running_sum-has_run (expanded a) so_far.walked.rank stretch.count stretch.left (record { same = at_left t so_far.walked }) k h)
 
-    pub right_rises : (k : ℕ) → k ≤ stretch.count → running_sum (expanded b) (so_far.walked.rank + k) ≡ right_sum + k * stretch.right
-    right_rises k h = omega (arith, so_far.right, running_sum-has_run (expanded b) so_far.walked.rank stretch.count stretch.right (record { same = at_right t so_far.walked }) k h)
+    pub right_sum_rises : (k : ℕ) → k ≤ stretch.count → running_sum (expanded b) (so_far.walked.rank + k) ≡ right_sum + k * stretch.right
+    right_sum_rises k h = omega (arith, so_far.right, running_sum-has_run (expanded b) so_far.walked.rank stretch.count stretch.right (record { same = at_right t so_far.walked }) k h)
 
     -- Along a stretch the running sums of both lists are lines. Those of the lesser list are the lower line.
-    lower_rises : (k : ℕ) → k ≤ stretch.count
+    lesser_sum_rises : (k : ℕ) → k ≤ stretch.count
         → running_sum (lesser (expanded a) (expanded b)) (so_far.walked.rank + k) ≡ lower_at (record { sum = left_sum; step = stretch.left }) (record { sum = right_sum; step = stretch.right }) k
-    lower_rises k h = omega (arith, running_sum-lesser (expanded a) (expanded b) (so_far.walked.rank + k), left_rises k h, right_rises k h)
+    lesser_sum_rises k h = omega (arith, running_sum-lesser (expanded a) (expanded b) (so_far.walked.rank + k), left_sum_rises k h, right_sum_rises k h)
 
     pub left_fits : left_sum + stretch.left * stretch.count ≤ sum (expanded a)
-    left_fits = omega (arith, left_rises stretch.count (omega arith), running_sum-le-sum (expanded a) (so_far.walked.rank + stretch.count))
+    left_fits = omega (arith, left_sum_rises stretch.count (omega arith), running_sum-le-sum (expanded a) (so_far.walked.rank + stretch.count))
 
     pub right_fits : right_sum + stretch.right * stretch.count ≤ sum (expanded b)
-    right_fits = omega (arith, right_rises stretch.count (omega arith), running_sum-le-sum (expanded b) (so_far.walked.rank + stretch.count))
+    right_fits = omega (arith, right_sum_rises stretch.count (omega arith), running_sum-le-sum (expanded b) (so_far.walked.rank + stretch.count))
 
     lower_run : (o n v : ℕ) → o + n ≤ stretch.count
         → ((k : ℕ) → k < n → lower_at (record { sum = left_sum; step = stretch.left }) (record { sum = right_sum; step = stretch.right }) (o + k + 1)
@@ -126,8 +126,8 @@ module _ {a b : List Piece} (are_a : ArePieces a) (are_b : ArePieces b) where
       same = λ k h. element_from_sums (lesser (expanded a) (expanded b)) (so_far.walked.rank + o + k) v
           (let here : so_far.walked.rank + o + k ≡ so_far.walked.rank + (o + k) = omega arith in
           let there : so_far.walked.rank + o + k + 1 ≡ so_far.walked.rank + (o + k + 1) = omega arith in
-          ap (running_sum (lesser (expanded a) (expanded b))) there ∙ lower_rises (o + k + 1) (omega arith) ∙ rises k h
-          ∙ ap (λ n. n + v) (sym (lower_rises (o + k) (omega arith)) ∙ ap (running_sum (lesser (expanded a) (expanded b))) (sym here)));
+          ap (running_sum (lesser (expanded a) (expanded b))) there ∙ lesser_sum_rises (o + k + 1) (omega arith) ∙ rises k h
+          ∙ ap (λ n. n + v) (sym (lesser_sum_rises (o + k) (omega arith)) ∙ ap (running_sum (lesser (expanded a) (expanded b))) (sym here)));
     }
 
     module _ {bend : Bend} (bent : IsBend (record { sum = left_sum; step = stretch.left }) (record { sum = right_sum; step = stretch.right }) stretch.count bend) where
@@ -154,11 +154,11 @@ module _ {a b : List Piece} (are_a : ArePieces a) (are_b : ArePieces b) where
 
       pub lesser_step : {one two new : List ℕ} → IsAppended list one bend.before.value bend.before.count → IsAppended one two bend.between.value bend.between.count
           → IsAppended two new bend.after.value bend.after.count
-          → Lessened a b stretch.next new (left_sum + stretch.left * stretch.count) (right_sum + stretch.right * stretch.count)
+          → LesserSoFar a b stretch.next new (left_sum + stretch.left * stretch.count) (right_sum + stretch.right * stretch.count)
       lesser_step put1 put2 put3 = record {
         walked = walk_on t so_far.walked;
-        left = omega (arith, left_rises stretch.count (omega arith));
-        right = omega (arith, right_rises stretch.count (omega arith));
+        left = omega (arith, left_sum_rises stretch.count (omega arith));
+        right = omega (arith, right_sum_rises stretch.count (omega arith));
         built = run_built (built_between put1 put2) after_run lesser_positive put3
             ∙ ap (λ n. take n (lesser (expanded a) (expanded b))) (omega (arith, bent.counts));
         few = omega (arith, put1.few, put2.few, put3.few, so_far.few, t.onward);

@@ -26,7 +26,7 @@ use Rattle.piece_math.specs.PiecePlaces.{IsStretch}
 use Rattle.piece_math.proofs.Building.{HasRun, run_built}
 use Rattle.piece_math.proofs.Expansion.{IsDescending-expanded}
 use Rattle.piece_math.proofs.RunningMinima.{running_sum-has_run}
-use Rattle.piece_math.proofs.Walking.{Walked, at_left, at_right, walk_on, walk_start, rest_none}
+use Rattle.piece_math.proofs.Walking.{Walked, at_left, at_right, walk_on, walk_start, rest_past_end}
 
 -- ---- elements of trimmed lists
 
@@ -165,7 +165,7 @@ module _ {a b : List Piece} (are_a : ArePieces a) (are_b : ArePieces b) {places 
   spread_end over =
       so_far.built
       ∙ take_all (running_sum (expanded a) so_far.walked.rank) (trimmed (spread (expanded a) (expanded b)))
-      (omega (arith, spread_short, running_sum-past (expanded a) so_far.walked.rank (rest_none a places.left so_far.walked.rank so_far.walked.left over)))
+      (omega (arith, spread_short, running_sum-past (expanded a) so_far.walked.rank (rest_past_end a places.left so_far.walked.rank so_far.walked.left over)))
 
   module _ {stretch : Stretch} (t : IsStretch a b places stretch) where
     rises : running_sum (expanded a) (so_far.walked.rank + stretch.count) ≡ running_sum (expanded a) so_far.walked.rank + stretch.count * stretch.left

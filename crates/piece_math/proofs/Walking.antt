@@ -1,4 +1,4 @@
--- A walk goes along two lists rank by rank. Its two positions are at the same rank.
+-- A walk along two lists, rank by rank: its two positions are at the same rank.
 use Rattle.std.proofs.Common.{◌≡◌, ℕ, ◌+◌, ◌<◌, ◌≤◌, List, [], length, get_or, drop, refl, ap, sym, ◌∙◌, arith, length-drop}
 use Rattle.std.proofs.lemmas.List.{get_or-drop, drop_all}
 use Rattle.std.proofs.Math.Seq.{drop-nil}
@@ -33,8 +33,8 @@ pub rest_after : (ps : List Piece) (place next : PiecePlace) (n c : ℕ) → res
     → rest_from ps next ≡ drop (n + c) (expanded ps)
 rest_after ps place next n c at_n after = after ∙ ap (drop c) at_n ∙ drop-drop n c (expanded ps)
 
-pub rest_none : (ps : List Piece) (place : PiecePlace) (n : ℕ) → rest_from ps place ≡ drop n (expanded ps) → length ps ≤ place.at → length (expanded ps) ≤ n
-rest_none ps place n at_n ended =
+pub rest_past_end : (ps : List Piece) (place : PiecePlace) (n : ℕ) → rest_from ps place ≡ drop n (expanded ps) → length ps ≤ place.at → length (expanded ps) ≤ n
+rest_past_end ps place n at_n ended =
     let nothing : rest_from ps place ≡ [] = rw (drop_all place.at ps ended) (drop-nil place.used) in
     omega (arith, length-drop n (expanded ps), ap length at_n, ap length nothing)
 

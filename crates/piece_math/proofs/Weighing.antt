@@ -1,4 +1,4 @@
--- The weights of rows are computed child by child. Each child multiplies the weight of a row.
+-- The weights of rows are computed child by child. The weight of a row is multiplied by one factor for each child.
 use Rattle.std.proofs.Common.{◌≡◌, ℕ, zero, suc, ◌+◌, ◌-◌, ◌*◌, ◌^◌, ◌<◌, ◌≤◌, false, cond, eqb, List, [], ◌∷◌, ◌++◌, length, get_or, map, take, replicate, refl, ap, sym, ◌∙◌, subst, sum, arith, inl, inr}
 use Rattle.std.specs.List.{AllByRecursion}
 use Rattle.std.proofs.Math.Nat.{one-mul, mul_assoc}
@@ -114,18 +114,18 @@ runs-saturated s = runs_after-saturated 0 s
 
 -- ---- the loop over the children
 
--- this is the state of the loop: `weights` has the weights by the first i children
+-- this is the state of the loop: `weights` has the rows' weights as products over the first i children
 pub record WeightsSoFar (cs : List Child) (rows i : ℕ) (weights : List ℕ) : Type 0 where
   pub lists : AllByRecursion (IsChildOf rows) (map lists_of (take i cs))
   pub value : weights ≡ map saturated (trimmed (row_weights (map lists_of (take i cs)) rows))
   pub few : 0 < i → runs weights ≤ class_runs (take i cs)
 
-pub weights_alone : (rows : ℕ) {list : List ℕ} → IsAppended [] list 1 rows → list ≡ map saturated (trimmed (row_weights [] rows))
-weights_alone rows put = put.some (omega arith) ∙ sym (weights-none rows)
+pub weights_without_children : (rows : ℕ) {list : List ℕ} → IsAppended [] list 1 rows → list ≡ map saturated (trimmed (row_weights [] rows))
+weights_without_children rows put = put.some (omega arith) ∙ sym (weights-none rows)
 
-pub some_children : (cs : List Child) → eqb (length cs) 0 ≡ false → 0 < length cs
-some_children [] h = absurd (cc h)
-some_children (c ∷ cs) h = omega arith
+pub children_exist : (cs : List Child) → eqb (length cs) 0 ≡ false → 0 < length cs
+children_exist [] h = absurd (cc h)
+children_exist (c ∷ cs) h = omega arith
 
 pub weights_first : (cs : List Child) (rows : ℕ) (own : List ℕ) (c : Child) → 0 < length cs → c ≡ get_or cs 0 c → sum c.column ≡ rows
     → IsChildOf (sum c.column) (lists_of c) → own ≡ trimmed (row_weights (lists_of c ∷ []) (sum c.column)) → map saturated own ≡ own → runs own ≤ runs c.class

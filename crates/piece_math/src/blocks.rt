@@ -46,7 +46,7 @@ fn block_from(weights: &[Piece], start: PiecePlace, rows: u128) -> Block
     Block { sum, next }
 }
 
-// Sums the weights by blocks. Whole blocks inside one piece of weights make one piece together. A block that crosses the
+// Sums the weights by blocks. Equal blocks that lie within one piece of weights make one piece of the result. A block that crosses the
 // end of a piece makes a piece of its own.
 fn grouped(parent: &Pieces, weights: &Pieces) -> Result<Pieces, NoMemory>
     ensures falls { IsDescending parent.now }

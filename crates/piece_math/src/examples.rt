@@ -1,4 +1,4 @@
-//! The list that pieces stand for: an example.
+//! An example of pieces and the list that they stand for.
 ghost use Rattle.std.specs.Prelude.{◌≡◌, ◌∷◌, []};
 ghost use Rattle.piece_math.specs.Expanded.{expanded};
 

@@ -53,9 +53,8 @@ pub fn compose_is_monotone()
 {}
 
 /// Composition scales. Suppose that K times each running sum of the near parent list is at most K + 1 times the exact list's running sum. Suppose
-/// the same for the columns. For the class lists suppose it with each child's scale in place of K, and its factor in place of K + 1. Then it holds
-/// for the compositions too. There K is multiplied by the product of all scales, and K + 1 by the product of all factors. Only the near columns have
-/// to be in descending order.
+/// it also of each child's column, and, with the child's scale and factor for K and K + 1, of its class list. Then the compositions satisfy it
+/// with K times the product of the scales, and K + 1 times that of the factors. Only the near columns have to be in descending order.
 pub fn compose_scales()
     ensures { (accuracy : ℕ) (parent exact_parent : List ℕ) (children : List MatchedChild)
         → SumsAreWithin accuracy (accuracy + 1) parent exact_parent → AllByRecursion (IsNear accuracy) children
@@ -101,7 +100,7 @@ pub fn instances()
         × HasHigherSums (3 ∷ 3 ∷ []) (3 ∷ 2 ∷ 1 ∷ [])
         × AllZip ChildIsAbove children lower
         × HasHigherSums (composed (3 ∷ 3 ∷ []) children) (composed (3 ∷ 2 ∷ 1 ∷ []) lower) }
-    // accuracy 1; twice the running sums of the class list 6, 1 are at most three times those of 4, 1
+    // accuracy 1; twice the running sums of the class list [6, 1] are at most three times the running sums of [4, 1]
     ensures compose_scales { let near : ChildLists = record { column = 3 ∷ 3 ∷ []; class = 6 ∷ 1 ∷ [] } in
         let exact : ChildLists = record { column = 3 ∷ 2 ∷ 1 ∷ []; class = 4 ∷ 1 ∷ [] } in
         let child : MatchedChild = record { near = near; exact = exact; scale = 2; factor = 3 } in

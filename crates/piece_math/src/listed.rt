@@ -20,7 +20,7 @@ fn run_length(list: &[u64], start: usize) -> usize
 }
 
 impl Pieces {
-    /// The given list, as pieces. The time grows with the number of runs and hardly with the length, since a long list of degrees has few runs.
+    /// The given list, as pieces. The end of each run is found by binary search, so the time grows with the number of runs, hardly with the length.
     pub fn from_list(alloc: Global, list: &[u64]) -> Result<Pieces, NoMemory>
         requires falls { IsDescending list.now }
         requires positive { All (λ x. 0 < x) list.now }

@@ -1,7 +1,7 @@
-//! Lists whose running sums are minima: the lesser of two lists, and a list cut at a number.
+//! Lists whose running sums are minima: the lesser of two lists, and a list whose running sums are capped at a number.
 ghost use Rattle.std.specs.Prelude.{◌≡◌, ◌+◌, ◌*◌, ◌^◌, ◌<◌, ◌≤◌, IfOk};
 ghost use Rattle.std.specs.List.{sum};
-ghost use Rattle.degree_sequences.specs.RunningSums.{lesser, cut_at};
+ghost use Rattle.degree_sequences.specs.RunningSums.{lesser, capped_at};
 ghost use Rattle.degree_sequences.specs.Runs.{runs};
 ghost use Rattle.piece_math.specs.Lines.{IsBend};
 
@@ -115,7 +115,7 @@ impl Pieces {
 
     /// The list whose running sum at each rank is the lesser of this list's running sum and `n`.
     pub fn cap(&self, n: u64) -> Result<Pieces, NoMemory>
-        ensures value { IfOk result (λ list. list ≡ cut_at self.now n) }
+        ensures value { IfOk result (λ list. list ≡ capped_at self.now n) }
         ensures few_pieces { IfOk result (λ list. runs list ≤ runs self.now + 1) }
     {
         let mut list = Pieces::empty(self.alloc());

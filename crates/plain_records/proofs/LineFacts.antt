@@ -3,7 +3,7 @@ use Rattle.std.proofs.Common.{◌≡◌, ℕ, suc, ◌≤◌, Bool, true, false,
 use Rattle.std.specs.List.{filter, onto_first, slice_split}
 use Rattle.plain_records.specs.Plain.{after_first, ends_line, before_first, has_bytes, lines_of}
 
--- the parts after the first
+-- the parts after the first part
 abbrev pub more_parts : (ℕ → Bool) → List ℕ → List (List ℕ)
 more_parts p [] = []
 more_parts p (c ∷ rest) = if p c then slice_split p rest else more_parts p rest
@@ -14,7 +14,7 @@ split_by : (p : ℕ → Bool) (c : ℕ) (rest : List ℕ) (b : Bool) → slice_s
 split_by p c rest true e = refl
 split_by p c rest false e = ap (onto_first c) e
 
--- the first part and those after it
+-- the first part, and the parts after it
 pub split_first : (p : ℕ → Bool) (bytes : List ℕ) → slice_split p bytes ≡ before_first p bytes ∷ more_parts p bytes
 split_first p [] = refl
 split_first p (c ∷ rest) = split_by p c rest (p c) (split_first p rest)
@@ -28,7 +28,7 @@ lines_behind : (bytes : List ℕ) → filter has_bytes (more_parts ends_line byt
 lines_behind [] = refl
 lines_behind (c ∷ rest) = kept_by rest (ends_line c) (lines_behind rest)
 
--- the first line, if it isn't empty, and those after it
+-- the first line, if it isn't empty, and the lines after it
 pub first_line : (bytes line : List ℕ) (c : ℕ) → before_first ends_line bytes ≡ c ∷ line → lines_of bytes ≡ (c ∷ line) ∷ lines_of (after_first ends_line bytes)
 first_line bytes line c e =
     ap (filter has_bytes) (split_first ends_line bytes ∙ ap (λ l. l ∷ more_parts ends_line bytes) e) ∙ ap (λ ls. (c ∷ line) ∷ ls) (lines_behind bytes)

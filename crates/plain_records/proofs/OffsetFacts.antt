@@ -13,11 +13,11 @@ use Rattle.plain_records.proofs.LineFacts.{first_line, no_line, split_first}
 -- ---- bytes that end a field or a line
 
 -- a byte that ends no field
-record EndsNone (byte : ℕ) : Type 0 where
+record EndsNoField (byte : ℕ) : Type 0 where
   comma : is_comma byte ≡ false
   line : ends_line byte ≡ false
 
-no_end : (byte : ℕ) → ends_field byte ≡ false → EndsNone byte
+no_end : (byte : ℕ) → ends_field byte ≡ false → EndsNoField byte
 no_end byte e = let parts = or_parts (is_comma byte) (ends_line byte) e in record { comma = parts.0; line = parts.1 }
 
 line_by : (a b : Bool) → (a || b) ≡ true → a ≡ false → b ≡ true
@@ -30,7 +30,7 @@ ascii_by byte false true c x y z e = let is : byte ≡ 13 = eqb-true byte 13 y i
 ascii_by byte false false true x y z e = let is : byte ≡ 10 = eqb-true byte 10 z in omega (arith, is)
 ascii_by byte false false false x y z e = absurd (cc)
 
--- what ends a field is an ASCII byte
+-- a byte that ends a field is an ASCII byte
 end_ascii : (byte : ℕ) → ends_field byte ≡ true → byte < 128
 end_ascii byte e = ascii_by byte (byte == 44) (byte == 13) (byte == 10) refl refl refl e
 
@@ -48,12 +48,12 @@ pub field_byte : (bytes : List ℕ) (end : ℕ) → end < length bytes → ends_
     → first_field (drop end bytes) ≡ get_or bytes end 0 ∷ first_field (drop (end + 1) bytes)
 field_byte bytes end l e = ap first_field (drop_more bytes end 0 l) ∙ rw e refl
 
--- a field has no further byte at a byte that ends a field, nor at the end of the bytes
+-- at a byte that ends a field, and at the end of the bytes, the first field is empty
 field_stops : (bytes : List ℕ) (end : ℕ) → end < length bytes → ends_field (get_or bytes end 0) ≡ true → first_field (drop end bytes) ≡ []
 field_stops bytes end l e = ap first_field (drop_more bytes end 0 l) ∙ rw e refl
 
-past_stops : (bytes : List ℕ) (end : ℕ) → length bytes ≤ end → first_field (drop end bytes) ≡ []
-past_stops bytes end l = ap first_field (drop_all end bytes l)
+field_stops_at_end : (bytes : List ℕ) (end : ℕ) → length bytes ≤ end → first_field (drop end bytes) ≡ []
+field_stops_at_end bytes end l = ap first_field (drop_all end bytes l)
 
 pub field_begins : (bytes : List ℕ) (at : ℕ) → at ≤ length bytes → FieldSoFar bytes at at
 field_begins bytes at l = let none : at - at ≡ 0 = omega arith in record { from = omega arith; within = l; so_far = rw none refl }
@@ -94,9 +94,9 @@ taken_then bytes at first end a b =
     ap (λ r. take (first - at) (drop at bytes) ++ take (end - first) r) (ap (λ n. drop n bytes) (sym there) ∙ sym (drop-drop (first - at) at bytes))
     ∙ sym (take_parts (first - at) (end - first) (drop at bytes)) ∙ ap (λ n. take n (drop at bytes)) (sym parts)
 
--- a field that was read up to `first`, and from there up to `end`
-pub field_then : (bytes : List ℕ) (at first end : ℕ) → FieldSoFar bytes at first → FieldSoFar bytes first end → FieldSoFar bytes at end
-field_then bytes at first end f g = record {
+-- if a field was read up to `first`, and from `first` up to `end`, it was read up to `end`
+pub field_read_further : (bytes : List ℕ) (at first end : ℕ) → FieldSoFar bytes at first → FieldSoFar bytes first end → FieldSoFar bytes at end
+field_read_further bytes at first end f g = record {
   from = omega (arith, f.from, g.from);
   within = g.within;
   so_far = f.so_far ∙ ap (λ t. take (first - at) (drop at bytes) ++ t) g.so_far
@@ -117,7 +117,7 @@ pub field_ends : (bytes : List ℕ) (at end : ℕ) → FieldSoFar bytes at end �
 field_ends bytes at end f l e = field_of bytes at end f (field_stops bytes end l e)
 
 pub field_past : (bytes : List ℕ) (at end : ℕ) → FieldSoFar bytes at end → length bytes ≤ end → IsField bytes at end
-field_past bytes at end f l = field_of bytes at end f (past_stops bytes end l)
+field_past bytes at end f l = field_of bytes at end f (field_stops_at_end bytes end l)
 
 -- ---- lines
 
@@ -134,13 +134,13 @@ pub record LineIs (bytes : List ℕ) (fields : List (List ℕ)) (rest : List ℕ
   pub fields_are : first_record bytes ≡ fields
   pub behind_is : after_line bytes ≡ rest
 
--- the line's first field is empty. Bytes that end no field are put in front of the line, and become its first field
-line_along : (field tail : List ℕ) (others : List (List ℕ)) (rest : List ℕ) → list_any ends_field field ≡ false → LineIs tail ([] ∷ others) rest → LineIs (field ++ tail) (field ∷ others) rest
-line_along [] tail others rest h t = t
-line_along (c ∷ field) tail others rest h t =
+-- if a line's first field is empty, bytes without field ends that are put before the line become its first field
+line_with_first_field : (field tail : List ℕ) (others : List (List ℕ)) (rest : List ℕ) → list_any ends_field field ≡ false → LineIs tail ([] ∷ others) rest → LineIs (field ++ tail) (field ∷ others) rest
+line_with_first_field [] tail others rest h t = t
+line_with_first_field (c ∷ field) tail others rest h t =
     let n = or_parts (ends_field c) (list_any ends_field field) h in
     let ends = no_end c n.0 in
-    let next = line_along field tail others rest n.1 t in
+    let next = line_with_first_field field tail others rest n.1 t in
     let comma : is_comma c ≡ false = ends.comma in
     let line : ends_line c ≡ false = ends.line in
     record {
@@ -157,7 +157,7 @@ line_from : (bytes : List ℕ) (at end : ℕ) (others : List (List ℕ)) (rest :
     → LineIs (drop at bytes) (first_field (drop at bytes) ∷ others) rest
 line_from bytes at end others rest f t =
     let none : list_any ends_field (take (end - at) (drop at bytes)) ≡ false = ap (list_any ends_field) (sym f.is) ∙ none_in_front ends_field (drop at bytes) in
-    let whole = line_along (take (end - at) (drop at bytes)) (drop end bytes) others rest none t in
+    let whole = line_with_first_field (take (end - at) (drop at bytes)) (drop end bytes) others rest none t in
     record {
       fields_are = ap first_record (field_and_tail bytes at end f.from) ∙ whole.fields_are ∙ ap (λ x. x ∷ others) (sym f.is);
       behind_is = ap after_line (field_and_tail bytes at end f.from) ∙ whole.behind_is;
@@ -180,7 +180,7 @@ stop_byte bytes end l e = stop_by (get_or bytes end 0) (drop (end + 1) bytes) (e
 tail_ends : (byte : ℕ) (rest : List ℕ) → ends_line byte ≡ true → LineIs (byte ∷ rest) ([] ∷ []) rest
 tail_ends byte rest e = record { fields_are = rw e refl; behind_is = rw e refl }
 
--- a field with no comma after it is the line's last
+-- a field with no comma after it is the line's last field
 pub line_ends : (bytes : List ℕ) (at end : ℕ) → IsField bytes at end → (end < length bytes → is_comma (get_or bytes end 0) ≡ false)
     → LineIs (drop at bytes) (first_field (drop at bytes) ∷ []) (drop (end + 1) bytes)
 line_ends bytes at end f e = line_from bytes at end [] (drop (end + 1) bytes) f (tail_by (cases_lt end (length bytes)))
@@ -235,11 +235,11 @@ count_end bytes at e = by (cases_lt at (length bytes))
     by (inl l) = let line : ends_line (get_or bytes at 0) ≡ true = e l in ap (λ t. length (first_record t)) (drop_more bytes at 0 l) ∙ rw line refl
     by (inr l) = ap (λ t. length (first_record t)) (drop_all at bytes l)
 
--- if a byte that doesn't end the line is dropped from its front, the same bytes come after the line
+-- dropping a first byte that doesn't end the line leaves the bytes after the line unchanged
 pub rest_more : (bytes : List ℕ) (at : ℕ) → at < length bytes → ends_line (get_or bytes at 0) ≡ false → after_line (drop at bytes) ≡ after_line (drop (at + 1) bytes)
 rest_more bytes at l e = ap after_line (drop_more bytes at 0 l) ∙ rw e refl
 
--- what comes after a line begins after the byte that ends it
+-- the bytes after a line begin after the byte that ends the line
 pub rest_end : (bytes : List ℕ) (at : ℕ) → (at < length bytes → ends_line (get_or bytes at 0) ≡ true) → drop (min (at + 1) (length bytes)) bytes ≡ after_line (drop at bytes)
 rest_end bytes at e = drop_min (at + 1) bytes ∙ by (cases_lt at (length bytes))
   where
@@ -249,26 +249,26 @@ rest_end bytes at e = drop_min (at + 1) bytes ∙ by (cases_lt at (length bytes)
 
 -- ---- parts that are UTF-8
 
-pub text_behind : (bytes : List ℕ) (at : ℕ) → IsUtf8 bytes → at < length bytes → get_or bytes at 0 < 128 → IsUtf8 (drop (at + 1) bytes)
-text_behind bytes at text l a = IsUtf8-drop bytes (at + 1) text (IsCharBoundary-after_ascii bytes at text l a)
+pub utf8_after_byte : (bytes : List ℕ) (at : ℕ) → IsUtf8 bytes → at < length bytes → get_or bytes at 0 < 128 → IsUtf8 (drop (at + 1) bytes)
+utf8_after_byte bytes at text l a = IsUtf8-drop bytes (at + 1) text (IsCharBoundary-after_ascii bytes at text l a)
 
 past_by : (bytes : List ℕ) (at : ℕ) → (at < length bytes → get_or bytes at 0 < 128) → IsUtf8 bytes → IsUtf8 (drop (min (at + 1) (length bytes)) bytes)
 past_by bytes at e text = subst IsUtf8 (sym (drop_min (at + 1) bytes)) (by (cases_lt at (length bytes)))
   where
     by : (at < length bytes) ⊎ (length bytes ≤ at) → IsUtf8 (drop (at + 1) bytes)
-    by (inl l) = text_behind bytes at text l (e l)
+    by (inl l) = utf8_after_byte bytes at text l (e l)
     by (inr l) = let more : length bytes ≤ at + 1 = omega (arith, l) in subst IsUtf8 (sym (drop_all (at + 1) bytes more)) IsUtf8-nil
 
 -- the bytes after the end of a line are UTF-8, and so are the bytes after the end of a field
-pub text_past : (bytes : List ℕ) (at : ℕ) → (at < length bytes → ends_line (get_or bytes at 0) ≡ true) → IsUtf8 bytes → IsUtf8 (drop (min (at + 1) (length bytes)) bytes)
-text_past bytes at e text = past_by bytes at (λ l. line_ascii (get_or bytes at 0) (e l)) text
+pub utf8_after_line : (bytes : List ℕ) (at : ℕ) → (at < length bytes → ends_line (get_or bytes at 0) ≡ true) → IsUtf8 bytes → IsUtf8 (drop (min (at + 1) (length bytes)) bytes)
+utf8_after_line bytes at e text = past_by bytes at (λ l. line_ascii (get_or bytes at 0) (e l)) text
 
-pub text_past_field : (bytes : List ℕ) (end : ℕ) → IsUtf8 bytes → first_field (drop end bytes) ≡ [] → IsUtf8 (drop (min (end + 1) (length bytes)) bytes)
-text_past_field bytes end text e = past_by bytes end (λ l. end_ascii (get_or bytes end 0) (stop_byte bytes end l e)) text
+pub utf8_after_field : (bytes : List ℕ) (end : ℕ) → IsUtf8 bytes → first_field (drop end bytes) ≡ [] → IsUtf8 (drop (min (end + 1) (length bytes)) bytes)
+utf8_after_field bytes end text e = past_by bytes end (λ l. end_ascii (get_or bytes end 0) (stop_byte bytes end l e)) text
 
 -- a field of UTF-8 bytes is UTF-8
-pub text_of_field : (bytes : List ℕ) (at end : ℕ) → IsUtf8 bytes → IsUtf8 (drop at bytes) → IsField bytes at end → IsUtf8 (first_field (drop at bytes))
-text_of_field bytes at end text cut f =
+pub utf8_of_field : (bytes : List ℕ) (at end : ℕ) → IsUtf8 bytes → IsUtf8 (drop at bytes) → IsField bytes at end → IsUtf8 (first_field (drop at bytes))
+utf8_of_field bytes at end text cut f =
     let inside : at ≤ length bytes = omega (arith, f.from, f.within) in
     subst IsUtf8 (sym f.is) (IsUtf8-between bytes at end text f.from (IsCharBoundary-from_drop bytes at inside cut) (by (cases_lt end (length bytes))))
   where

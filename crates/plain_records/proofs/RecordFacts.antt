@@ -19,7 +19,7 @@ no_quote_by c rest false e h = record { first = e; others = h }
 no_quote : (c : ℕ) (rest : List ℕ) → has_quote (c ∷ rest) ≡ false → NoQuote c rest
 no_quote c rest h = no_quote_by c rest (c == 34) refl h
 
--- without a quotation mark the machine does the same at the start of a field (`StartField`) as within one (`InField`)
+-- without a quotation mark the machine does the same at the start of a field (`StartField`) as within a field (`InField`)
 begun_field : (fields : List (List ℕ)) (field bytes : List ℕ) → has_quote bytes ≡ false
     → next_record default_config st.StartField fields field bytes ≡ next_record default_config st.InField fields field bytes
 unfolding next_record
@@ -49,12 +49,12 @@ records_after_cr zero bytes = refl
 records_after_cr (suc n) bytes = ap (records_next (records_from default_config n)) (after_cr bytes)
 
 -- within a record, the machine reads the rest of this record from `bytes`, and then the records after it
-abbrev Goes : ℕ → List (List ℕ) → List ℕ → List ℕ → Type 0
-Goes n fields field bytes =
+abbrev ReadsRestOfRecord : ℕ → List (List ℕ) → List ℕ → List ℕ → Type 0
+ReadsRestOfRecord n fields field bytes =
     records_next (records_from default_config n) (next_record default_config st.InField fields field bytes)
     ≡ (fields ++ with_front field (fields_of_line (before_first ends_line bytes))) ∷ records_from default_config n st.StartRecord (after_first ends_line bytes)
 
-goes_end : (n : ℕ) (fields : List (List ℕ)) (field : List ℕ) → Goes n fields field []
+goes_end : (n : ℕ) (fields : List (List ℕ)) (field : List ℕ) → ReadsRestOfRecord n fields field []
 unfolding next_record
 goes_end n fields field = rw append-nil refl
 
@@ -62,37 +62,37 @@ joined : (fields : List (List ℕ)) (field bytes : List ℕ)
     → (fields ++ field ∷ []) ++ with_front [] (fields_of_line bytes) ≡ fields ++ with_front field ([] ∷ fields_of_line bytes)
 joined fields field bytes = rw (append_assoc, append-nil, front_none is_comma bytes) refl
 
-goes_comma : (n : ℕ) (fields : List (List ℕ)) (field rest : List ℕ) → has_quote rest ≡ false → Goes n (fields ++ field ∷ []) [] rest → Goes n fields field (44 ∷ rest)
+goes_comma : (n : ℕ) (fields : List (List ℕ)) (field rest : List ℕ) → has_quote rest ≡ false → ReadsRestOfRecord n (fields ++ field ∷ []) [] rest → ReadsRestOfRecord n fields field (44 ∷ rest)
 unfolding next_record
 goes_comma n fields field rest h next =
     ap (records_next (records_from default_config n)) (begun_field (fields ++ field ∷ []) [] rest h) ∙ next
     ∙ ap (λ record'. record' ∷ records_from default_config n st.StartRecord (after_first ends_line rest)) (joined fields field (before_first ends_line rest))
 
-goes_cr : (n : ℕ) (fields : List (List ℕ)) (field rest : List ℕ) → Goes n fields field (13 ∷ rest)
+goes_cr : (n : ℕ) (fields : List (List ℕ)) (field rest : List ℕ) → ReadsRestOfRecord n fields field (13 ∷ rest)
 unfolding next_record
 goes_cr n fields field rest =
     rw append-nil (ap (λ records. (fields ++ field ∷ []) ∷ records) (records_after_cr n rest))
 
-goes_lf : (n : ℕ) (fields : List (List ℕ)) (field rest : List ℕ) → Goes n fields field (10 ∷ rest)
+goes_lf : (n : ℕ) (fields : List (List ℕ)) (field rest : List ℕ) → ReadsRestOfRecord n fields field (10 ∷ rest)
 unfolding next_record
 goes_lf n fields field rest = rw append-nil refl
 
 goes_byte : (n : ℕ) (fields : List (List ℕ)) (field rest : List ℕ) (c : ℕ) → (c == 44) ≡ false → (c == 13) ≡ false → (c == 10) ≡ false
-    → Goes n fields (field ++ c ∷ []) rest → Goes n fields field (c ∷ rest)
+    → ReadsRestOfRecord n fields (field ++ c ∷ []) rest → ReadsRestOfRecord n fields field (c ∷ rest)
 unfolding next_record
 goes_byte n fields field rest c comma cr lf next =
     rw (comma, cr, lf, comma) (next ∙ ap (λ parts. (fields ++ parts) ∷ records_from default_config n st.StartRecord (after_first ends_line rest))
     (sym (front_more is_comma field (before_first ends_line rest) c)))
 
 goes_by : (n : ℕ) (fields : List (List ℕ)) (field rest : List ℕ) (c : ℕ) (x y z : Bool) → (c == 44) ≡ x → (c == 13) ≡ y → (c == 10) ≡ z → has_quote rest ≡ false
-    → ((fs : List (List ℕ)) (f : List ℕ) → Goes n fs f rest) → Goes n fields field (c ∷ rest)
+    → ((fs : List (List ℕ)) (f : List ℕ) → ReadsRestOfRecord n fs f rest) → ReadsRestOfRecord n fields field (c ∷ rest)
 goes_by n fields field rest c true y z comma cr lf h next =
     let is : c ≡ 44 = eqb-true c 44 comma in rw is (goes_comma n fields field rest h (next (fields ++ field ∷ []) []))
 goes_by n fields field rest c false true z comma cr lf h next = let is : c ≡ 13 = eqb-true c 13 cr in rw is (goes_cr n fields field rest)
 goes_by n fields field rest c false false true comma cr lf h next = let is : c ≡ 10 = eqb-true c 10 lf in rw is (goes_lf n fields field rest)
 goes_by n fields field rest c false false false comma cr lf h next = goes_byte n fields field rest c comma cr lf (next fields (field ++ c ∷ []))
 
-goes : (n : ℕ) (bytes : List ℕ) (fields : List (List ℕ)) (field : List ℕ) → has_quote bytes ≡ false → Goes n fields field bytes
+goes : (n : ℕ) (bytes : List ℕ) (fields : List (List ℕ)) (field : List ℕ) → has_quote bytes ≡ false → ReadsRestOfRecord n fields field bytes
 goes n [] fields field h = goes_end n fields field
 goes n (c ∷ rest) fields field h =
     let parts = no_quote c rest h in
@@ -108,7 +108,7 @@ quotes_behind : (bytes : List ℕ) → has_quote bytes ≡ false → has_quote (
 quotes_behind [] h = refl
 quotes_behind (c ∷ rest) h = let parts = no_quote c rest h in quotes_by c rest (ends_line c) parts.others (quotes_behind rest parts.others)
 
--- from the start of a line on, the machine gives the records of this crate. n + 1 is its fuel
+-- from the start of a line on, the machine gives the records of this crate. It reads at most n + 1 records
 abbrev AreLines : ℕ → List ℕ → Type 0
 AreLines n bytes = records_from default_config (suc n) st.StartRecord bytes ≡ plain_records bytes
 

@@ -2,7 +2,7 @@
 use Rattle.std.specs.Prelude.{ℕ, ◌≡◌, ◌≤◌, ◌-◌, List, [], ◌++◌, length, take, drop}
 use Rattle.plain_records.specs.Plain.{first_field}
 
--- the field that begins at `at` begins with the bytes up to `end`, and its rest begins at `end`
+-- the bytes from `at` up to `end` belong to the field that begins at `at`, and its rest begins at `end`
 pub record FieldSoFar (bytes : List ℕ) (at end : ℕ) : Type 0 where
   pub from : at ≤ end
   pub within : end ≤ length bytes

@@ -2,20 +2,20 @@
 ghost use Rattle.std.specs.Prelude.{◌≡◌, false, IfSome};
 ghost use Rattle.plain_records.specs.Plain.{has_quote};
 
-// The length of a block in bytes. A block is short enough that a byte can count its line feeds. Since the loop keeps only bytes, the compiler tests
-// sixteen bytes at a time.
+// The length of a block in bytes. A block is short enough that a byte can count its line feeds. The loop's variables are single bytes, so that the
+// compiler can test sixteen bytes at a time.
 const BLOCK: usize = 128;
 
 // Whether a block has a quotation mark, and how many line feeds it has.
 #[derive(Clone, Copy)]
-struct Seen {
+struct BlockScan {
     quote: bool,
     line_feeds: u8,
 }
 
 // Looks at each byte of a block. The loop never ends early.
 #[inline]
-fn look_at(block: &[u8]) -> Seen
+fn scan_block(block: &[u8]) -> BlockScan
     ensures { result.quote ≡ has_quote block.now }
 {
     let mut quote = false;
@@ -24,7 +24,7 @@ fn look_at(block: &[u8]) -> Seen
         quote |= *byte == b'"';
         line_feeds = line_feeds.wrapping_add((*byte == b'\n') as u8);
     }
-    Seen { quote, line_feeds }
+    BlockScan { quote, line_feeds }
 }
 
 /// The number of line feeds, or `None` if some byte is a quotation mark. The number only says how much memory to ask for, so the contract doesn't
@@ -34,7 +34,7 @@ pub fn scan(bytes: &[u8]) -> Option<usize>
 {
     let mut line_feeds: usize = 0;
     for block in bytes.chunks(BLOCK) {
-        let seen = look_at(block);
+        let seen = scan_block(block);
         if seen.quote {
             return None;
         }

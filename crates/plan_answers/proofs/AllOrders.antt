@@ -5,7 +5,7 @@ use Rattle.std.specs.List.{AllByRecursion as Each, Contains, IsDistinct, range_w
 use Rattle.std.proofs.lemmas.Bool.{cases_Bool, cases_eq, not-true, not_from_false}
 use Rattle.std.proofs.lemmas.Map.Keys.{IsDistinct-head, IsDistinct-tail, IsDistinct-cons}
 use Rattle.plans.specs.LeftDeep.{IsOrder}
-use Rattle.entry_sets.proofs.Listing.{each, in_front, in_none, in_rest, one_in}
+use Rattle.entry_sets.proofs.Listing.{at_member, in_front, not_in_empty, in_rest, in_front_or_rest}
 use Rattle.order_search.specs.Orders.{IsNotAfter}
 use Rattle.plan_answers.specs.BestOrder.{orders_of, all_orders}
 
@@ -53,16 +53,16 @@ each_of_flat P f (x ∷ xs) h =
 abbrev others : ℕ → List ℕ → List ℕ
 others first entries = filter (λ entry. not (eqb first entry)) entries
 
-kept : (P : ℕ → Type 0) (first : ℕ) (entries : List ℕ) → Each P entries → Each (λ entry. P entry × (eqb first entry ≡ false)) (others first entries)
-kept P first [] h = tt
-kept P first (entry ∷ entries) h = elim (cases_Bool (not (eqb first entry))) [
-  | inl t ↦ rw t ((h.0, not-true (eqb first entry) t), kept P first entries h.1)
-  | inr n ↦ rw n (kept P first entries h.1)
+filtered_still_hold : (P : ℕ → Type 0) (first : ℕ) (entries : List ℕ) → Each P entries → Each (λ entry. P entry × (eqb first entry ≡ false)) (others first entries)
+filtered_still_hold P first [] h = tt
+filtered_still_hold P first (entry ∷ entries) h = elim (cases_Bool (not (eqb first entry))) [
+  | inl t ↦ rw t ((h.0, not-true (eqb first entry) t), filtered_still_hold P first entries h.1)
+  | inr n ↦ rw n (filtered_still_hold P first entries h.1)
 ]
 
 still_in : (test : ℕ → Bool) (xs : List ℕ) (y : ℕ) → Contains xs y → test y ≡ true → Contains (filter test xs) y
-still_in test [] y k t = absurd (in_none y k)
-still_in test (x ∷ xs) y k t = elim (one_in x xs y k) [
+still_in test [] y k t = absurd (not_in_empty y k)
+still_in test (x ∷ xs) y k t = elim (in_front_or_rest x xs y k) [
   | inl old ↦ elim (cases_Bool (test x)) [
     | inl keeps ↦ rw keeps (in_rest x (filter test xs) y (still_in test xs y old t))
     | inr drops ↦ rw drops (still_in test xs y old t)
@@ -81,8 +81,8 @@ none_distinct : IsDistinct eqb []
 unfolding IsDistinct
 none_distinct = tt
 
-begun : (P : ℕ → Type 0) (count first : ℕ) → P first → (rest : List ℕ) → AreArranged (λ entry. P entry × (eqb first entry ≡ false)) count rest → AreArranged P (suc count) (first ∷ rest)
-begun P count first p rest so = record {
+arranged_with_first : (P : ℕ → Type 0) (count first : ℕ) → P first → (rest : List ℕ) → AreArranged (λ entry. P entry × (eqb first entry ≡ false)) count rest → AreArranged P (suc count) (first ∷ rest)
+arranged_with_first P count first p rest so = record {
   entries = (p, each_so (λ entry. P entry × (eqb first entry ≡ false)) P (λ entry both. both.0) rest so.entries);
   once = IsDistinct-cons eqb first rest (each_so (λ entry. P entry × (eqb first entry ≡ false)) (λ entry. eqb first entry ≡ false) (λ entry both. both.1) rest so.entries) so.once;
   all = ap suc so.all;
@@ -94,9 +94,9 @@ arranged P (suc count) entries h =
     each_flat (AreArranged P (suc count)) (λ first. map (λ rest. first ∷ rest) (orders_of count (others first entries))) entries
     (each_so P (λ first. Each (AreArranged P (suc count)) (map (λ rest. first ∷ rest) (orders_of count (others first entries))))
     (λ first p. each_map (AreArranged P (suc count)) (λ rest. first ∷ rest) (orders_of count (others first entries))
-    (each_so (AreArranged (λ entry. P entry × (eqb first entry ≡ false)) count) (λ rest. AreArranged P (suc count) (first ∷ rest)) (begun P count first p)
+    (each_so (AreArranged (λ entry. P entry × (eqb first entry ≡ false)) count) (λ rest. AreArranged P (suc count) (first ∷ rest)) (arranged_with_first P count first p)
     (orders_of count (others first entries))
-    (arranged (λ entry. P entry × (eqb first entry ≡ false)) count (others first entries) (kept P first entries h))))
+    (arranged (λ entry. P entry × (eqb first entry ≡ false)) count (others first entries) (filtered_still_hold P first entries h))))
     entries h)
 
 at_arranged : (Q : List ℕ → Type 0) (count : ℕ) (entries order : List ℕ) → Each Q (orders_of count entries) → AreArranged (Contains entries) count order → Q order
@@ -106,7 +106,7 @@ at_arranged Q (suc count) entries [] h is = absurd (omega (arith, is.all))
 at_arranged Q (suc count) entries (x ∷ xs) h is =
     at_arranged (λ rest. Q (x ∷ rest)) count (others x entries) xs
     (each_of_map Q (λ rest. x ∷ rest) (orders_of count (others x entries))
-    (each (λ first. Each Q (map (λ rest. first ∷ rest) (orders_of count (others first entries)))) entries
+    (at_member (λ first. Each Q (map (λ rest. first ∷ rest) (orders_of count (others first entries)))) entries
     (each_of_flat Q (λ first. map (λ rest. first ∷ rest) (orders_of count (others first entries))) entries h) x is.entries.0))
     (record {
       entries = each_so (λ y. Contains entries y × (eqb x y ≡ false)) (Contains (others x entries))
@@ -126,11 +126,11 @@ are_sorted-append : (xs ys : List (List ℕ)) → AreSorted xs → AreSorted ys 
 are_sorted-append [] ys p q before = q
 are_sorted-append (x ∷ xs) ys p q before = (each_append (IsNotAfter x) xs ys p.0 before.0, are_sorted-append xs ys p.1 q before.1)
 
-are_sorted-begun : (first : ℕ) (xs : List (List ℕ)) → AreSorted xs → AreSorted (map (λ rest. first ∷ rest) xs)
-are_sorted-begun first [] p = tt
-are_sorted-begun first (x ∷ xs) p = (
+are_sorted-arranged_with_first : (first : ℕ) (xs : List (List ℕ)) → AreSorted xs → AreSorted (map (λ rest. first ∷ rest) xs)
+are_sorted-arranged_with_first first [] p = tt
+are_sorted-arranged_with_first first (x ∷ xs) p = (
   each_map (IsNotAfter (first ∷ x)) (λ rest. first ∷ rest) xs (each_so (IsNotAfter x) (λ rest. IsNotAfter (first ∷ x) (first ∷ rest)) (λ rest q. inr (refl, q)) xs p.0),
-  are_sorted-begun first xs p.1,
+  are_sorted-arranged_with_first first xs p.1,
 )
 
 abbrev Ascend : List ℕ → Type 0
@@ -144,18 +144,18 @@ kept_of P test (x ∷ xs) h = elim (cases_Bool (test x)) [
   | inr n ↦ rw n (kept_of P test xs h.1)
 ]
 
-ascend-kept : (test : ℕ → Bool) (xs : List ℕ) → Ascend xs → Ascend (filter test xs)
-ascend-kept test [] h = tt
-ascend-kept test (x ∷ xs) h = elim (cases_Bool (test x)) [
-  | inl t ↦ rw t (kept_of (λ y. x < y) test xs h.0, ascend-kept test xs h.1)
-  | inr n ↦ rw n (ascend-kept test xs h.1)
+ascend-filtered_still_hold : (test : ℕ → Bool) (xs : List ℕ) → Ascend xs → Ascend (filter test xs)
+ascend-filtered_still_hold test [] h = tt
+ascend-filtered_still_hold test (x ∷ xs) h = elim (cases_Bool (test x)) [
+  | inl t ↦ rw t (kept_of (λ y. x < y) test xs h.0, ascend-filtered_still_hold test xs h.1)
+  | inr n ↦ rw n (ascend-filtered_still_hold test xs h.1)
 ]
 
 are_sorted-firsts : (behind : ℕ → List (List ℕ)) → ((first : ℕ) → AreSorted (behind first)) → (firsts : List ℕ) → Ascend firsts → AreSorted (flat_map (λ first. map (λ rest. first ∷ rest) (behind first)) firsts)
 are_sorted-firsts behind h [] a = tt
 are_sorted-firsts behind h (x ∷ xs) a =
     are_sorted-append (map (λ rest. x ∷ rest) (behind x)) (flat_map (λ first. map (λ rest. first ∷ rest) (behind first)) xs)
-    (are_sorted-begun x (behind x) (h x))
+    (are_sorted-arranged_with_first x (behind x) (h x))
     (are_sorted-firsts behind h xs a.1)
     (each_map (λ order. Each (IsNotAfter order) (flat_map (λ first. map (λ rest. first ∷ rest) (behind first)) xs)) (λ rest. x ∷ rest) (behind x)
     (each_any (λ rest. Each (IsNotAfter (x ∷ rest)) (flat_map (λ first. map (λ rest. first ∷ rest) (behind first)) xs)) before (behind x)))
@@ -171,7 +171,7 @@ are_sorted : (count : ℕ) (entries : List ℕ) → Ascend entries → AreSorted
 are_sorted zero entries h = (tt, tt)
 are_sorted (suc count) entries h =
     are_sorted-firsts (λ first. orders_of count (others first entries))
-    (λ first. are_sorted count (others first entries) (ascend-kept (λ entry. not (eqb first entry)) entries h))
+    (λ first. are_sorted count (others first entries) (ascend-filtered_still_hold (λ entry. not (eqb first entry)) entries h))
     entries h
 
 -- ---- the list of the entries 0 to n - 1

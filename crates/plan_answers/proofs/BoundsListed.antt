@@ -5,9 +5,9 @@ use Rattle.std.proofs.lemmas.List.FromFn.{fill_by_all, get_or-map-range_with_len
 use Rattle.limits.specs.Profile.{top_bound}
 use Rattle.plan_answers.specs.Bounds.{bounds_of_sets}
 
-pub one_list : (n : ℕ) (bound : ℕ → ℕ) (bounds : List ℕ) → length bounds ≡ 2 ^ n → ((set : ℕ) → set < 2 ^ n → slice_index bounds set ≡ min (bound set) top_bound) → bounds ≡ bounds_of_sets n bound
+pub list_is_unique : (n : ℕ) (bound : ℕ → ℕ) (bounds : List ℕ) → length bounds ≡ 2 ^ n → ((set : ℕ) → set < 2 ^ n → slice_index bounds set ≡ min (bound set) top_bound) → bounds ≡ bounds_of_sets n bound
 unfolding bounds_of_sets
-one_list n bound bounds all at = fill_by_all (λ set. min (bound set) top_bound) bounds (2 ^ n) 0 all at
+list_is_unique n bound bounds all at = fill_by_all (λ set. min (bound set) top_bound) bounds (2 ^ n) 0 all at
 
 pub length-bounds : (n : ℕ) (bound : ℕ → ℕ) → length (bounds_of_sets n bound) ≡ 2 ^ n
 unfolding bounds_of_sets

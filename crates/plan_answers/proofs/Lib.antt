@@ -1,5 +1,9 @@
 pub mod AllOrders
+pub mod AllTreesListed
 pub mod BestComputed
+pub mod BestTreeComputed
 pub mod BoundsListed
 pub mod OneAnswer
+pub mod OneTreeAnswer
 pub mod SmallPlans
+pub mod SmallTrees

@@ -32,8 +32,8 @@ module _ (bounds scans : List ℕ) (budget : ℕ) where
 
   -- ---- the promise of `choose` is true of the computed result
 
-  along : (order : List ℕ) → IsBest bounds (length scans) order → IsPromised bounds scans budget (result_for_order bounds scans budget order)
-  along order is = elim (cases_lt (2 ^ 128 - 2) (cost bounds order)) [
+  promised_for_order : (order : List ℕ) → IsBest bounds (length scans) order → IsPromised bounds scans budget (result_for_order bounds scans budget order)
+  promised_for_order order is = elim (cases_lt (2 ^ 128 - 2) (cost bounds order)) [
     | inl above ↦ rw (is_past_bits order above) (record { plan = tt; best = tt; within = tt; levels = tt; scans_kept = tt; refused = (cost bounds order, least_of_best bounds (length scans) order is, above) })
     | inr fits_bits ↦ elim (cases_lt budget (cost bounds order)) [
       | inl above ↦ rw (is_over_budget order fits_bits above) (record { plan = tt; best = tt; within = tt; levels = tt; scans_kept = tt; refused = (least_of_best bounds (length scans) order is, above, fits_bits) })
@@ -48,9 +48,9 @@ module _ (bounds scans : List ℕ) (budget : ℕ) where
     ]
   ]
 
-  pub allowed : IsPromised bounds scans budget (plan_answer bounds scans budget)
+  pub is_promised : IsPromised bounds scans budget (plan_answer bounds scans budget)
   unfolding plan_answer
-  allowed = along (best_order bounds (length scans)) (best_computed bounds (length scans))
+  is_promised = promised_for_order (best_order bounds (length scans)) (best_computed bounds (length scans))
 
   -- ---- the promise of `choose` is true of no other result
 
@@ -80,14 +80,14 @@ module _ (bounds scans : List ℕ) (budget : ℕ) where
       is_past_bits (best_order bounds (length scans)) (omega arith)
   refused error.NoMemory other cause = absurd (other refl)
 
-  pub only : (answer : Result Plan PlanError) → budget ≤ 20000000 → IsPromised bounds scans budget answer → (answer ≡ Err error.NoMemory) ⊎ (answer ≡ plan_answer bounds scans budget)
-  only (Ok plan) few is = inr (sym (chosen plan few is.best is.within is.levels is.scans_kept))
-  only (Err error.NoMemory) few is = inl refl
-  only (Err error.PastBits) few is = inr (sym (refused error.PastBits (λ same. absurd (cc)) is.refused))
-  only (Err (error.Budget least)) few is = inr (sym (refused (error.Budget least) (λ same. absurd (cc)) is.refused))
+  pub no_other_result : (answer : Result Plan PlanError) → budget ≤ 20000000 → IsPromised bounds scans budget answer → (answer ≡ Err error.NoMemory) ⊎ (answer ≡ plan_answer bounds scans budget)
+  no_other_result (Ok plan) few is = inr (sym (chosen plan few is.best is.within is.levels is.scans_kept))
+  no_other_result (Err error.NoMemory) few is = inl refl
+  no_other_result (Err error.PastBits) few is = inr (sym (refused error.PastBits (λ same. absurd (cc)) is.refused))
+  no_other_result (Err (error.Budget least)) few is = inr (sym (refused (error.Budget least) (λ same. absurd (cc)) is.refused))
 
-  never_along : (order : List ℕ) → result_for_order bounds scans budget order ≢ Err error.NoMemory
-  never_along order same = elim (cases_lt (2 ^ 128 - 2) (cost bounds order)) [
+  never_out_of_memory_for_order : (order : List ℕ) → result_for_order bounds scans budget order ≢ Err error.NoMemory
+  never_out_of_memory_for_order order same = elim (cases_lt (2 ^ 128 - 2) (cost bounds order)) [
     | inl above ↦ absurd (cc (same, is_past_bits order above))
     | inr fits_bits ↦ elim (cases_lt budget (cost bounds order)) [
       | inl above ↦ absurd (cc (same, is_over_budget order fits_bits above))
@@ -95,6 +95,6 @@ module _ (bounds scans : List ℕ) (budget : ℕ) where
     ]
   ]
 
-  pub never_memory : plan_answer bounds scans budget ≢ Err error.NoMemory
+  pub never_out_of_memory : plan_answer bounds scans budget ≢ Err error.NoMemory
   unfolding plan_answer
-  never_memory = never_along (best_order bounds (length scans))
+  never_out_of_memory = never_out_of_memory_for_order (best_order bounds (length scans))

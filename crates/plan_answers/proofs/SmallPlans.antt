@@ -12,9 +12,9 @@ pub best : best_order three_entries 3 ≡ 0 ∷ 2 ∷ 1 ∷ []
 unfolding best_order
 best = refl
 
-pub from_order : best_order equal_bounds 3 ≡ 0 ∷ 1 ∷ 2 ∷ []
+pub first_of_equal : best_order equal_bounds 3 ≡ 0 ∷ 1 ∷ 2 ∷ []
 unfolding best_order
-from_order = refl
+first_of_equal = refl
 
 pub dearer : best_order dearer_prefix 4 ≡ 2 ∷ 1 ∷ 0 ∷ 3 ∷ []
 unfolding best_order
@@ -40,6 +40,6 @@ pub greatest_cost_refused : plan_answer (1 ∷ (2 ^ 128 - 2) ∷ []) (2 ∷ []) 
 unfolding best_order plan_answer
 greatest_cost_refused = refl
 
-pub through_the_top : bounds_of_sets 1 (λ set. 2 ^ 129) ≡ top_bound ∷ top_bound ∷ []
+pub bounds_above_top : bounds_of_sets 1 (λ set. 2 ^ 129) ≡ top_bound ∷ top_bound ∷ []
 unfolding bounds_of_sets
-through_the_top = refl
+bounds_above_top = refl

@@ -18,6 +18,6 @@ result_for_order bounds scans budget order =
     else if nat_lt budget (cost bounds order) then Err (error.Budget (cost bounds order))
     else Ok (plan_for_order bounds scans order)
 
--- the result for the bounds of all sets of entries. `scans` has the bounds of all scans, and a plan gets these
+-- the result for the bounds of all sets of entries. `scans` has the bounds of all scans, and a plan has these bounds too
 unfoldable pub plan_answer : List ℕ → List ℕ → ℕ → Result Plan PlanError
 plan_answer bounds scans budget = result_for_order bounds scans budget (best_order bounds (length scans))

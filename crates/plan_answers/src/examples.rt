@@ -14,7 +14,7 @@ pub fn small_plans()
     ensures orders { all_orders 3 ≡
         (0 ∷ 1 ∷ 2 ∷ []) ∷ (0 ∷ 2 ∷ 1 ∷ []) ∷ (1 ∷ 0 ∷ 2 ∷ []) ∷ (1 ∷ 2 ∷ 0 ∷ []) ∷ (2 ∷ 0 ∷ 1 ∷ []) ∷ (2 ∷ 1 ∷ 0 ∷ []) ∷ [] }
     ensures best { best_order three_entries 3 ≡ 0 ∷ 2 ∷ 1 ∷ [] }
-    ensures from_order { best_order equal_bounds 3 ≡ 0 ∷ 1 ∷ 2 ∷ [] }
+    ensures first_of_equal { best_order equal_bounds 3 ≡ 0 ∷ 1 ∷ 2 ∷ [] }
     ensures dearer { best_order dearer_prefix 4 ≡ 2 ∷ 1 ∷ 0 ∷ 3 ∷ [] }
     ensures plan { plan_answer three_entries (2 ∷ 2 ∷ 2 ∷ []) 6
         ≡ Ok (plan_of (0 ∷ 2 ∷ 1 ∷ []) (2 ∷ 2 ∷ 2 ∷ []) (2 ∷ 5 ∷ 6 ∷ [])) }
@@ -23,5 +23,5 @@ pub fn small_plans()
     ensures avoided { plan_answer one_pair_past_bits (2 ∷ 2 ∷ 2 ∷ []) 6
         ≡ Ok (plan_of (0 ∷ 2 ∷ 1 ∷ []) (2 ∷ 2 ∷ 2 ∷ []) (2 ∷ 5 ∷ 6 ∷ [])) }
     ensures greatest_cost_refused { plan_answer (1 ∷ (2 ^ 128 - 2) ∷ []) (2 ∷ []) 6 ≡ Err (error.Budget (2 ^ 128 - 2)) }
-    ensures through_the_top { bounds_of_sets 1 (λ set. 2 ^ 129) ≡ top_bound ∷ top_bound ∷ [] }
+    ensures bounds_above_top { bounds_of_sets 1 (λ set. 2 ^ 129) ≡ top_bound ∷ top_bound ∷ [] }
 {}

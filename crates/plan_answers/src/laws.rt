@@ -14,17 +14,17 @@ ghost use Rattle.plan_answers.specs.Promised.{IsPromised};
 /// The computed order is the best order.
 pub fn best_orders()
     ensures best { (bounds : List ℕ) (n : ℕ) → IsBest bounds n (best_order bounds n) }
-    ensures only { (bounds : List ℕ) (n : ℕ) (order : List ℕ) → IsBest bounds n order → order ≡ best_order bounds n }
+    ensures no_other_result { (bounds : List ℕ) (n : ℕ) (order : List ℕ) → IsBest bounds n order → order ≡ best_order bounds n }
 {}
 
-/// The promise of `choose` is true of `plan_answer`, and of no other result except `NoMemory`. The clauses `chosen` and `refused` say this for the
-/// exits of `choose`. A plan of a best order within the budget, with its levels, is `plan_answer`. A refusal that has a cause and isn't `NoMemory` is
-/// `plan_answer`.
+/// The promise of `choose` is true of `plan_answer`, and of no other result except `NoMemory`. The clause `chosen` says this for a returned plan, and
+/// `refused` for a returned refusal. A plan of a best order within the budget, with its levels, is `plan_answer`. A refusal that has a cause and
+/// isn't `NoMemory` is `plan_answer`.
 pub fn promised_answers()
-    ensures allowed { (bounds scans : List ℕ) (budget : ℕ) → IsPromised bounds scans budget (plan_answer bounds scans budget) }
-    ensures only { (bounds scans : List ℕ) (budget : ℕ) (answer : Result Plan PlanError) → budget ≤ most_budget
+    ensures is_promised { (bounds scans : List ℕ) (budget : ℕ) → IsPromised bounds scans budget (plan_answer bounds scans budget) }
+    ensures no_other_result { (bounds scans : List ℕ) (budget : ℕ) (answer : Result Plan PlanError) → budget ≤ most_budget
         → IsPromised bounds scans budget answer → (answer ≡ Err error.NoMemory) ⊎ (answer ≡ plan_answer bounds scans budget) }
-    ensures never_memory { (bounds scans : List ℕ) (budget : ℕ) → plan_answer bounds scans budget ≢ Err error.NoMemory }
+    ensures never_out_of_memory { (bounds scans : List ℕ) (budget : ℕ) → plan_answer bounds scans budget ≢ Err error.NoMemory }
     ensures chosen { (bounds scans : List ℕ) (budget : ℕ) (plan : Plan) → budget ≤ most_budget
         → IsBest bounds (length scans) plan.order → cost bounds plan.order ≤ budget
         → plan.levels ≡ levels bounds plan.order → plan.scans ≡ scans → plan_answer bounds scans budget ≡ Ok plan }

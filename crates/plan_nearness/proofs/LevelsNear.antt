@@ -1,4 +1,4 @@
--- The bound of each level is near: it is the bound of the set of its entries.
+-- The bound of each level is near the uncompressed bound. The level's bound is the bound of the set of its entries.
 use Rattle.std.proofs.Common.{◌≡◌, ℕ, zero, suc, ◌+◌, ◌*◌, ◌^◌, ◌<◌, ◌≤◌, Ok, List, length, take, get_or, ◌∙◌, subst, arith}
 use Rattle.std.proofs.Math.Nat.{pow-succ', pow-zero}
 use Rattle.std.proofs.lemmas.List.{length-take-le}
@@ -17,7 +17,7 @@ use Rattle.planning.proofs.PlanFacts.{is_best}
 use Rattle.plan_nearness.specs.Nearness.{FiltersNoEntry, LevelsAreNear, uncompressed_bound}
 use Rattle.plan_nearness.proofs.SetsNear.{set_near}
 
-module _ (query : Query) (tables : Tables) (accuracy budget : ℕ) (plan : Plan) (none : FiltersNoEntry query)
+module _ (query : Query) (tables : Tables) (accuracy budget : ℕ) (plan : Plan) (no_filters : FiltersNoEntry query)
     (few : length query.from ≤ most_entries) (made : planned query tables accuracy budget ≡ Ok plan) where
   best : IsBest (set_bounds_of query tables accuracy) (length query.from) plan.order
   best = is_best query tables accuracy budget plan made
@@ -25,15 +25,15 @@ module _ (query : Query) (tables : Tables) (accuracy budget : ℕ) (plan : Plan)
   bound_is : (k : ℕ) → k < length query.from
       → get_or plan.levels k 0 ≡ get_or (set_bounds_of query tables accuracy) (set_of (take (k + 1) plan.order)) 0
   unfolding planned
-  bound_is k low =
+  bound_is k k_in_range =
       level_bound (set_bounds_of query tables accuracy) (scan_bounds_of query tables accuracy) (length query.from) budget
-      (one_scan_each query tables accuracy) plan made k low
+      (one_scan_each query tables accuracy) plan made k k_in_range
 
   pub levels_near : LevelsAreNear query tables accuracy plan
-  levels_near k low =
+  levels_near k k_in_range =
       let entries : List ℕ = take (k + 1) plan.order in
-      rw (bound_is k low)
-      (set_near query tables accuracy entries none (prefix_below (length query.from) (k + 1) plan.order best.is_order)
+      rw (bound_is k k_in_range)
+      (set_near query tables accuracy entries no_filters (prefix_below (length query.from) (k + 1) plan.order best.is_order)
       (prefix_of (length query.from) (k + 1) plan.order few best.is_order))
 
 -- ---- nearness at the usual accuracy, 1
@@ -42,17 +42,17 @@ one_power : (n : ℕ) → 1 ^ n ≡ 1
 one_power zero = pow-zero 1
 one_power (suc n) = pow-succ' 1 n ∙ omega (arith, one_power n)
 
-module _ (query : Query) (tables : Tables) (budget : ℕ) (plan : Plan) (none : FiltersNoEntry query)
+module _ (query : Query) (tables : Tables) (budget : ℕ) (plan : Plan) (no_filters : FiltersNoEntry query)
     (few : length query.from ≤ most_entries) (made : planned query tables 1 budget ≡ Ok plan) where
   all_there : length plan.order ≡ length query.from
   all_there = (is_best query tables 1 budget plan made).is_order.all
 
   pub default_near : (k : ℕ) → k < length query.from
       → get_or plan.levels k 0 ≤ 2 ^ (k + 1) * uncompressed_bound query tables (take (k + 1) plan.order)
-  default_near k low =
+  default_near k k_in_range =
       let exact : ℕ = uncompressed_bound query tables (take (k + 1) plan.order) in
       let near : 1 ^ length (take (k + 1) plan.order) * get_or plan.levels k 0 ≤ 2 ^ length (take (k + 1) plan.order) * exact =
-      levels_near query tables 1 budget plan none few made k low in
+      levels_near query tables 1 budget plan no_filters few made k k_in_range in
       let size : length (take (k + 1) plan.order) ≡ k + 1 = length-take-le (k + 1) plan.order (omega (arith, all_there)) in
       let near_here : 1 ^ (k + 1) * get_or plan.levels k 0 ≤ 2 ^ (k + 1) * exact =
       subst (λ (n : ℕ). 1 ^ n * get_or plan.levels k 0 ≤ 2 ^ n * exact) size near in

@@ -1,14 +1,14 @@
--- The bound of each inner node of a best tree is near: it is the bound of the set of its entries.
+-- The bound of each inner node of a best tree is near the uncompressed bound. The node's bound is the bound of the set of its entries.
 use Rattle.std.proofs.Common.{◌≡◌, ℕ, ◌+◌, ◌<◌, ◌≤◌, List, Ok, length, map, get_or, ap, sym, ◌∙◌, subst}
 use Rattle.std.proofs.lemmas.List.{get_or-map}
 use Rattle.std.proofs.lemmas.Option.{get_or_from_slice_get, slice_get_within}
 use Rattle.limits.specs.Profile.{most_entries}
 use Rattle.entry_sets.specs.Sets.{set_of}
-use Rattle.tree_plans.specs.declared.bushy.BushyPlan.{BushyPlan}
-use Rattle.tree_plans.specs.declared.bushy.Join.{Join}
-use Rattle.tree_plans.specs.TreePlans.{IsTreePlan}
+use Rattle.plans.specs.declared.bushy.BushyPlan.{BushyPlan}
+use Rattle.plans.specs.declared.bushy.Join.{Join}
+use Rattle.plans.specs.TreePlans.{IsTreePlan}
 use Rattle.tree_rows.specs.Trees.{entries_at}
-use Rattle.tree_answers.specs.TreeAnswer.{tree_answer}
+use Rattle.plan_answers.specs.TreeAnswer.{tree_answer}
 use Rattle.bushy_plan.specs.BestTree.{IsBestPlan}
 use Rattle.query_types.specs.declared.types.Query.{Query}
 use Rattle.sql_meaning.specs.Tables.{Tables}
@@ -20,7 +20,7 @@ use Rattle.bushy_planning.proofs.ChosenTrees.{is_best, is_plan}
 use Rattle.plan_nearness.specs.Nearness.{FiltersNoEntry, IsNear, NodesAreNear}
 use Rattle.plan_nearness.proofs.SetsNear.{set_near}
 
-module _ (query : Query) (tables : Tables) (accuracy budget : ℕ) (plan : BushyPlan) (none : FiltersNoEntry query)
+module _ (query : Query) (tables : Tables) (accuracy budget : ℕ) (plan : BushyPlan) (no_filters : FiltersNoEntry query)
     (some : 1 ≤ length query.from) (few : length query.from ≤ most_entries)
     (made : tree_answer (set_bounds_of query tables accuracy) (scan_bounds_of query tables accuracy) budget ≡ Ok plan) where
   abbrev sets : List ℕ
@@ -37,11 +37,11 @@ module _ (query : Query) (tables : Tables) (accuracy budget : ℕ) (plan : Bushy
 
   pub nodes_near : NodesAreNear query tables accuracy plan
   nodes_near k join here =
-      let low : k < length plan.joins = slice_get_within plan.joins k join here in
+      let k_in_range : k < length plan.joins = slice_get_within plan.joins k join here in
       let its : join.bound ≡ get_or sets (set_of (entries_at plan (n + k))) 0 =
-      sym (join_bound n sets plan is best k low
-      ∙ get_or-map (λ (j : Join). j.bound) plan.joins k join 0 low
+      sym (join_bound n sets plan is best k k_in_range
+      ∙ get_or-map (λ (j : Join). j.bound) plan.joins k join 0 k_in_range
       ∙ ap (λ (j : Join). j.bound) (get_or_from_slice_get plan.joins k join join here))
-      ∙ node_bound n sets plan is best k low in
+      ∙ node_bound n sets plan is best k k_in_range in
       subst (IsNear query tables accuracy (entries_at plan (n + k))) (sym its)
-      (set_near query tables accuracy (entries_at plan (n + k)) none (node_set_fits n sets plan is best k low) (node_order n sets plan is best k low))
+      (set_near query tables accuracy (entries_at plan (n + k)) no_filters (node_set_fits n sets plan is best k k_in_range) (node_order n sets plan is best k k_in_range))

@@ -1,4 +1,4 @@
--- The bound of the set of some entries is near.
+-- The bound of a set of entries is near the uncompressed bound.
 use Rattle.std.proofs.Common.{ℕ, ◌+◌, ◌*◌, ◌^◌, ◌<◌, ◌≤◌, List, length, get_or, subst}
 use Rattle.entry_sets.specs.Sets.{entries_of_set, set_of}
 use Rattle.query_types.specs.declared.types.Query.{Query}

@@ -2,8 +2,8 @@
 ghost use Rattle.std.specs.Prelude.{◌≡◌, ◌*◌, ◌+◌, ◌<◌, ◌≤◌, ◌^◌, ℕ, Ok, length, slice_index, take};
 ghost use Rattle.limits.specs.Profile.{most_entries, default_accuracy};
 ghost use Rattle.plans.specs.declared.left_deep.Plan.{Plan};
-ghost use Rattle.tree_plans.specs.declared.bushy.BushyPlan.{BushyPlan};
-ghost use Rattle.tree_answers.specs.TreeAnswer.{tree_answer};
+ghost use Rattle.plans.specs.declared.bushy.BushyPlan.{BushyPlan};
+ghost use Rattle.plan_answers.specs.TreeAnswer.{tree_answer};
 ghost use Rattle.query_types.specs.declared.types.Query.{Query};
 ghost use Rattle.sql_meaning.specs.Tables.{Tables};
 ghost use Rattle.planning.specs.Bounds.{scan_bounds_of, set_bounds_of};

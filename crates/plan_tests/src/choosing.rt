@@ -8,19 +8,19 @@ use std::alloc::{AllocError, AllocFailed};
 #[derive(Debug, Drop)]
 pub enum Fail {
     // The test's input breaks a condition of the choice, or memory ran out.
-    Unfit,
+    InputOrMemory,
     NoTree(PlanError),
 }
 
 impl From<AllocError> for Fail {
     fn from(_: AllocError) -> Self {
-        Fail::Unfit
+        Fail::InputOrMemory
     }
 }
 
 impl<T: Drop> From<AllocFailed<T>> for Fail {
     fn from(_: AllocFailed<T>) -> Self {
-        Fail::Unfit
+        Fail::InputOrMemory
     }
 }
 

@@ -4,8 +4,8 @@ use base_io::Seq;
 use bushy_plan::choose_bushy;
 use limits::{MOST_ENTRIES, MOST_ROWS};
 use order_search::PlanError;
+use plans::{BushyPlan, Join};
 use std::alloc::Global;
-use tree_plans::{BushyPlan, Join};
 
 // The best tree over these bounds, if each entry's scan has two rows.
 fn best_tree(
@@ -15,17 +15,17 @@ fn best_tree(
     budget: u64,
 ) -> Result<BushyPlan, Fail> {
     if count == 0 || count > MOST_ENTRIES || budget > MOST_ROWS as u64 {
-        return Err(Fail::Unfit);
+        return Err(Fail::InputOrMemory);
     }
     if bounds.len() != number_of_sets(count) {
-        return Err(Fail::Unfit);
+        return Err(Fail::InputOrMemory);
     }
     let scans = Seq::from_vec(vec![in alloc; 2; count]?);
     let plan = choose_bushy(alloc, &Seq::from_vec(bounds), &scans, budget)?;
     Ok(plan)
 }
 
-// Entries, a bound for each of their sets, a budget, and the joins of the best tree with its cost.
+// The number of entries, a bound for each set of them, a budget, and the joins and the cost of the best tree.
 #[derive(Clone, Copy)]
 struct TreeCase<'a> {
     count: usize,
@@ -35,7 +35,7 @@ struct TreeCase<'a> {
     cost: u64,
 }
 
-fn are(joins: &[Join], wanted: &[(u8, u8, u64)]) -> bool {
+fn are_joins(joins: &[Join], wanted: &[(u8, u8, u64)]) -> bool {
     joins.len() == wanted.len()
         && joins.iter().zip(wanted).all(|(join, want)| (join.left, join.right, join.bound) == *want)
 }
@@ -43,7 +43,7 @@ fn are(joins: &[Join], wanted: &[(u8, u8, u64)]) -> bool {
 fn is_chosen(alloc: Global, choice: &TreeCase<'_>) -> Result<bool, Fail> {
     let bounds = Vec::from_slice(alloc, choice.bounds)?;
     let plan = best_tree(alloc, choice.count, bounds, choice.budget)?;
-    Ok(plan.cost == choice.cost && are(plan.joins.as_slice(), choice.joins))
+    Ok(plan.cost == choice.cost && are_joins(plan.joins.as_slice(), choice.joins))
 }
 
 const TREE_CASES: [TreeCase<'static>; 5] = [
@@ -72,9 +72,9 @@ const TREE_CASES: [TreeCase<'static>; 5] = [
     // The bounds are how many rows the join of each set of entries has in this query:
     // SELECT C.N FROM C, P, Q, R, S WHERE C.A = P.X AND C.B = Q.X AND C.D = R.X AND C.E = S.X.
     // Each of P, Q, R and S has X = 7 three times and X = 8 once. C has a row with 8 in all four joined columns. It has four more rows, one for each
-    // of these columns. In its column the row has a value that P, Q, R and S don't have, and 7 in the others. So the join of all five entries has one
-    // row, but the join of C with three others has 28. Each left-deep order has a level of four entries. The tree (((C, P), Q), (R, S)) has no node
-    // of four entries.
+    // of these columns. In that column the row has a value that P, Q, R and S don't have; in the other columns it has 7. So the join of all five
+    // entries has one row, but the join of C with three others has 28. Each left-deep order has a level of four entries. The tree
+    // (((C, P), Q), (R, S)) has no node of four entries.
     TreeCase {
         count: 5,
         bounds: &[
@@ -85,8 +85,8 @@ const TREE_CASES: [TreeCase<'static>; 5] = [
         joins: &[(0, 1, 10), (5, 2, 19), (3, 4, 16), (6, 7, 1)],
         cost: 19,
     },
-    // The least cost is 3, and the least sum of bounds at this cost is 8. The first split of the entries 1 to 4 has entry 1 alone on the left.
-    // Its right side costs 3. With the entries 1 and 2 on the left, the right side would cost 2.
+    // The least cost is 3, and the least sum of bounds at this cost is 8. The first split of the entries 1 to 4 has only entry 1 on the left. Its
+    // right side costs 3. With the entries 1 and 2 on the left, the right side would cost 2.
     TreeCase {
         count: 5,
         bounds: &[

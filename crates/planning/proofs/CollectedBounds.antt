@@ -1,4 +1,5 @@
--- Row bounds and lists of columns are collected one after another. Together they are bounds of entries.
+-- Invariants of the loops that collect row bounds and degree sequences one after another. The collected row bounds and degree sequences together are
+-- the bounds of the entries.
 use Rattle.std.proofs.Common.{◌≡◌, ◌≢◌, ◌⊎◌, inl, inr, ℕ, ◌+◌, ◌-◌, ◌<◌, ◌^◌, List, [], length, get_or, Option, None, Some, refl, ap, sym, ◌∙◌, subst, arith}
 use Rattle.std.specs.Prelude.{All, IsSome, unwrap_or}
 use Rattle.std.proofs.lemmas.Bool.{cases_eq, cases_lt, false≢true}
@@ -10,9 +11,9 @@ use Rattle.tree_bounds.specs.TreeBounds.{EntryBounds}
 use Rattle.bound_fold.specs.declared.lists.EntryLists.{EntryLists}
 use Rattle.bound_fold.specs.Lists.{bounds_of, list_of, row_bound_of}
 use Rattle.bound_fold.specs.Sets.{HaveLists, SetHasBounds}
-use Rattle.bound_fold.proofs.TestedSets.{each_in_set, each_named}
+use Rattle.bound_fold.proofs.TestedSets.{each_in_set, each_named_column}
 use Rattle.set_bounds.specs.AllSets.{bounds_of_sets}
-use Rattle.query_bounds.proofs.Holding.{is_some_of, no_more}
+use Rattle.query_bounds.proofs.Holding.{is_some_of, not_none_and_some}
 use Rattle.sql_meaning.specs.Tables.{tables_of}
 use Rattle.join_steps.specs.Lists.{listed_row_count}
 use Rattle.entry_sets.proofs.Listing.{entry_below}
@@ -29,13 +30,13 @@ one_some o x y e f = cc
 
 -- ---- row bounds that were collected
 
-pub rows_none : (lists : List (List ℕ)) (known : EntryLists) → ((entry : ℕ) → row_bound_of known entry ≡ None) → HasRows lists 0 known
-rows_none lists known none = record { there = λ entry low. absurd (omega arith); past = λ entry past. none entry }
+pub rows_at_start : (lists : List (List ℕ)) (known : EntryLists) → ((entry : ℕ) → row_bound_of known entry ≡ None) → HasRows lists 0 known
+rows_at_start lists known none = record { there = λ entry entry_in_range. absurd (omega arith); past = λ entry past. none entry }
 
-pub rows_more : (lists : List (List ℕ)) (i rows : ℕ) (old new : EntryLists) → HasRows lists i old → rows ≡ listed_row_count lists i → row_bound_of new i ≡ Some rows
+pub rows_after_step : (lists : List (List ℕ)) (i rows : ℕ) (old new : EntryLists) → HasRows lists i old → rows ≡ listed_row_count lists i → row_bound_of new i ≡ Some rows
     → ((other : ℕ) → other ≢ i → row_bound_of new other ≡ row_bound_of old other) → HasRows lists (i + 1) new
-rows_more lists i rows old new before is set others = record {
-  there = λ entry low. elim (cases_eq entry i) [
+rows_after_step lists i rows old new before is set others = record {
+  there = λ entry entry_in_range. elim (cases_eq entry i) [
     | inl same ↦ ap (row_bound_of new) same ∙ set ∙ ap Some (is ∙ ap (listed_row_count lists) (sym same))
     | inr apart ↦ others entry apart ∙ before.there entry (omega arith)
   ];
@@ -48,19 +49,19 @@ module _ (db : Database) (lists : List (List ℕ)) (accuracy : ℕ) where
   abbrev bounds : EntryBounds
   bounds = entry_bounds_over (tables_of db) lists accuracy
 
-  pub known_first : (count : ℕ) (known : EntryLists) → count ≡ length lists → HasRows lists count known → ((entry column : ℕ) → list_of known entry column ≡ None)
+  pub known_at_start : (count : ℕ) (known : EntryLists) → count ≡ length lists → HasRows lists count known → ((entry column : ℕ) → list_of known entry column ≡ None)
       → IsKnown db lists accuracy known
-  known_first count known all rows none = record {
+  known_at_start count known all rows none = record {
     rows = subst (λ (n : ℕ). HasRows lists n known) all rows;
-    columns = λ entry column list is. absurd (no_more (list_of known entry column) list (none entry column) is);
+    columns = λ entry column list is. absurd (not_none_and_some (list_of known entry column) list (none entry column) is);
   }
 
-  pub known_more : (at in_column : ℕ) (list : List ℕ) (old new : EntryLists) → IsKnown db lists accuracy old → list ≡ bounds.list at in_column
+  pub known_after_step : (at in_column : ℕ) (list : List ℕ) (old new : EntryLists) → IsKnown db lists accuracy old → list ≡ bounds.list at in_column
       → list_of new at in_column ≡ Some list → ((e c : ℕ) → ((e ≢ at) ⊎ (c ≢ in_column)) → list_of new e c ≡ list_of old e c)
       → ((entry : ℕ) → row_bound_of new entry ≡ row_bound_of old entry) → IsKnown db lists accuracy new
-  known_more at in_column list old new before is set others rows = record {
+  known_after_step at in_column list old new before is set others rows = record {
     rows = record {
-      there = λ entry low. rows entry ∙ before.rows.there entry low;
+      there = λ entry entry_in_range. rows entry ∙ before.rows.there entry entry_in_range;
       past = λ entry past. rows entry ∙ before.rows.past entry past;
     };
     columns = λ e c l found. elim (cases_eq e at) [
@@ -89,7 +90,7 @@ module _ (db : Database) (lists : List (List ℕ)) (accuracy : ℕ) where
   module _ (known : EntryLists) (is : IsKnown db lists accuracy known) where
     pub row_bound_is : (entry : ℕ) → unwrap_or (row_bound_of known entry) 0 ≡ listed_row_count lists entry
     row_bound_is entry = elim (cases_lt entry (length lists)) [
-      | inl low ↦ ap (λ (o : Option ℕ). unwrap_or o 0) (is.rows.there entry low)
+      | inl entry_in_range ↦ ap (λ (o : Option ℕ). unwrap_or o 0) (is.rows.there entry entry_in_range)
       | inr past ↦ ap (λ (o : Option ℕ). unwrap_or o 0) (is.rows.past entry past) ∙ ap (λ (l : List ℕ). length l) (sym (get_or_past lists entry [] past))
     ]
 
@@ -100,15 +101,15 @@ module _ (db : Database) (lists : List (List ℕ)) (accuracy : ℕ) where
 
     module _ (es : List Edge) (joined : All (HaveLists known) es) where
       pub sets_are : (n : ℕ) → bounds_of_sets (bounds_of known) es n ≡ bounds_of_sets bounds es n
-      sets_are n = sets_same (bounds_of known) bounds row_bound_is es (λ k d low. (
-        list_told (get_or es k d).left.entry (get_or es k d).left.column (joined k d low).0,
-        list_told (get_or es k d).right.entry (get_or es k d).right.column (joined k d low).1,
+      sets_are n = sets_same (bounds_of known) bounds row_bound_is es (λ k d k_in_range. (
+        list_told (get_or es k d).left.entry (get_or es k d).left.column (joined k d k_in_range).0,
+        list_told (get_or es k d).right.entry (get_or es k d).right.column (joined k d k_in_range).1,
       )) n
 
       pub all_have_bounds : (n : ℕ) → n ≡ length lists → SetHasBounds known es (2 ^ n - 1)
       all_have_bounds n all = record {
-        rows = each_in_set (λ k. IsSome (row_bound_of known k)) (2 ^ n - 1) (λ k low has.
+        rows = each_in_set (λ k. IsSome (row_bound_of known k)) (2 ^ n - 1) (λ k k_in_range has.
             let below : k < n = entry_below n (2 ^ n - 1) k (omega (arith, pow_pos n)) has in
             is_some_of (row_bound_of known k) (listed_row_count lists k) (is.rows.there k (omega (arith, below, all))));
-        columns = each_named (λ entry column. IsSome (list_of known entry column)) (2 ^ n - 1) es (λ k d low joins. joined k d low);
+        columns = each_named_column (λ entry column. IsSome (list_of known entry column)) (2 ^ n - 1) es (λ k d k_in_range joins. joined k d k_in_range);
       }

@@ -4,7 +4,7 @@ use Rattle.std.specs.Prelude.{◌⊎◌, if◌then◌else◌}
 use Rattle.std.specs.List.{Contains}
 use Rattle.std.proofs.lemmas.Bool.{cases_eq, eq-eqb, eqb-true, ne_eqb}
 use Rattle.berge_tree.specs.declared.edges.Edge.{Edge}
-use Rattle.level_bounds.proofs.Lists.{all_from}
+use Rattle.level_bounds.proofs.Lists.{from_members}
 use Rattle.reduced_scans.proofs.Members.{in_cases, not_in_none}
 use Rattle.join_graph.specs.Kept.{AreConnected}
 
@@ -40,20 +40,20 @@ merged_cases left right n m same = elim (cases_eq n right) [
   ]
 ]
 
-pub closed_at : (es : List Edge) (e : Edge) → Contains es e → component es e.left.entry ≡ component es e.right.entry
-closed_at [] e has = absurd (not_in_none e has)
-closed_at (f ∷ es) e has = elim (in_cases e f es has) [
+pub ends_in_one_component : (es : List Edge) (e : Edge) → Contains es e → component es e.left.entry ≡ component es e.right.entry
+ends_in_one_component [] e has = absurd (not_in_none e has)
+ends_in_one_component (f ∷ es) e has = elim (in_cases e f es has) [
   | inl here ↦ subst (λ (g : Edge). component (f ∷ es) g.left.entry ≡ component (f ∷ es) g.right.entry) here
       (merged_left (component es f.left.entry) (component es f.right.entry)
       ∙ sym (merged_there (component es f.left.entry) (component es f.right.entry) (component es f.right.entry) refl))
-  | inr there ↦ ap (merged (component es f.left.entry) (component es f.right.entry)) (closed_at es e there)
+  | inr there ↦ ap (merged (component es f.left.entry) (component es f.right.entry)) (ends_in_one_component es e there)
 ]
 
 pub connected_same : (es : List Edge) (a b : ℕ) → AreConnected es a b → component es b ≡ component es a
 connected_same es a b connected =
     let in_component : ℕ → Bool = λ x. eqb (component es x) (component es a) in
     eqb-true (component es b) (component es a)
-    (sym (connected in_component (all_from (λ e. in_component e.left.entry ≡ in_component e.right.entry) es (λ e there. ap (λ (n : ℕ). eqb n (component es a)) (closed_at es e there))))
+    (sym (connected in_component (from_members (λ e. in_component e.left.entry ≡ in_component e.right.entry) es (λ e there. ap (λ (n : ℕ). eqb n (component es a)) (ends_in_one_component es e there))))
     ∙ eq-eqb (component es a) (component es a) refl)
 
 pub same_connects : (es : List Edge) (a b : ℕ) → component es a ≡ component es b → AreConnected es a b

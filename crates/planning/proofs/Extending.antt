@@ -1,5 +1,5 @@
--- Suppose that equalities close no cycle, and that each row in a family of lists has its partners. Then each row extends to a choice for all
--- connected entries. A partner of a row is a row of the other list that an equality joins with it.
+-- Suppose that equalities close no cycle, and that each row in a family of lists has a match across each equality of its entry. Then each row extends
+-- to a choice for all connected entries. A match (a partner) of a row is a row of the other list that an equality joins with it.
 use Rattle.std.proofs.Common.{◌≡◌, ℕ, Bool, true, eqb, List, [], ◌∷◌, refl, ap, sym, ◌∙◌, subst, inl, inr}
 use Rattle.std.specs.Prelude.{◌⊎◌, if◌then◌else◌}
 use Rattle.std.specs.List.{AllByRecursion, Contains}
@@ -11,27 +11,27 @@ use Rattle.join_steps.specs.Lists.{list_at}
 use Rattle.reduced_scans.specs.Families.{HasPartner, HavePartners}
 use Rattle.reduced_scans.proofs.Members.{behind, in_cases, in_front, not_in_none}
 use Rattle.set_bounds.proofs.Forests.{onto}
-use Rattle.planning.proofs.Components.{closed_at, component, merged_cases, same_connects}
+use Rattle.planning.proofs.Components.{ends_in_one_component, component, merged_cases, same_connects}
 
 -- ---- equalities in the order of the induction
 
-come_before : (earlier es : List Edge) (e : Edge) → Contains earlier e → Contains (onto earlier es) e
-come_before earlier [] e has = has
-come_before earlier (f ∷ es) e has = come_before (f ∷ earlier) es e (behind e f earlier has)
+earlier_in_onto : (earlier es : List Edge) (e : Edge) → Contains earlier e → Contains (onto earlier es) e
+earlier_in_onto earlier [] e has = has
+earlier_in_onto earlier (f ∷ es) e has = earlier_in_onto (f ∷ earlier) es e (behind e f earlier has)
 
-pub come_too : (earlier es : List Edge) (e : Edge) → Contains es e → Contains (onto earlier es) e
-come_too earlier [] e has = absurd (not_in_none e has)
-come_too earlier (f ∷ es) e has = elim (in_cases e f es has) [
-  | inl here ↦ come_before (f ∷ earlier) es e (in_front e f earlier here)
-  | inr there ↦ come_too (f ∷ earlier) es e there
+pub rest_in_onto : (earlier es : List Edge) (e : Edge) → Contains es e → Contains (onto earlier es) e
+rest_in_onto earlier [] e has = absurd (not_in_none e has)
+rest_in_onto earlier (f ∷ es) e has = elim (in_cases e f es has) [
+  | inl here ↦ earlier_in_onto (f ∷ earlier) es e (in_front e f earlier here)
+  | inr there ↦ rest_in_onto (f ∷ earlier) es e there
 ]
 
-all_come : (P : Edge → Type 0) (earlier es : List Edge) → AllByRecursion P (onto earlier es) → AllByRecursion P earlier × AllByRecursion P es
-all_come P earlier [] all = (all, tt)
-all_come P earlier (e ∷ es) all = (let parts : AllByRecursion P (e ∷ earlier) × AllByRecursion P es = all_come P (e ∷ earlier) es all in (parts.0.1, (parts.0.0, parts.1)))
+all_of_onto : (P : Edge → Type 0) (earlier es : List Edge) → AllByRecursion P (onto earlier es) → AllByRecursion P earlier × AllByRecursion P es
+all_of_onto P earlier [] all = (all, tt)
+all_of_onto P earlier (e ∷ es) all = (let parts : AllByRecursion P (e ∷ earlier) × AllByRecursion P es = all_of_onto P (e ∷ earlier) es all in (parts.0.1, (parts.0.0, parts.1)))
 
 pub still_connected : (es : List Edge) (a b : ℕ) → AreConnected es a b → AreConnected (onto [] es) a b
-still_connected es a b connected side all = connected side (all_come (λ e. side e.left.entry ≡ side e.right.entry) [] es all).1
+still_connected es a b connected side all = connected side (all_of_onto (λ e. side e.left.entry ≡ side e.right.entry) [] es all).1
 
 module _ (equal : Edge → ℕ → ℕ → Bool) (family : List (List ℕ)) where
   abbrev pub Meet : Edge → Type 0
@@ -98,10 +98,10 @@ module _ (equal : Edge → ℕ → ℕ → Bool) (family : List (List ℕ)) wher
       holds = λ k has same. elim (in_cases k e es has) [
         | inl first ↦ subst (Holds both) first meets
         | inr later ↦ elim (tell k.left.entry same) [
-          | inl here ↦ (let also : component es k.right.entry ≡ component es near = sym (closed_at es k later) ∙ here in
+          | inl here ↦ (let also : component es k.right.entry ≡ component es near = sym (ends_in_one_component es k later) ∙ here in
               ap (λ (n : ℕ). equal k n (both k.right.entry)) (on_near k.left.entry here) ∙ ap (λ (n : ℕ). equal k (f.row_of k.left.entry) n) (on_near k.right.entry also)
               ∙ f.holds k later (here ∙ sym at_near))
-          | inr there ↦ (let also : component es k.right.entry ≡ component es far = sym (closed_at es k later) ∙ there in
+          | inr there ↦ (let also : component es k.right.entry ≡ component es far = sym (ends_in_one_component es k later) ∙ there in
               ap (λ (n : ℕ). equal k n (both k.right.entry)) (on_far k.left.entry there) ∙ ap (λ (n : ℕ). equal k (g.row_of k.left.entry) n) (on_far k.right.entry also)
               ∙ g.holds k later there)
         ]
@@ -165,8 +165,8 @@ module _ (equal : Edge → ℕ → ℕ → Bool) (family : List (List ℕ)) wher
   extended_from earlier (e ∷ es) none have rest =
       extended_from (e ∷ earlier) es none.1 (λ k has. have k (behind k e es has)) (one_more e earlier none.0 (have e (in_front e e es refl)) rest)
 
-  alone : (entry row : ℕ) → Contains (list_at family entry) row → Extends [] entry row
-  alone entry row listed = record {
+  extends_itself : (entry row : ℕ) → Contains (list_at family entry) row → Extends [] entry row
+  extends_itself entry row listed = record {
     row_of = λ x. row;
     its_own = refl;
     listed = λ other same. subst (λ (k : ℕ). Contains (list_at family k) row) (sym same) listed;
@@ -174,4 +174,4 @@ module _ (equal : Edge → ℕ → ℕ → Bool) (family : List (List ℕ)) wher
   }
 
   pub extended : (es : List Edge) → ClosesNoCycle es → HaveAll es → (entry row : ℕ) → Contains (list_at family entry) row → Extends (onto [] es) entry row
-  extended es none have = extended_from [] es none have alone
+  extended es none have = extended_from [] es none have extends_itself

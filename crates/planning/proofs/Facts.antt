@@ -41,7 +41,7 @@ each_column Q (e ∷ es) h = (h e.left.entry e.left.column, (h e.right.entry e.r
 pub stand_for : (query : Query) (tables : Tables) (accuracy : ℕ) (f : Facts tables accuracy)
     → StandFor query (statistics_of tables accuracy) tables f.key
 stand_for query tables accuracy f = record {
-  counts = λ entry low. f.counts entry;
+  counts = λ entry entry_in_range. f.counts entry;
   lists =
       each_column (λ entry column. ListsStandFor (column_lists tables accuracy entry column) tables entry (f.key entry column))
       (equalities_of query) f.lists;

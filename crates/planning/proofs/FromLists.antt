@@ -1,4 +1,4 @@
--- Plans from bounds of sets and of scans. If these bounds come from bounds of entries that stand for lists of rows, no bound in the plan is too low.
+-- Plans from any bounds of sets and of scans. If bounds of entries stand for lists of rows, no bound in the plan made from them is too low.
 use Rattle.std.proofs.Common.{◌≡◌, ◌⊎◌, inl, inr, ℕ, ◌+◌, ◌<◌, ◌≤◌, ◌^◌, Bool, true, List, [], ◌∷◌, Ok, Result, min, length, take, get_or, refl, ap, sym, ◌∙◌, subst, arith}
 use Rattle.std.specs.List.{AllByRecursion, filter}
 use Rattle.std.proofs.lemmas.Bool.{and_parts, cases_Bool, cases_lt}
@@ -12,7 +12,7 @@ use Rattle.order_search.specs.Orders.{IsBest}
 use Rattle.order_search.specs.declared.refusal.PlanError.{PlanError}
 use Rattle.plan_answers.specs.PlanAnswer.{plan_answer}
 use Rattle.plan_answers.specs.Promised.{IsPromised}
-use Rattle.plan_answers.proofs.OneAnswer.{allowed}
+use Rattle.plan_answers.proofs.OneAnswer.{is_promised}
 use Rattle.query_types.specs.declared.types.Query.{Query}
 use Rattle.join_graph.specs.Conjuncts.{equalities_of}
 use Rattle.join_graph.specs.Kept.{joins_within}
@@ -20,9 +20,9 @@ use Rattle.tree_bounds.specs.Scans.{scanned}
 use Rattle.tree_bounds.specs.SetBounds.{SetHasLists, bound_of_set}
 use Rattle.tree_bounds.specs.Tables.{Dominates, RowsFit, SetDominates}
 use Rattle.tree_bounds.specs.TreeBounds.{EntryBounds, HasList}
-use Rattle.bound_fold.proofs.TestedSets.{each_in_set, each_named}
+use Rattle.bound_fold.proofs.TestedSets.{each_in_set, each_named_column}
 use Rattle.set_bounds.specs.AllSets.{bounds_in_sets, in_every_set}
-use Rattle.set_bounds.proofs.SetBySet.{told_in}
+use Rattle.set_bounds.proofs.SetBySet.{bound_in_sets_at}
 use Rattle.sql_meaning.specs.Answers.{conjuncts_of}
 use Rattle.sql_meaning.specs.Levels.{level_over}
 use Rattle.sql_meaning.specs.Tables.{Tables}
@@ -39,7 +39,7 @@ use Rattle.planning.proofs.ListedLevels.{level_within}
 
 module _ (sets scans : List ℕ) (count budget : ℕ) (one_each : length scans ≡ count) (plan : Plan) (made : plan_answer sets scans budget ≡ Ok plan) where
   promised : IsPromised sets scans budget (Ok plan)
-  promised = let P : Result Plan PlanError → Type 0 = IsPromised sets scans budget in subst P made (allowed sets scans budget)
+  promised = let P : Result Plan PlanError → Type 0 = IsPromised sets scans budget in subst P made (is_promised sets scans budget)
 
   pub is_plan_from : IsPlan count plan
   is_plan_from = subst (λ (n : ℕ). IsPlan n plan) one_each promised.plan
@@ -54,7 +54,7 @@ module _ (sets scans : List ℕ) (count budget : ℕ) (one_each : length scans �
   level_within_budget k = omega (arith, ap (λ (s : List ℕ). get_or s k 0) promised.levels, level_within_cost sets plan.order k, promised.within)
 
   pub level_bound : (k : ℕ) → k < count → get_or plan.levels k 0 ≡ get_or sets (set_of (take (k + 1) plan.order)) 0
-  level_bound k low = ap (λ (s : List ℕ). get_or s k 0) promised.levels ∙ level_at sets plan.order k (omega (arith, is_best_from.is_order.all))
+  level_bound k k_in_range = ap (λ (s : List ℕ). get_or s k 0) promised.levels ∙ level_at sets plan.order k (omega (arith, is_best_from.is_order.all))
 
 module _ (query : Query) (tables : Tables) (lists : List (List ℕ)) (sets scans : List ℕ) (bound_sets : BoundLevels query tables lists sets) (bound : BoundLists query tables lists scans)
     (budget : ℕ) (plan : Plan) (few : length query.from ≤ most_entries) (small : budget ≤ most_budget) (made : plan_answer sets scans budget ≡ Ok plan) where
@@ -62,9 +62,9 @@ module _ (query : Query) (tables : Tables) (lists : List (List ℕ)) (sets scans
   n = length query.from
 
   level_fits : (k : ℕ) → k < length query.from → length (list_levels query tables lists plan.order (k + 1)) ≤ get_or plan.levels k 0
-  level_fits k low =
+  level_fits k k_in_range =
       let best : IsBest sets n plan.order = is_best_from sets scans n budget bound.one_each plan made in
-      let its_bound : get_or plan.levels k 0 ≡ get_or sets (set_of (take (k + 1) plan.order)) 0 = level_bound sets scans n budget bound.one_each plan made k low in
+      let its_bound : get_or plan.levels k 0 ≡ get_or sets (set_of (take (k + 1) plan.order)) 0 = level_bound sets scans n budget bound.one_each plan made k k_in_range in
       let within : get_or plan.levels k 0 ≤ budget = level_within_budget sets scans n budget bound.one_each plan made k in
       elim (bound_sets (set_of (take (k + 1) plan.order)) (take (k + 1) plan.order) (prefix_below n (k + 1) plan.order best.is_order) (prefix_of n (k + 1) plan.order few best.is_order)) [
         | inl fits ↦ omega (arith, fits, its_bound)
@@ -74,10 +74,10 @@ module _ (query : Query) (tables : Tables) (lists : List (List ℕ)) (sets scans
   pub plan_over_lists : IsPlanOf query tables lists plan
   plan_over_lists = record {
     for_each_entry = is_plan_from sets scans n budget bound.one_each plan made;
-    scans = λ entry low. omega (arith, scan_kept sets scans n budget bound.one_each plan made entry, bound.fit entry low);
+    scans = λ entry in_range. omega (arith, scan_kept sets scans n budget bound.one_each plan made entry, bound.fit entry in_range);
     levels = level_fits;
-    within_tables = λ entry low. omega (arith, scan_kept sets scans n budget bound.one_each plan made entry, bound.within entry low);
-    within_budget = λ k low. omega (arith, level_within_budget sets scans n budget bound.one_each plan made k, small);
+    within_tables = λ entry in_range. omega (arith, scan_kept sets scans n budget bound.one_each plan made entry, bound.within entry in_range);
+    within_budget = λ k in_range. omega (arith, level_within_budget sets scans n budget bound.one_each plan made k, small);
   }
 
 -- ---- the bounds of sets, from bounds of entries that stand for lists
@@ -88,11 +88,11 @@ capped rows bound capped_bound fits is = elim (cases_lt bound top_bound) [
   | inr above ↦ inr (omega arith)
 ]
 
-some_of : (P : Edge → Type 0) (p : Edge → Bool) (es : List Edge) → AllByRecursion P es → AllByRecursion P (filter p es)
-some_of P p [] all = tt
-some_of P p (e ∷ es) all = elim (cases_Bool (p e)) [
-  | inl stays ↦ rw stays (all.0, some_of P p es all.1)
-  | inr goes ↦ rw goes (some_of P p es all.1)
+filtered_all : (P : Edge → Type 0) (p : Edge → Bool) (es : List Edge) → AllByRecursion P es → AllByRecursion P (filter p es)
+filtered_all P p [] all = tt
+filtered_all P p (e ∷ es) all = elim (cases_Bool (p e)) [
+  | inl stays ↦ rw stays (all.0, filtered_all P p es all.1)
+  | inr goes ↦ rw goes (filtered_all P p es all.1)
 ]
 
 pub levels_bound : (query : Query) (tables : Tables) (lists : List (List ℕ)) (key : Keys) (bounds : ℕ → EntryBounds) → StandForLists query tables lists key bounds
@@ -103,9 +103,9 @@ levels_bound query tables lists key bounds stand subset order fits o =
     let here : StandInSet query tables lists key (bounds subset) subset = stand.each_set subset fits in
     let fits_bound : length (level_over (conjuncts_of query tables) (list_at lists) order) ≤ bound_of_set (bounds subset) es subset =
     subst (λ (level : List (List ℕ)). length level ≤ bound_of_set (bounds subset) es subset) (sym (here.none_lost order o))
-    (level_within query tables here.taking here.are subset order o key (some_of (JoinsEqualKeys tables key) (joins_within subset) es stand.keys) (bounds subset) here.have_lists here.dominate) in
+    (level_within query tables here.sufficient_lists here.are subset order o key (filtered_all (JoinsEqualKeys tables key) (joins_within subset) es stand.keys) (bounds subset) here.have_lists here.dominate) in
     capped (length (level_over (conjuncts_of query tables) (list_at lists) order)) (bound_of_set (bounds subset) es subset) (get_or (bounds_in_sets bounds es n) subset 0) fits_bound
-    (told_in bounds es n subset (bounds_in_sets bounds es n) refl fits)
+    (bound_in_sets_at bounds es n subset (bounds_in_sets bounds es n) refl fits)
 
 -- ---- bounds of entries that are the same in every set
 
@@ -122,22 +122,22 @@ module _ (query : Query) (tables : Tables) (lists : List (List ℕ)) (key : Keys
     both_stand : (k : ℕ) (d : Edge) → k < length (equalities_of query) → joins_within subset (get_or (equalities_of query) k d) ≡ true
         → ColumnStands lists key bounds (get_or (equalities_of query) k d).left.entry (get_or (equalities_of query) k d).left.column
         × ColumnStands lists key bounds (get_or (equalities_of query) k d).right.entry (get_or (equalities_of query) k d).right.column
-    both_stand k d low joins =
-        let columns = pair_at (λ entry column. entry < length query.from → ColumnStands lists key bounds entry column) es stand.columns k d low in
+    both_stand k d k_in_range joins =
+        let columns = pair_at (λ entry column. entry < length query.from → ColumnStands lists key bounds entry column) es stand.columns k d k_in_range in
         let below = both_below (length query.from) subset (get_or es k d) fits joins in
         (columns.0 below.0, columns.1 below.1)
 
     pub have_lists : SetHasLists bounds (equalities_of query) subset
-    have_lists = each_named (HasList bounds) subset es (λ k d low joins. let both = both_stand k d low joins in (both.0.has, both.1.has))
+    have_lists = each_named_column (HasList bounds) subset es (λ k d k_in_range joins. let both = both_stand k d k_in_range joins in (both.0.has, both.1.has))
 
     dominates_at : (entry column : ℕ) → ColumnStands lists key bounds entry column → Dominates bounds (scanned (list_at lists) key) entry column
     dominates_at entry column stands = record { keys = stands.dominates; key_per_row = length-map (list_at lists entry) (key entry column) }
 
     pub dominate : SetDominates bounds (scanned (list_at lists) key) (equalities_of query) subset
     dominate = record {
-      rows = each_in_set (RowsFit bounds (scanned (list_at lists) key)) subset (λ k low has. stand.rows k (entry_below (length query.from) subset k fits has));
-      columns = each_named (Dominates bounds (scanned (list_at lists) key)) subset es (λ k d low joins.
-          let both = both_stand k d low joins in
+      rows = each_in_set (RowsFit bounds (scanned (list_at lists) key)) subset (λ k k_in_range has. stand.rows k (entry_below (length query.from) subset k fits has));
+      columns = each_named_column (Dominates bounds (scanned (list_at lists) key)) subset es (λ k d k_in_range joins.
+          let both = both_stand k d k_in_range joins in
           let e : Edge = get_or es k d in
           (dominates_at e.left.entry e.left.column both.0, dominates_at e.right.entry e.right.column both.1));
     }
@@ -145,5 +145,5 @@ module _ (query : Query) (tables : Tables) (lists : List (List ℕ)) (key : Keys
   pub stand_in_every_set : StandForLists query tables lists key (in_every_set bounds)
   stand_in_every_set = record {
     keys = stand.keys;
-    each_set = λ subset fits. record { taking = lists; are = are; none_lost = λ order o. refl; have_lists = have_lists subset fits; dominate = dominate subset fits };
+    each_set = λ subset fits. record { sufficient_lists = lists; are = are; none_lost = λ order o. refl; have_lists = have_lists subset fits; dominate = dominate subset fits };
   }

@@ -17,12 +17,12 @@ use Rattle.bound_fold.specs.declared.lists.EntryLists.{EntryLists}
 use Rattle.bound_fold.specs.Lists.{bounds_of, list_of}
 use Rattle.bound_fold.specs.Sets.{HaveLists, SetHasBounds}
 use Rattle.set_bounds.specs.AllSets.{bound_in_128_bits, bounds_in_sets, bounds_of_sets, first_entries}
-use Rattle.set_bounds.proofs.Listing.{first_listed}
+use Rattle.set_bounds.proofs.Listing.{first_entries_have_bounds}
 use Rattle.sql_meaning.specs.Tables.{tables_of}
 use Rattle.join_steps.specs.Lists.{list_sizes}
 use Rattle.predicate_bounds.specs.declared.columns.QueryStats.{QueryStats}
 use Rattle.query_bounds.specs.Bounds.{HoldsKnown, entry_bounds, is_among, joined_columns, scan_bounds, scan_list, scan_row_bound, set_bounds}
-use Rattle.query_bounds.specs.Statistics.{TellsSomeStatistics, Statistics, HasStatistics}
+use Rattle.query_bounds.specs.Statistics.{HasSomeStatistics, Statistics, HasStatistics}
 use Rattle.query_bounds.proofs.Sets as told
 use Rattle.planning.specs.declared.known.QueryBounds.{QueryBounds}
 use Rattle.planning.specs.HasBounds.{HasBounds}
@@ -32,15 +32,15 @@ use Rattle.planning.specs.Standing.{JoinedHaveLists}
 use Rattle.planning.proofs.CollectedBounds as listed
 use Rattle.planning.proofs.ScanBounds.{named_all}
 
-pub tells_some_statistics : {query : Query} {stats : QueryStats} {known : Statistics} → HasStatistics query stats known → TellsSomeStatistics query stats
+pub tells_some_statistics : {query : Query} {stats : QueryStats} {known : Statistics} → HasStatistics query stats known → HasSomeStatistics query stats
 tells_some_statistics {known = known} tells = record { known = known; tells = tells }
 
 -- ---- bounds from statistics
 
 same_below : (f g : ℕ → ℕ) (n : ℕ) → ((k : ℕ) → k < n → f k ≡ g k) → map f (range_with_len 0 n) ≡ map g (range_with_len 0 n)
 same_below f g n same =
-    ext_get_or 0 (map f (range_with_len 0 n)) (map g (range_with_len 0 n)) (length-map-range_with_len f 0 n ∙ sym (length-map-range_with_len g 0 n)) (λ k low.
-    let within : k < n = omega (arith, low, length-map-range_with_len f 0 n) in
+    ext_get_or 0 (map f (range_with_len 0 n)) (map g (range_with_len 0 n)) (length-map-range_with_len f 0 n ∙ sym (length-map-range_with_len g 0 n)) (λ k k_in_range.
+    let within : k < n = omega (arith, k_in_range, length-map-range_with_len f 0 n) in
     get_or-map-range_with_len f 0 n k k 0 within (omega arith) ∙ same k within ∙ sym (get_or-map-range_with_len g 0 n k k 0 within (omega arith)))
 
 pub scans_from_statistics : (query : Query) (stats : Statistics) (lists : EntryLists) → bounds_of lists ≡ entry_bounds query stats
@@ -48,7 +48,7 @@ pub scans_from_statistics : (query : Query) (stats : Statistics) (lists : EntryL
 scans_from_statistics query stats lists are =
     ap (λ (b : EntryBounds). map b.rows (range_with_len 0 (length query.from))) are
     ∙ same_below (entry_bounds query stats).rows (scan_row_bound query stats) (length query.from)
-    (λ k low. ap (λ (t : Bool). if t then scan_row_bound query stats k else 0) (lt-ltb k (length query.from) low))
+    (λ k k_in_range. ap (λ (t : Bool). if t then scan_row_bound query stats k else 0) (lt-ltb k (length query.from) k_in_range))
 
 list_there : (lists : EntryLists) (entry column : ℕ) (list : List ℕ) → list_of lists entry column ≡ Some list → HasList (bounds_of lists) entry column
 list_there lists entry column list is = record {
@@ -59,8 +59,8 @@ list_there lists entry column list is = record {
 pub lists_from_statistics : (query : Query) (stats : Statistics) (lists : EntryLists) → HoldsKnown query stats (length query.from) (joined_columns query) lists
     → bounds_of lists ≡ entry_bounds query stats → JoinedHaveLists query (entry_bounds query stats)
 lists_from_statistics query stats lists held are =
-    named_all (λ entry column. entry < length query.from → HasList (entry_bounds query stats) entry column) (equalities_of query) (λ k d low.
-    let among = told.both_among (equalities_of query) k d low in
+    named_all (λ entry column. entry < length query.from → HasList (entry_bounds query stats) entry column) (equalities_of query) (λ k d k_in_range.
+    let among = told.both_among (equalities_of query) k d k_in_range in
     let l : Place = (get_or (equalities_of query) k d).left in
     let r : Place = (get_or (equalities_of query) k d).right in
     ((λ below. there l.entry l.column among.0), (λ below. there r.entry r.column among.1)))
@@ -68,19 +68,19 @@ lists_from_statistics query stats lists held are =
     there : (entry column : ℕ) → is_among (joined_columns query) entry column ≡ true → HasList (entry_bounds query stats) entry column
     there entry column among =
         subst (λ (b : EntryBounds). HasList b entry column) are
-        (list_there lists entry column (scan_list query stats entry column) (told.list_there query stats (length query.from) (joined_columns query) lists held entry column among))
+        (list_there lists entry column (scan_list query stats entry column) (told.list_is_held query stats (length query.from) (joined_columns query) lists held entry column among))
 
 -- ---- bounds from row bounds and lists, with the equalities of `split`; the row bounds are the scans' bounds
 
-module _ (query : Query) (es : List Edge) (split : es ≡ equalities_of query) (lists : EntryLists) (scans : List ℕ) (count : ℕ) (all : count ≡ length query.from)
+module _ (query : Query) (es : List Edge) (split : es ≡ equalities_of query) (lists : EntryLists) (scans : List ℕ) (count : ℕ) (counts_all_entries : count ≡ length query.from)
     (are : scans ≡ map (bounds_of lists).rows (range_with_len 0 count)) where
   pub one_each : length scans ≡ length query.from
-  one_each = ap (λ (s : List ℕ). length s) are ∙ length-map-range_with_len (bounds_of lists).rows 0 count ∙ all
+  one_each = ap (λ (s : List ℕ). length s) are ∙ length-map-range_with_len (bounds_of lists).rows 0 count ∙ counts_all_entries
 
   pub each_has_bounds : SetHasBounds lists (equalities_of query) (first_entries (length query.from)) → (subset : ℕ) → subset < 2 ^ length scans → SetHasBounds lists es subset
   each_has_bounds whole subset fits =
       subst (λ (s : List Edge). SetHasBounds lists s subset) (sym split)
-      (first_listed lists (equalities_of query) (length query.from) subset whole (subst (λ (n : ℕ). subset < 2 ^ n) one_each fits))
+      (first_entries_have_bounds lists (equalities_of query) (length query.from) subset whole (subst (λ (n : ℕ). subset < 2 ^ n) one_each fits))
 
   bounds_give : (b : EntryBounds) (each : List ℕ) (known : QueryBounds) → known.sets ≡ bounds_of_sets (bounds_of lists) es (length scans) → known.scans ≡ scans
       → bounds_of_sets (bounds_of lists) (equalities_of query) (length query.from) ≡ bounds_of_sets b (equalities_of query) (length query.from)
@@ -89,7 +89,7 @@ module _ (query : Query) (es : List Edge) (split : es ≡ equalities_of query) (
     sets =
         made ∙ ap (λ (s : List Edge). bounds_of_sets (bounds_of lists) s (length scans)) split
         ∙ ap (bounds_of_sets (bounds_of lists) (equalities_of query)) one_each ∙ same;
-    scans = kept ∙ are ∙ ap (λ (n : ℕ). map (bounds_of lists).rows (range_with_len 0 n)) all ∙ like;
+    scans = kept ∙ are ∙ ap (λ (n : ℕ). map (bounds_of lists).rows (range_with_len 0 n)) counts_all_entries ∙ like;
   }
 
   pub statistics_give_bounds : (stats : Statistics) (known : QueryBounds) → known.sets ≡ bounds_of_sets (bounds_of lists) es (length scans) → known.scans ≡ scans
@@ -110,11 +110,11 @@ module _ (query : Query) (es : List Edge) (split : es ≡ equalities_of query) (
 
 module _ (query : Query) (bounds : ℕ → EntryBounds) (scans : List ℕ) (known : QueryBounds) (gives : HasBounds (bounds_in_sets bounds (equalities_of query) (length query.from)) scans known)
     (one_scan : length scans ≡ length query.from) where
-  pub known_long : length known.scans ≡ length query.from
-  known_long = ap (λ (s : List ℕ). length s) gives.scans ∙ one_scan
+  pub one_scan_bound_each : length known.scans ≡ length query.from
+  one_scan_bound_each = ap (λ (s : List ℕ). length s) gives.scans ∙ one_scan
 
-  pub known_many : length known.sets ≡ 2 ^ length known.scans
-  known_many =
+  pub one_bound_for_each_set : length known.sets ≡ 2 ^ length known.scans
+  one_bound_for_each_set =
       ap (λ (s : List ℕ). length s) gives.sets
       ∙ length-map-range_with_len (λ subset. bound_in_128_bits (bounds subset) (equalities_of query) subset) 0 (2 ^ length query.from)
-      ∙ ap (λ (k : ℕ). 2 ^ k) (sym known_long)
+      ∙ ap (λ (k : ℕ). 2 ^ k) (sym one_scan_bound_each)

@@ -1,5 +1,5 @@
--- The degree sequences of columns over listed rows are in descending order, and sum to the number of rows. They dominate all keys that tell values
--- apart.
+-- The degree sequences of columns over listed rows are in descending order, and sum to the number of rows. They dominate the listed rows' keys,
+-- whenever rows have equal keys exactly if their values are equal.
 use Rattle.std.proofs.Common.{ℕ, ◌<◌, ◌≤◌, List, length, map, refl, ap, ◌∙◌, subst, arith}
 use Rattle.std.specs.List.{Contains, range_with_len}
 use Rattle.std.proofs.lemmas.List.{get_or-map, length-map}
@@ -15,17 +15,17 @@ use Rattle.tree_bounds.specs.TreeBounds.{EntryBounds, HasList}
 use Rattle.sql_meaning.specs.Tables.{Tables, row_counts}
 use Rattle.filtered_lists.specs.Standing.{value_in_row}
 use Rattle.level_bounds.specs.Keys.{AreKeys, Keys}
-use Rattle.level_bounds.proofs.Lists.{map_both}
+use Rattle.level_bounds.proofs.Lists.{map_of_map}
 use Rattle.relabelling_laws.specs.Relabelling.{AreEqualAlike}
 use Rattle.relabelling_laws.proofs.Dominated.{rows_dominated}
 use Rattle.table_stats.specs.Columns.{first_row, as_first_rows}
 use Rattle.table_stats.specs.Keys.{SeparatesValues}
 use Rattle.table_stats.proofs.EqualValues.{equal_itself, is_equal}
-use Rattle.table_stats.proofs.FirstRows.{equal_firsts, first_there, same_first}
+use Rattle.table_stats.proofs.FirstRows.{equal_firsts, first_row_exists, same_first}
 use Rattle.join_steps.specs.Lists.{list_at, list_sizes, listed_row_count, AreOfScans}
-use Rattle.join_steps.proofs.WholeScans.{size_at, size_count}
+use Rattle.join_steps.proofs.WholeScans.{list_sizes_at, list_sizes_length}
 use Rattle.reduced_scans.proofs.ByRounds.{filter_shrinks}
-use Rattle.reduced_scans.proofs.FamilyRows.{family_list, row_low, stays}
+use Rattle.reduced_scans.proofs.FamilyRows.{family_list, listed_row_in_range, stays}
 use Rattle.planning.specs.ListedBounds.{entry_bounds_over, listed_values}
 use Rattle.planning.specs.Standing.{BoundLists, ColumnStands, EntriesStand}
 use Rattle.planning.proofs.Facts.{each_column}
@@ -59,13 +59,13 @@ module _ (tables : Tables) (lists : List (List ℕ)) (accuracy : ℕ) where
       number_at row = first_row values (value_at row)
 
       number_there : (row : ℕ) → Contains rows row → number_at row < length values
-      number_there row listed =
-          first_there values (value_at row) listed.0 (value_at row) (omega (arith, listed.1, length-map rows value_at))
-          (ap (λ (v : Value). is_equal v (value_at row)) (get_or-map value_at rows listed.0 row (value_at row) listed.1 ∙ ap value_at listed.2) ∙ equal_itself (value_at row))
+      number_there row row_listed =
+          first_row_exists values (value_at row) row_listed.0 (value_at row) (omega (arith, row_listed.1, length-map rows value_at))
+          (ap (λ (v : Value). is_equal v (value_at row)) (get_or-map value_at rows row_listed.0 row (value_at row) row_listed.1 ∙ ap value_at row_listed.2) ∙ equal_itself (value_at row))
 
       alike : AreEqualAlike number_at (key entry column) rows
       alike row other listed also =
-          let told = tells entry column row other (row_low query tables lists are entry row listed) (row_low query tables lists are entry other also) in (
+          let told = tells entry column row other (listed_row_in_range query tables lists are entry row listed) (listed_row_in_range query tables lists are entry other also) in (
             (λ same. told.1 (equal_firsts values (value_at row) (value_at other) (number_there row listed) same)),
             (λ same. same_first values (value_at row) (value_at other) (told.0 same)),
           )
@@ -73,18 +73,18 @@ module _ (tables : Tables) (lists : List (List ℕ)) (accuracy : ℕ) where
       dominates : DominatesKeys (bounds.list entry column) (map (key entry column) rows)
       dominates =
           (rows_dominated (bounds.list entry column) number_at (key entry column) rows alike).0
-          (subst (DominatesKeys (bounds.list entry column)) (map_both (first_row values) value_at number_at (λ row. refl) rows) (compressed_dominates accuracy (as_first_rows values)))
+          (subst (DominatesKeys (bounds.list entry column)) (map_of_map (first_row values) value_at number_at (λ row. refl) rows) (compressed_dominates accuracy (as_first_rows values)))
 
     pub lists_stand : AreKeys tables key (equalities_of query) → EntriesStand query tables lists key (entry_bounds_over tables lists accuracy)
     lists_stand keys = record {
       keys = keys;
-      rows = λ entry low. omega arith;
+      rows = λ entry in_range. omega arith;
       columns = each_column (λ entry column. entry < length query.from → ColumnStands lists key bounds entry column) (equalities_of query)
-          (λ entry column low. record { has = has_list entry column; dominates = dominates entry column });
+          (λ entry column in_range. record { has = has_list entry column; dominates = dominates entry column });
     }
 
-rows_few : (query : Query) (tables : Tables) (lists : List (List ℕ)) → AreOfScans query tables lists → (entry : ℕ) → listed_row_count lists entry ≤ row_counts tables entry
-rows_few query tables lists are entry =
+listed_rows_within_table : (query : Query) (tables : Tables) (lists : List (List ℕ)) → AreOfScans query tables lists → (entry : ℕ) → listed_row_count lists entry ≤ row_counts tables entry
+listed_rows_within_table query tables lists are entry =
     omega (
       arith,
       ap (λ (s : List ℕ). length s) (family_list query tables lists are entry),
@@ -94,7 +94,7 @@ rows_few query tables lists are entry =
 
 pub sizes_bound : (query : Query) (tables : Tables) (lists : List (List ℕ)) → AreOfScans query tables lists → BoundLists query tables lists (list_sizes query lists)
 sizes_bound query tables lists are = record {
-  one_each = size_count query lists;
-  fit = λ entry low. omega (arith, size_at query lists entry low);
-  within = λ entry low. omega (arith, size_at query lists entry low, rows_few query tables lists are entry);
+  one_each = list_sizes_length query lists;
+  fit = λ entry entry_in_range. omega (arith, list_sizes_at query lists entry entry_in_range);
+  within = λ entry entry_in_range. omega (arith, list_sizes_at query lists entry entry_in_range, listed_rows_within_table query tables lists are entry);
 }

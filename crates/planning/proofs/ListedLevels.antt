@@ -21,9 +21,9 @@ use Rattle.sql_meaning.specs.Tables.{Tables, row_counts}
 use Rattle.level_bounds.specs.Keys.{JoinsEqualKeys, Keys}
 use Rattle.level_bounds.specs.Orders.{IsOrderOfSet}
 use Rattle.level_bounds.specs.Scans.{equalities_in, level_over_entries, query_scan}
-use Rattle.level_bounds.proofs.Choosing.{entry_in}
-use Rattle.level_bounds.proofs.Lists.{all_from, each_of, from_filter, from_map, in_map, in_true, is_in}
-use Rattle.level_bounds.proofs.NeverUnder.{differ, satisfies}
+use Rattle.level_bounds.proofs.Choosing.{set_entry_in_order}
+use Rattle.level_bounds.proofs.Lists.{from_members, at_member, from_filter, from_map, in_map, test_of_member, is_in}
+use Rattle.level_bounds.proofs.NeverUnder.{level_choices_differ, level_choices_satisfy}
 use Rattle.level_bounds.proofs.Reordering.{is_level_choice}
 use Rattle.join_steps.specs.Lists.{list_at, AreOfScans}
 use Rattle.reduced_scans.proofs.Bridge.{has, has-contains}
@@ -74,28 +74,28 @@ module _ (query : Query) (tables : Tables) (lists : List (List ℕ)) (are : AreO
       let parts : Contains (level_over_entries query tables order) choice × (all_pass listed order choice ≡ true) = from_filter (all_pass listed order) (level_over_entries query tables order) choice k in
       has-contains (row_in order choice entry) (list_at lists entry)
       (pass_at listed (row_counts tables) order choice (is_level_choice (conjuncts_of query tables) (row_counts tables) order choice parts.0).chosen parts.1 entry
-      (in_true order entry (entry_in set order o entry here)))
+      (test_of_member order entry (set_entry_in_order set order o entry here)))
 
   kept_differ : ChoicesAreDifferent set (map (row_in order) kept)
   kept_differ =
       let apart : (ℕ → ℕ) → (ℕ → ℕ) → Type 0 = λ x y. map x set ≢ map y set in
       pairs_mapped apart (row_in order) kept
       (AllPairs-filter (λ a b. apart (row_in order a) (row_in order b)) (all_pass listed order) (level_over_entries query tables order)
-      (pairs_unmapped apart (row_in order) (level_over_entries query tables order) (differ query tables subset order o)))
+      (pairs_unmapped apart (row_in order) (level_over_entries query tables order) (level_choices_differ query tables subset order o)))
 
   module _ (key : Keys) (joins : AllByRecursion (JoinsEqualKeys tables key) (equalities_in query subset)) where
     kept_satisfies : AllByRecursion (SatisfiesScanned (list_at lists) key set (equalities_in query subset)) (map (row_in order) kept)
     kept_satisfies =
-        all_from (SatisfiesScanned (list_at lists) key set (equalities_in query subset)) (map (row_in order) kept) (λ f k.
+        from_members (SatisfiesScanned (list_at lists) key set (equalities_in query subset)) (map (row_in order) kept) (λ f k.
         let from : (choice : List ℕ) × Contains kept choice × (f ≡ row_in order choice) = from_map (row_in order) kept f k in
         subst (SatisfiesScanned (list_at lists) key set (equalities_in query subset)) (sym from.2) (one from.0 from.1))
       where
         one : (choice : List ℕ) → Contains kept choice → SatisfiesScanned (list_at lists) key set (equalities_in query subset) (row_in order choice)
         one choice k = record {
-          rows = all_from (λ entry. Contains (list_at lists entry) (row_in order choice entry)) set (row_listed choice k);
+          rows = from_members (λ entry. Contains (list_at lists entry) (row_in order choice entry)) set (row_listed choice k);
           equal =
-              (each_of (SatisfiesScanned (query_scan query tables) key set (equalities_in query subset)) (map (row_in order) (level_over_entries query tables order))
-              (satisfies query tables key subset order joins o) (row_in order choice)
+              (at_member (SatisfiesScanned (query_scan query tables) key set (equalities_in query subset)) (map (row_in order) (level_over_entries query tables order))
+              (level_choices_satisfy query tables key subset order joins o) (row_in order choice)
               (in_map (row_in order) (level_over_entries query tables order) choice (from_filter (all_pass listed order) (level_over_entries query tables order) choice k).0)).equal;
         }
 

@@ -7,7 +7,7 @@ use Rattle.entry_sets.specs.Sets.{entries_of_set}
 use Rattle.plans.specs.declared.left_deep.Plan.{Plan}
 use Rattle.order_search.specs.Orders.{IsBest}
 use Rattle.order_search.specs.declared.refusal.PlanError.TheVariants as error
-use Rattle.plan_answers.proofs.OneAnswer.{never_memory}
+use Rattle.plan_answers.proofs.OneAnswer.{never_out_of_memory}
 use Rattle.query_types.specs.declared.types.Query.{Query}
 use Rattle.join_graph.specs.Conjuncts.{equalities_of}
 use Rattle.tree_bounds.specs.TreeBounds.{EntryBounds}
@@ -17,7 +17,7 @@ use Rattle.sql_meaning.specs.Levels.{level_over}
 use Rattle.sql_meaning.specs.Tables.{Tables}
 use Rattle.join_steps.specs.Lists.{list_at, list_sizes, listed_row_count, AreOfScans}
 use Rattle.join_steps.specs.Plans.{IsPlanOf}
-use Rattle.join_steps.proofs.WholeScans.{size_at, size_count}
+use Rattle.join_steps.proofs.WholeScans.{list_sizes_at, list_sizes_length}
 use Rattle.level_bounds.specs.Orders.{IsOrderOfSet}
 use Rattle.level_bounds.proofs.SetNumbers.{order_of_all}
 use Rattle.table_stats.proofs.ValueNumbers.{have_keys}
@@ -51,12 +51,12 @@ module _ (query : Query) (tables : Tables) (lists : List (List ℕ)) (accuracy :
   module _ (budget : ℕ) where
     pub never_memory_over : planned_over query tables lists accuracy budget ≢ Err error.NoMemory
     unfolding planned_over
-    never_memory_over = never_memory sets scans budget
+    never_memory_over = never_out_of_memory sets scans budget
 
     module _ (plan : Plan) (made : planned_over query tables lists accuracy budget ≡ Ok plan) where
       pub is_best_over : IsBest (set_bounds_over query tables lists accuracy) (length query.from) plan.order
       unfolding planned_over
-      is_best_over = is_best_from sets scans (length query.from) budget (size_count query lists) plan made
+      is_best_over = is_best_from sets scans (length query.from) budget (list_sizes_length query lists) plan made
 
       pub order_of_entries : IsOrderOfSet (entries_of query) plan.order
       order_of_entries = order_of_all (length query.from) plan.order is_best_over.is_order.entries is_best_over.is_order.once is_best_over.is_order.all
@@ -66,14 +66,14 @@ module _ (query : Query) (tables : Tables) (lists : List (List ℕ)) (accuracy :
 
       pub scan_is : (entry : ℕ) → entry < length query.from → get_or plan.scans entry 0 ≡ listed_row_count lists entry
       unfolding planned_over
-      scan_is entry low =
-          scan_kept sets scans (length query.from) budget (size_count query lists) plan made entry ∙ size_at query lists entry low
+      scan_is entry entry_in_range =
+          scan_kept sets scans (length query.from) budget (list_sizes_length query lists) plan made entry ∙ list_sizes_at query lists entry entry_in_range
 
       pub level_within_over : (k : ℕ) → get_or plan.levels k 0 ≤ budget
       unfolding planned_over
-      level_within_over k = level_within_budget sets scans (length query.from) budget (size_count query lists) plan made k
+      level_within_over k = level_within_budget sets scans (length query.from) budget (list_sizes_length query lists) plan made k
 
       pub is_plan_over : AreOfScans query tables lists → length query.from ≤ most_entries → budget ≤ most_budget → IsPlanOf query tables lists plan
       unfolding planned_over
-      is_plan_over are few small =
-          plan_over_lists query tables lists sets scans (listed_levels are) (sizes_bound query tables lists are) budget plan few small made
+      is_plan_over are within_limit budget_within_limit =
+          plan_over_lists query tables lists sets scans (listed_levels are) (sizes_bound query tables lists are) budget plan within_limit budget_within_limit made

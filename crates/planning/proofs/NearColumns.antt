@@ -35,7 +35,7 @@ module _ (tables : Tables) where
   keys_are_numbers : (entry column : ℕ) → as_first_rows (column_values tables entry column) ≡ keys_of tables row_number entry column
   keys_are_numbers entry column =
       fill_by_all (row_number entry column) (as_first_rows (column_values tables entry column)) (row_counts tables entry) 0
-      (length-as_first_rows entry column) (λ k low. refl)
+      (length-as_first_rows entry column) (λ k k_in_range. refl)
 
   whole_columns_are : uncompressed tables row_number ≡ whole_columns tables
   whole_columns_are =
@@ -48,7 +48,7 @@ module _ (tables : Tables) where
       → AreOfWholeTables query (statistics_of tables accuracy) tables row_number accuracy
   are_whole query accuracy none = record {
     unfiltered = none;
-    counts = λ entry low. refl;
+    counts = λ entry entry_in_range. refl;
     lists =
         each_column (λ entry column. (column_lists tables accuracy entry column).whole
         ≡ compressed accuracy (degree_list (keys_of tables row_number entry column))) (equalities_of query)

@@ -15,11 +15,11 @@ use Rattle.sql_meaning.specs.Answers.{conjuncts_of}
 use Rattle.sql_meaning.specs.Levels.{level_over}
 use Rattle.sql_meaning.specs.Tables.{Tables, row_counts}
 use Rattle.join_steps.specs.Lists.{list_at, scans_of}
-use Rattle.join_steps.proofs.WholeScans.{levels_of_scans, scan_at, whole_of_scans}
+use Rattle.join_steps.proofs.WholeScans.{levels_of_scans, scans_of_at, scans_are_of_scans}
 use Rattle.level_bounds.specs.Keys.{Keys}
 use Rattle.level_bounds.specs.Orders.{IsOrderOfSet}
 use Rattle.level_bounds.specs.Scans.{level_over_entries, query_scan}
-use Rattle.level_bounds.proofs.Lists.{all_from, each_of}
+use Rattle.level_bounds.proofs.Lists.{from_members, at_member}
 use Rattle.filtered_lists.specs.Standing.{ListsDescend, SumTo}
 use Rattle.filtered_lists.proofs.Lists.{rows_within}
 use Rattle.query_bounds.specs.Bounds.{entry_bounds, scan_bounds, scan_row_bound}
@@ -39,20 +39,20 @@ one_scan_each query tables accuracy = length-map-range_with_len (scan_row_bound 
 
 module _ (query : Query) (known : Statistics) (tables : Tables) (key : Keys) (stands : StandFor query known tables key) where
   scan_fits : (entry : ℕ) → entry < length query.from → length (query_scan query tables entry) ≤ get_or (scan_bounds query known) entry 0
-  scan_fits entry low = scan_within query known tables key entry (scan_bounds query known) refl stands low
+  scan_fits entry entry_in_range = scan_within query known tables key entry (scan_bounds query known) refl stands entry_in_range
 
   pub scans_bound : ((entry : ℕ) → entry < length query.from → (known.counts entry).whole ≤ row_counts tables entry)
       → BoundLists query tables (scans_of query tables) (scan_bounds query known)
-  scans_bound few = record {
+  scans_bound whole_within_table = record {
     one_each = length-map-range_with_len (scan_row_bound query known) 0 (length query.from);
-    fit = λ entry low.
-        subst (λ (s : List ℕ). length s ≤ get_or (scan_bounds query known) entry 0) (sym (scan_at query tables entry low)) (scan_fits entry low);
-    within = λ entry low.
+    fit = λ entry entry_in_range.
+        subst (λ (s : List ℕ). length s ≤ get_or (scan_bounds query known) entry 0) (sym (scans_of_at query tables entry entry_in_range)) (scan_fits entry entry_in_range);
+    within = λ entry entry_in_range.
         omega (
           arith,
-          sets.scan_at query known (length query.from) entry (scan_bounds query known) refl low,
+          sets.scan_at query known (length query.from) entry (scan_bounds query known) refl entry_in_range,
           rows_within (known.counts entry) entry query.conjuncts,
-          few entry low,
+          whole_within_table entry entry_in_range,
         );
   }
 
@@ -71,34 +71,34 @@ module _ (query : Query) (tables : Tables) (accuracy : ℕ) where
 
   pub scan_never_under : (entry : ℕ) → entry < length query.from
       → length (query_scan query tables entry) ≤ get_or (scan_bounds_of query tables accuracy) entry 0
-  scan_never_under entry low =
+  scan_never_under entry entry_in_range =
       let f : Facts tables accuracy = facts tables accuracy in
-      scan_fits query (statistics_of tables accuracy) tables f.key (stand_for query tables accuracy f) entry low
+      scan_fits query (statistics_of tables accuracy) tables f.key (stand_for query tables accuracy f) entry entry_in_range
 
   pub scans_are_bounded : BoundLists query tables (scans_of query tables) (scan_bounds_of query tables accuracy)
   scans_are_bounded =
       let f : Facts tables accuracy = facts tables accuracy in
-      scans_bound query (statistics_of tables accuracy) tables f.key (stand_for query tables accuracy f) (λ entry low. omega arith)
+      scans_bound query (statistics_of tables accuracy) tables f.key (stand_for query tables accuracy f) (λ entry entry_in_range. omega arith)
 
-  pub scan_small : (entry : ℕ) → entry < length query.from
+  pub scan_bound_within_table : (entry : ℕ) → entry < length query.from
       → get_or (scan_bounds_of query tables accuracy) entry 0 ≤ row_counts tables entry
-  scan_small = scans_are_bounded.within
+  scan_bound_within_table = scans_are_bounded.within
 
   pub levels_are_bounded : BoundLevels query tables (scans_of query tables) (set_bounds_of query tables accuracy)
   levels_are_bounded =
       let key : Keys = (facts tables accuracy).key in
       levels_bound query tables (scans_of query tables) key (in_every_set bounds)
-      (stand_in_every_set query tables (scans_of query tables) key bounds (whole_of_scans query tables) entries_stand)
+      (stand_in_every_set query tables (scans_of query tables) key bounds (scans_are_of_scans query tables) entries_stand)
 
   level_is : (subset : ℕ) (order : List ℕ) → subset < 2 ^ length query.from → IsOrderOfSet (entries_of_set subset) order
       → level_over (conjuncts_of query tables) (list_at (scans_of query tables)) order ≡ level_over_entries query tables order
   level_is subset order fits o =
       subst (λ (s : List ℕ). level_over (conjuncts_of query tables) (list_at (scans_of query tables)) s ≡ level_over_entries query tables s)
       (take_all (length order) order (omega arith))
-      (levels_of_scans query tables order (length order) (all_from (λ entry. entry < length query.from) order low) o.once)
+      (levels_of_scans query tables order (length order) (from_members (λ entry. entry < length query.from) order entries_in_range) o.once)
     where
-      low : (entry : ℕ) → Contains order entry → entry < length query.from
-      low entry here = entry_below (length query.from) subset entry fits (set_entries subset entry (each_of (Contains (entries_of_set subset)) order o.within entry here))
+      entries_in_range : (entry : ℕ) → Contains order entry → entry < length query.from
+      entries_in_range entry here = entry_below (length query.from) subset entry fits (set_entries subset entry (at_member (Contains (entries_of_set subset)) order o.within entry here))
 
   pub level_never_under : (subset : ℕ) (order : List ℕ) → subset < 2 ^ length query.from → IsOrderOfSet (entries_of_set subset) order
       → (length (level_over_entries query tables order) ≤ get_or (set_bounds_of query tables accuracy) subset 0)

@@ -10,7 +10,7 @@ use Rattle.sql_meaning.specs.Levels.{level, level_over, row_in}
 use Rattle.sql_meaning.specs.Tables.{Tables, row_counts}
 use Rattle.level_bounds.specs.Orders.{IsOrderOfSet}
 use Rattle.level_bounds.proofs.LastLevel.{last_level_is_answer}
-use Rattle.level_bounds.proofs.Lists.{all_from, each_of, range_within}
+use Rattle.level_bounds.proofs.Lists.{from_members, at_member, range_within}
 use Rattle.join_steps.specs.Lists.{list_at, scans_of, AreOfScans, list_levels}
 use Rattle.reduced_scans.specs.Rounds.{reduced_of}
 use Rattle.reduced_scans.proofs.ByRounds.{reduced_scans_by_rounds}
@@ -34,7 +34,7 @@ last_reduced query tables accuracy budget plan named made =
 pub levels_of_scans : (query : Query) (tables : Tables) (order : List ℕ) (k : ℕ) → IsOrderOfSet (entries_of query) order
     → list_levels query tables (scans_of query tables) order k ≡ level (conjuncts_of query tables) (row_counts tables) order k
 levels_of_scans query tables order k o =
-    whole.levels_of_scans query tables order k (all_from (λ entry. entry < length query.from) order low) o.once
+    whole.levels_of_scans query tables order k (from_members (λ entry. entry < length query.from) order entries_in_range) o.once
   where
-    low : (entry : ℕ) → Contains order entry → entry < length query.from
-    low entry here = omega (arith, (range_within 0 (length query.from) entry (each_of (Contains (entries_of query)) order o.within entry here)).1)
+    entries_in_range : (entry : ℕ) → Contains order entry → entry < length query.from
+    entries_in_range entry here = omega (arith, (range_within 0 (length query.from) entry (at_member (Contains (entries_of query)) order o.within entry here)).1)

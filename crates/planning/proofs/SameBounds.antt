@@ -15,8 +15,8 @@ use Rattle.tree_bounds.specs.Columns.{EachColumn, EachColumnBelow, EachColumnWit
 use Rattle.tree_bounds.specs.TreeBounds.{EntryBounds, bound_of_tree, bound_of_trees, child_lists, class_list}
 use Rattle.tree_bounds.specs.SetBounds.{bound_of_turn, least_to, trees_of}
 use Rattle.tree_bounds.proofs.Agreeing.{named_in_turn, tree_columns}
-use Rattle.tree_bounds.proofs.Turns.{trees_there}
-use Rattle.bound_fold.proofs.TestedSets.{each_named}
+use Rattle.tree_bounds.proofs.Turns.{trees_exist}
+use Rattle.bound_fold.proofs.TestedSets.{each_named_column}
 use Rattle.set_bounds.specs.AllSets.{bound_in_128_bits, bounds_of_sets}
 
 module _ (b c : EntryBounds) (rows : (entry : ℕ) → b.rows entry ≡ c.rows entry) where
@@ -63,9 +63,9 @@ module _ (b c : EntryBounds) (rows : (entry : ℕ) → b.rows entry ≡ c.rows e
     turn_same : (subset turn : ℕ) → bound_of_turn b es subset turn ≡ bound_of_turn c es subset turn
     turn_same subset turn =
         let kept : List Edge = kept_of subset turn es in
-        let all : AreAllTreesOf kept (entries_of_set subset) (trees_of kept subset) = trees_there es subset turn in
+        let all : AreAllTreesOf kept (entries_of_set subset) (trees_of kept subset) = trees_exist es subset turn in
         trees_same kept (trees_of kept subset)
-        (tree_columns IsSame kept (named_in_turn IsSame subset turn es (each_named IsSame subset es (λ k d low joins. named k d low)))) all.trees
+        (tree_columns IsSame kept (named_in_turn IsSame subset turn es (each_named_column IsSame subset es (λ k d k_in_range joins. named k d k_in_range)))) all.trees
 
     set_same : (subset : ℕ) → bound_in_128_bits b es subset ≡ bound_in_128_bits c es subset
     set_same subset = ap saturated (least_same (bound_of_turn b es subset) (bound_of_turn c es subset) (turn_same subset) (turn_count subset es - 1))

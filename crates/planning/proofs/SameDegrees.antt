@@ -16,7 +16,7 @@ use Rattle.degree_sequences.specs.Degrees.{degree_list}
 use Rattle.filtered_lists.specs.Standing.{value_in_row}
 use Rattle.level_bounds.specs.Keys.{HaveDifferentCharacters}
 use Rattle.level_bounds.proofs.CellKeys.{equal_cells}
-use Rattle.level_bounds.proofs.Lists.{map_both}
+use Rattle.level_bounds.proofs.Lists.{map_of_map}
 use Rattle.relabelling_laws.specs.Relabelling.{AreEqualAlike}
 use Rattle.relabelling_laws.proofs.Dominated.{same_degrees}
 use Rattle.sql_meaning.specs.Databases.{AreTables, IsColumnOf}
@@ -25,7 +25,7 @@ use Rattle.join_steps.specs.Columns.{column_cells}
 use Rattle.join_steps.proofs.Cells.{cell_of_row, value_by_cell}
 use Rattle.table_stats.specs.Columns.{first_row, as_first_rows}
 use Rattle.table_stats.proofs.EqualValues.{equal_itself, is_equal}
-use Rattle.table_stats.proofs.FirstRows.{equal_firsts, first_there}
+use Rattle.table_stats.proofs.FirstRows.{equal_firsts, first_row_exists}
 
 module _ (db : Database) (are : AreTables db) (differ : HaveDifferentCharacters db.pool) (column : ColumnRef) (there : IsColumnOf db column)
     (rows : List ℕ) (low : All (λ row. row < (cells_of db column.from).rows) rows) where
@@ -44,19 +44,19 @@ module _ (db : Database) (are : AreTables db) (differ : HaveDifferentCharacters 
   abbrev number_of : ℕ → ℕ
   number_of row = first_row values (value_of row)
 
-  row_low : (row : ℕ) → Contains rows row → row < (cells_of db column.from).rows
-  row_low row has = All-contains (λ r. r < (cells_of db column.from).rows) rows row low has
+  listed_row_in_range : (row : ℕ) → Contains rows row → row < (cells_of db column.from).rows
+  listed_row_in_range row has = All-contains (λ r. r < (cells_of db column.from).rows) rows row low has
 
   value_is : (row : ℕ) → Contains rows row → value_of row ≡ value_of_cell db.pool kind_here (cell_of row)
-  value_is row has = value_by_cell db column (λ e. row) are there (row_low row has)
+  value_is row has = value_by_cell db column (λ e. row) are there (listed_row_in_range row has)
 
   is_cell : (row : ℕ) → Contains rows row → IsCell db.pool kind_here (cell_of row)
-  is_cell row has = cell_of_row db column row are there (row_low row has)
+  is_cell row has = cell_of_row db column row are there (listed_row_in_range row has)
 
   has_first : (row : ℕ) → Contains rows row → number_of row < length values
   has_first row has =
       let at : get_or values has.0 (Int (pos 0)) ≡ value_of row = get_or-map value_of rows has.0 row (Int (pos 0)) has.1 ∙ ap value_of has.2 in
-      first_there values (value_of row) has.0 (Int (pos 0)) (omega (arith, has.1, length-map rows value_of))
+      first_row_exists values (value_of row) has.0 (Int (pos 0)) (omega (arith, has.1, length-map rows value_of))
       (ap (λ (v : Value). is_equal v (value_of row)) at ∙ equal_itself (value_of row))
 
   cells_equal : (i j : ℕ) → Contains rows i → Contains rows j → number_of i ≡ number_of j → cell_of i ≡ cell_of j
@@ -74,7 +74,7 @@ module _ (db : Database) (are : AreTables db) (differ : HaveDifferentCharacters 
   alike i j has_i has_j = (numbers_equal i j has_i has_j, cells_equal i j has_i has_j)
 
   numbers_are : as_first_rows values ≡ map number_of rows
-  numbers_are = map_both (first_row values) value_of number_of (λ row. refl) rows
+  numbers_are = map_of_map (first_row values) value_of number_of (λ row. refl) rows
 
   pub degrees_are : degree_list (map cell_of rows) ≡ degree_list (as_first_rows values)
   degrees_are = same_degrees cell_of number_of rows alike ∙ ap degree_list (sym numbers_are)

@@ -12,11 +12,11 @@ use Rattle.tree_bounds.specs.Columns.{EachNamedColumn}
 use Rattle.tree_bounds.specs.TreeBounds.{HasList}
 use Rattle.sql_meaning.specs.Tables.{Tables}
 use Rattle.join_steps.specs.Lists.{list_at, scans_of}
-use Rattle.join_steps.proofs.WholeScans.{scan_at}
+use Rattle.join_steps.proofs.WholeScans.{scans_of_at}
 use Rattle.level_bounds.specs.Keys.{AreKeys, Keys}
 use Rattle.filtered_lists.specs.Standing.{ListsDescend, ListsStandFor, SumTo}
 use Rattle.filtered_lists.proofs.Counting.{list_dominates}
-use Rattle.filtered_lists.proofs.Lists.{filtered_falls, sum-filtered}
+use Rattle.filtered_lists.proofs.Lists.{filtered_descends, sum-filtered}
 use Rattle.query_bounds.specs.Bounds.{entry_bounds, is_among, joined_columns, scan_list, scan_row_bound}
 use Rattle.query_bounds.specs.Statistics.{StandFor, Statistics}
 use Rattle.query_bounds.proofs.Holding.{pair_at}
@@ -30,11 +30,11 @@ pub named_all : (Q : ℕ → ℕ → Type 0) (es : List Edge)
 named_all Q [] both = tt
 named_all Q (e ∷ es) both =
     let here : Q e.left.entry e.left.column × Q e.right.entry e.right.column = both 0 e (omega arith) in
-    (here.0, (here.1, named_all Q es (λ k d low. both (suc k) d (omega arith))))
+    (here.0, (here.1, named_all Q es (λ k d k_in_range. both (suc k) d (omega arith))))
 
 module _ (query : Query) (known : Statistics) where
   rows_at : (entry : ℕ) → entry < length query.from → (entry_bounds query known).rows entry ≡ scan_row_bound query known entry
-  rows_at entry low = ap (λ (t : Bool). if t then scan_row_bound query known entry else 0) (lt-ltb entry (length query.from) low)
+  rows_at entry entry_in_range = ap (λ (t : Bool). if t then scan_row_bound query known entry else 0) (lt-ltb entry (length query.from) entry_in_range)
 
   joined_list : (entry column : ℕ) → is_among (joined_columns query) entry column ≡ true
       → (entry_bounds query known).list entry column ≡ scan_list query known entry column
@@ -43,26 +43,26 @@ module _ (query : Query) (known : Statistics) where
   has_list : (entry column : ℕ) → ListsDescend (known.lists entry column) → SumTo (known.lists entry column) (known.counts entry)
       → entry < length query.from
       → is_among (joined_columns query) entry column ≡ true → HasList (entry_bounds query known) entry column
-  has_list entry column falls sums low among = record {
-    falls = subst IsDescending (sym (joined_list entry column among)) (filtered_falls (known.lists entry column) entry query.conjuncts falls);
+  has_list entry column falls sums entry_in_range among = record {
+    falls = subst IsDescending (sym (joined_list entry column among)) (filtered_descends (known.lists entry column) entry query.conjuncts falls);
     total =
         ap (λ (s : List ℕ). sum s) (joined_list entry column among)
-        ∙ sum-filtered (known.lists entry column) (known.counts entry) entry query.conjuncts sums ∙ sym (rows_at entry low);
+        ∙ sum-filtered (known.lists entry column) (known.counts entry) entry query.conjuncts sums ∙ sym (rows_at entry entry_in_range);
   }
 
   module _ (tables : Tables) (key : Keys) (stands : StandFor query known tables key) where
     scan_stands : (entry : ℕ) → entry < length query.from → length (list_at (scans_of query tables) entry) ≤ (entry_bounds query known).rows entry
-    scan_stands entry low =
-        subst (λ (n : ℕ). length (list_at (scans_of query tables) entry) ≤ n) (sym (rows_at entry low))
-        (subst (λ (s : List ℕ). length s ≤ scan_row_bound query known entry) (sym (scan_at query tables entry low))
-        (scan_fits query known tables key entry stands low))
+    scan_stands entry entry_in_range =
+        subst (λ (n : ℕ). length (list_at (scans_of query tables) entry) ≤ n) (sym (rows_at entry entry_in_range))
+        (subst (λ (s : List ℕ). length s ≤ scan_row_bound query known entry) (sym (scans_of_at query tables entry entry_in_range))
+        (scan_fits query known tables key entry stands entry_in_range))
 
     dominates : (entry column : ℕ) → is_among (joined_columns query) entry column ≡ true
         → ListsStandFor (known.lists entry column) tables entry (key entry column) → entry < length query.from
         → DominatesKeys ((entry_bounds query known).list entry column) (map (key entry column) (list_at (scans_of query tables) entry))
-    dominates entry column among stand low =
+    dominates entry column among stand entry_in_range =
         subst (λ (s : List ℕ). DominatesKeys s (map (key entry column) (list_at (scans_of query tables) entry))) (sym (joined_list entry column among))
-        (subst (λ (s : List ℕ). DominatesKeys (scan_list query known entry column) (map (key entry column) s)) (sym (scan_at query tables entry low))
+        (subst (λ (s : List ℕ). DominatesKeys (scan_list query known entry column) (map (key entry column) s)) (sym (scans_of_at query tables entry entry_in_range))
         (list_dominates (known.lists entry column) tables entry (key entry column) query.conjuncts stand))
 
     pub stand_for_scans : JoinedHaveLists query (entry_bounds query known) → AreKeys tables key (equalities_of query)
@@ -70,12 +70,12 @@ module _ (query : Query) (known : Statistics) where
     stand_for_scans have keys = record {
       keys = keys;
       rows = scan_stands;
-      columns = named_all (λ entry column. entry < length query.from → ColumnStands (scans_of query tables) key (entry_bounds query known) entry column) (equalities_of query) (λ k d low.
-          let among = both_among (equalities_of query) k d low in
+      columns = named_all (λ entry column. entry < length query.from → ColumnStands (scans_of query tables) key (entry_bounds query known) entry column) (equalities_of query) (λ k d k_in_range.
+          let among = both_among (equalities_of query) k d k_in_range in
           let stand =
           pair_at (λ entry column. ListsStandFor (known.lists entry column) tables entry (key entry column))
-          (equalities_of query) stands.lists k d low in
-          let has = pair_at (λ entry column. entry < length query.from → HasList (entry_bounds query known) entry column) (equalities_of query) have k d low in
+          (equalities_of query) stands.lists k d k_in_range in
+          let has = pair_at (λ entry column. entry < length query.from → HasList (entry_bounds query known) entry column) (equalities_of query) have k d k_in_range in
           let l : Place = (get_or (equalities_of query) k d).left in
           let r : Place = (get_or (equalities_of query) k d).right in (
             (λ below. record { has = has.0 below; dominates = dominates l.entry l.column among.0 stand.0 below }),
@@ -86,9 +86,9 @@ module _ (query : Query) (known : Statistics) where
   pub have_lists : EachNamedColumn (λ entry column. ListsDescend (known.lists entry column) × SumTo (known.lists entry column) (known.counts entry)) (equalities_of query)
       → JoinedHaveLists query (entry_bounds query known)
   have_lists named =
-      named_all (λ entry column. entry < length query.from → HasList (entry_bounds query known) entry column) (equalities_of query) (λ k d low.
-      let among = both_among (equalities_of query) k d low in
-      let both = pair_at (λ entry column. ListsDescend (known.lists entry column) × SumTo (known.lists entry column) (known.counts entry)) (equalities_of query) named k d low in
+      named_all (λ entry column. entry < length query.from → HasList (entry_bounds query known) entry column) (equalities_of query) (λ k d k_in_range.
+      let among = both_among (equalities_of query) k d k_in_range in
+      let both = pair_at (λ entry column. ListsDescend (known.lists entry column) × SumTo (known.lists entry column) (known.counts entry)) (equalities_of query) named k d k_in_range in
       let l : Place = (get_or (equalities_of query) k d).left in
       let r : Place = (get_or (equalities_of query) k d).right in (
         (λ below. has_list l.entry l.column both.0.0 both.0.1 below among.0),

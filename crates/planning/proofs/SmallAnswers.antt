@@ -24,19 +24,19 @@ use Rattle.sql_meaning.specs.Tables.{Tables, row_counts}
 use Rattle.sql_meaning.proofs.ConditionFacts.{holds_compare}
 use Rattle.level_bounds.specs.Keys.{are_equal_at}
 use Rattle.level_bounds.proofs.SmallTriangle.{triangle_joined}
-use Rattle.query_bounds.specs.Examples.{pair}
+use Rattle.query_bounds.specs.Examples.{two_table_query}
 use Rattle.planning.specs.Examples.{small_tables}
 use Rattle.reduced_scans.specs.Rounds.{after_rounds, reduced_of}
 use Rattle.join_steps.specs.Lists.{scans_of}
 use Rattle.planning.specs.ListedBounds.{set_bounds_over}
-use Rattle.planning.specs.ReducedExamples.{crossed_tables, empty_first, never_true, with_another}
+use Rattle.planning.specs.ReducedExamples.{crossed_tables, empty_first_tables, never_true_query, unjoined_entry_query}
 use Rattle.planning.specs.Plans.{planned_reduced}
 use Rattle.planning.proofs.SmallReductions.{another_reduced, plan_computed, reduced_from}
 
 -- the answer, computed by a single test that says whether every conjunct holds
-answer_by : (query : Query) (tables : Tables) (test : (ℕ → ℕ) → Bool) → ((row_of : ℕ → ℕ) → query_holds query tables row_of ≡ test row_of)
+answer_by_test : (query : Query) (tables : Tables) (test : (ℕ → ℕ) → Bool) → ((row_of : ℕ → ℕ) → query_holds query tables row_of ≡ test row_of)
     → answer query tables ≡ map (λ choice. selected query tables (slice_index choice)) (filter (λ choice. test (slice_index choice)) (choices_of (row_counts tables) (entries_of query)))
-answer_by query tables test is =
+answer_by_test query tables test is =
     ap (λ (chosen : List (List ℕ)). map (λ choice. selected query tables (slice_index choice)) chosen)
     (filter_agree (λ choice. query_holds query tables (slice_index choice)) (λ choice. test (slice_index choice)) (λ choice. is (slice_index choice))
     (choices_of (row_counts tables) (entries_of query)))
@@ -44,19 +44,19 @@ answer_by query tables test is =
 abbrev equal : Tables → (ℕ → ℕ) → Operand → Operand → Bool
 equal tables row_of left right = comparison_holds tables row_of op.Eq left right
 
--- ---- the answer over R and S
+-- ---- the answer of the query that joins R and S
 
-pair_test : (row_of : ℕ → ℕ) → query_holds pair small_tables row_of ≡ (equal small_tables row_of (column_operand 0 0) (column_operand 1 0) && true)
+pair_test : (row_of : ℕ → ℕ) → query_holds two_table_query small_tables row_of ≡ (equal small_tables row_of (column_operand 0 0) (column_operand 1 0) && true)
 pair_test row_of = rw (holds_compare small_tables row_of op.Eq (column_operand 0 0) (column_operand 1 0)) refl
 
-pub pair_answer : length (answer pair small_tables) ≡ 6
+pub pair_answer : length (answer two_table_query small_tables) ≡ 6
 pair_answer =
     ap (λ (rows : List Row). length rows)
-    (answer_by pair small_tables (λ row_of. equal small_tables row_of (column_operand 0 0) (column_operand 1 0) && true) pair_test)
+    (answer_by_test two_table_query small_tables (λ row_of. equal small_tables row_of (column_operand 0 0) (column_operand 1 0) && true) pair_test)
 
 -- ---- the answer with a condition that never holds
 
-never_test : (row_of : ℕ → ℕ) → query_holds never_true small_tables row_of
+never_test : (row_of : ℕ → ℕ) → query_holds never_true_query small_tables row_of
     ≡ (equal small_tables row_of (column_operand 0 0) (column_operand 1 0) && (equal small_tables row_of (operand.Int (pos 1)) (operand.Int (pos 2)) && true))
 never_test row_of =
     rw (
@@ -64,14 +64,14 @@ never_test row_of =
       holds_compare small_tables row_of op.Eq (operand.Int (pos 1)) (operand.Int (pos 2)),
     ) refl
 
-pub never_answer : answer never_true small_tables ≡ []
+pub never_answer : answer never_true_query small_tables ≡ []
 never_answer =
-    answer_by never_true small_tables
+    answer_by_test never_true_query small_tables
     (λ row_of. equal small_tables row_of (column_operand 0 0) (column_operand 1 0) && (equal small_tables row_of (operand.Int (pos 1)) (operand.Int (pos 2)) && true)) never_test
 
 -- ---- an empty table, and a table that isn't joined
 
-another_sets : set_bounds_over with_another empty_first ([] ∷ [] ∷ (0 ∷ 1 ∷ []) ∷ []) 1 ≡ 1 ∷ 0 ∷ 0 ∷ 0 ∷ 2 ∷ 0 ∷ 0 ∷ 0 ∷ []
+another_sets : set_bounds_over unjoined_entry_query empty_first_tables ([] ∷ [] ∷ (0 ∷ 1 ∷ []) ∷ []) 1 ≡ 1 ∷ 0 ∷ 0 ∷ 0 ∷ 2 ∷ 0 ∷ 0 ∷ 0 ∷ []
 unfolding entries_of_set
 another_sets = rw (equality_two 0 0 1 0 (λ e. absurd (omega (arith, e)))) refl
 
@@ -79,9 +79,9 @@ another_chosen : plan_answer (1 ∷ 0 ∷ 0 ∷ 0 ∷ 2 ∷ 0 ∷ 0 ∷ 0 ∷ []
 unfolding plan_answer best_order
 another_chosen = refl
 
-pub another_plan : planned_reduced with_another empty_first 1 1 ≡ Ok (plan_of (0 ∷ 1 ∷ 2 ∷ []) (0 ∷ 0 ∷ 2 ∷ []) (0 ∷ 0 ∷ 0 ∷ []))
+pub another_plan : planned_reduced unjoined_entry_query empty_first_tables 1 1 ≡ Ok (plan_of (0 ∷ 1 ∷ 2 ∷ []) (0 ∷ 0 ∷ 2 ∷ []) (0 ∷ 0 ∷ 0 ∷ []))
 another_plan =
-    plan_computed with_another empty_first ([] ∷ [] ∷ (0 ∷ 1 ∷ []) ∷ []) 1 1 (1 ∷ 0 ∷ 0 ∷ 0 ∷ 2 ∷ 0 ∷ 0 ∷ 0 ∷ []) (0 ∷ 0 ∷ 2 ∷ []) another_reduced another_sets refl
+    plan_computed unjoined_entry_query empty_first_tables ([] ∷ [] ∷ (0 ∷ 1 ∷ []) ∷ []) 1 1 (1 ∷ 0 ∷ 0 ∷ 0 ∷ 2 ∷ 0 ∷ 0 ∷ 0 ∷ []) (0 ∷ 0 ∷ 2 ∷ []) another_reduced another_sets refl
     ∙ another_chosen
 
 -- ---- three tables joined in a cycle
@@ -117,4 +117,4 @@ crossed_test row_of =
     ) refl
 
 pub crossed_answer : answer triangle crossed_tables ≡ []
-crossed_answer = answer_by triangle crossed_tables crossed_says crossed_test
+crossed_answer = answer_by_test triangle crossed_tables crossed_says crossed_test

@@ -19,19 +19,19 @@ use Rattle.join_graph.proofs.Comparing.{equality_literal, equality_two}
 use Rattle.sql_meaning.specs.Answers.{conjuncts_of}
 use Rattle.sql_meaning.specs.Conditions.{comparison_holds}
 use Rattle.sql_meaning.specs.Examples.{triangle}
-use Rattle.sql_meaning.specs.Levels.{names_just}
+use Rattle.sql_meaning.specs.Levels.{is_own_conjunct}
 use Rattle.sql_meaning.specs.Tables.{Tables}
 use Rattle.sql_meaning.proofs.ConditionFacts.{holds_compare}
 use Rattle.level_bounds.specs.Examples.{three_tables}
 use Rattle.level_bounds.specs.Keys.{are_equal_at}
 use Rattle.level_bounds.specs.Scans.{query_scan}
 use Rattle.level_bounds.proofs.SmallTriangle.{triangle_joined}
-use Rattle.query_bounds.specs.Examples.{pair}
+use Rattle.query_bounds.specs.Examples.{two_table_query}
 use Rattle.planning.specs.Examples.{small_tables}
 use Rattle.reduced_scans.specs.Rounds.{after_rounds, reduced_of, rows_in_all}
 use Rattle.join_steps.specs.Lists.{scans_of, list_sizes}
 use Rattle.planning.specs.ListedBounds.{set_bounds_over}
-use Rattle.planning.specs.ReducedExamples.{chain_query, by_region, chain_tables, empty_first, never_true, region_tables, with_another}
+use Rattle.planning.specs.ReducedExamples.{chain_query, region_query, chain_tables, empty_first_tables, never_true_query, region_tables, unjoined_entry_query}
 use Rattle.planning.specs.Plans.{planned_over, planned_reduced}
 
 -- ---- reduced scans and plans, from computed equalities, scans and bounds
@@ -51,22 +51,22 @@ plan_computed query tables lists accuracy budget sets scans are_lists are_sets a
     ∙ ap (λ (s : List ℕ). plan_answer s (list_sizes query lists) budget) are_sets
     ∙ ap (λ (s : List ℕ). plan_answer sets s budget) are_scans
 
--- ---- R and S
+-- ---- the query that joins R and S
 
-pair_joined : equalities_of pair ≡ edge_of 0 0 1 0 ∷ []
+pair_joined : equalities_of two_table_query ≡ edge_of 0 0 1 0 ∷ []
 pair_joined = rw (equality_two 0 0 1 0 (λ e. absurd (omega (arith, e)))) refl
 
-pair_scans : scans_of pair small_tables ≡ (0 ∷ 1 ∷ 2 ∷ 3 ∷ 4 ∷ 5 ∷ []) ∷ (0 ∷ 1 ∷ 2 ∷ 3 ∷ 4 ∷ []) ∷ []
+pair_scans : scans_of two_table_query small_tables ≡ (0 ∷ 1 ∷ 2 ∷ 3 ∷ 4 ∷ 5 ∷ []) ∷ (0 ∷ 1 ∷ 2 ∷ 3 ∷ 4 ∷ []) ∷ []
 pair_scans = rw (entries_compare op.Eq (column_operand 0 0) (column_operand 1 0)) refl
 
 pair_rounds : after_rounds (edge_of 0 0 1 0 ∷ []) (are_equal_at small_tables) 12 ((0 ∷ 1 ∷ 2 ∷ 3 ∷ 4 ∷ 5 ∷ []) ∷ (0 ∷ 1 ∷ 2 ∷ 3 ∷ 4 ∷ []) ∷ [])
     ≡ (0 ∷ 1 ∷ 2 ∷ []) ∷ (0 ∷ 1 ∷ []) ∷ []
 pair_rounds = refl
 
-pub pair_reduced : reduced_of pair small_tables ≡ (0 ∷ 1 ∷ 2 ∷ []) ∷ (0 ∷ 1 ∷ []) ∷ []
-pair_reduced = reduced_from pair small_tables (edge_of 0 0 1 0 ∷ []) ((0 ∷ 1 ∷ 2 ∷ 3 ∷ 4 ∷ 5 ∷ []) ∷ (0 ∷ 1 ∷ 2 ∷ 3 ∷ 4 ∷ []) ∷ []) pair_joined pair_scans ∙ pair_rounds
+pub pair_reduced : reduced_of two_table_query small_tables ≡ (0 ∷ 1 ∷ 2 ∷ []) ∷ (0 ∷ 1 ∷ []) ∷ []
+pair_reduced = reduced_from two_table_query small_tables (edge_of 0 0 1 0 ∷ []) ((0 ∷ 1 ∷ 2 ∷ 3 ∷ 4 ∷ 5 ∷ []) ∷ (0 ∷ 1 ∷ 2 ∷ 3 ∷ 4 ∷ []) ∷ []) pair_joined pair_scans ∙ pair_rounds
 
-pair_sets : set_bounds_over pair small_tables ((0 ∷ 1 ∷ 2 ∷ []) ∷ (0 ∷ 1 ∷ []) ∷ []) 1 ≡ 1 ∷ 3 ∷ 2 ∷ 6 ∷ []
+pair_sets : set_bounds_over two_table_query small_tables ((0 ∷ 1 ∷ 2 ∷ []) ∷ (0 ∷ 1 ∷ []) ∷ []) 1 ≡ 1 ∷ 3 ∷ 2 ∷ 6 ∷ []
 unfolding entries_of_set
 pair_sets = rw (equality_two 0 0 1 0 (λ e. absurd (omega (arith, e)))) refl
 
@@ -74,15 +74,15 @@ pair_chosen : plan_answer (1 ∷ 3 ∷ 2 ∷ 6 ∷ []) (3 ∷ 2 ∷ []) 6 ≡ Ok
 unfolding plan_answer best_order
 pair_chosen = refl
 
-pub pair_plan : planned_reduced pair small_tables 1 6 ≡ Ok (plan_of (1 ∷ 0 ∷ []) (3 ∷ 2 ∷ []) (2 ∷ 6 ∷ []))
-pair_plan = plan_computed pair small_tables ((0 ∷ 1 ∷ 2 ∷ []) ∷ (0 ∷ 1 ∷ []) ∷ []) 1 6 (1 ∷ 3 ∷ 2 ∷ 6 ∷ []) (3 ∷ 2 ∷ []) pair_reduced pair_sets refl ∙ pair_chosen
+pub pair_plan : planned_reduced two_table_query small_tables 1 6 ≡ Ok (plan_of (1 ∷ 0 ∷ []) (3 ∷ 2 ∷ []) (2 ∷ 6 ∷ []))
+pair_plan = plan_computed two_table_query small_tables ((0 ∷ 1 ∷ 2 ∷ []) ∷ (0 ∷ 1 ∷ []) ∷ []) 1 6 (1 ∷ 3 ∷ 2 ∷ 6 ∷ []) (3 ∷ 2 ∷ []) pair_reduced pair_sets refl ∙ pair_chosen
 
--- ---- O and C
+-- ---- the query that joins O and C
 
-region_joined : equalities_of by_region ≡ edge_of 0 1 1 0 ∷ []
+region_joined : equalities_of region_query ≡ edge_of 0 1 1 0 ∷ []
 region_joined = rw (equality_two 0 1 1 0 (λ e. absurd (omega (arith, e))), equality_literal (column_operand 1 1) (operand.Int (pos 3)) refl) refl
 
-in_region : (row : ℕ) → list_all (λ c. not (names_just c 1) || c.holds (λ e. row)) (conjuncts_of by_region region_tables)
+in_region : (row : ℕ) → list_all (λ c. not (is_own_conjunct c 1) || c.holds (λ e. row)) (conjuncts_of region_query region_tables)
     ≡ (comparison_holds region_tables (λ e. row) op.Eq (column_operand 1 1) (operand.Int (pos 3)) && true)
 in_region row =
     rw (
@@ -91,39 +91,39 @@ in_region row =
       holds_compare region_tables (λ e. row) op.Eq (column_operand 1 1) (operand.Int (pos 3)),
     ) refl
 
-o_scan : query_scan by_region region_tables 0 ≡ 0 ∷ 1 ∷ 2 ∷ 3 ∷ 4 ∷ []
+o_scan : query_scan region_query region_tables 0 ≡ 0 ∷ 1 ∷ 2 ∷ 3 ∷ 4 ∷ []
 o_scan = rw (entries_compare op.Eq (column_operand 0 1) (column_operand 1 0), entries_compare op.Eq (column_operand 1 1) (operand.Int (pos 3))) refl
 
-c_scan : query_scan by_region region_tables 1 ≡ 0 ∷ []
+c_scan : query_scan region_query region_tables 1 ≡ 0 ∷ []
 c_scan =
-    filter_agree (λ row. list_all (λ c. not (names_just c 1) || c.holds (λ e. row)) (conjuncts_of by_region region_tables))
+    filter_agree (λ row. list_all (λ c. not (is_own_conjunct c 1) || c.holds (λ e. row)) (conjuncts_of region_query region_tables))
     (λ row. comparison_holds region_tables (λ e. row) op.Eq (column_operand 1 1) (operand.Int (pos 3)) && true) in_region (range_with_len 0 4)
 
-region_scans : scans_of by_region region_tables ≡ (0 ∷ 1 ∷ 2 ∷ 3 ∷ 4 ∷ []) ∷ (0 ∷ []) ∷ []
+region_scans : scans_of region_query region_tables ≡ (0 ∷ 1 ∷ 2 ∷ 3 ∷ 4 ∷ []) ∷ (0 ∷ []) ∷ []
 region_scans =
-    ap (λ (s : List ℕ). s ∷ query_scan by_region region_tables 1 ∷ []) o_scan
+    ap (λ (s : List ℕ). s ∷ query_scan region_query region_tables 1 ∷ []) o_scan
     ∙ ap (λ (s : List ℕ). (0 ∷ 1 ∷ 2 ∷ 3 ∷ 4 ∷ []) ∷ s ∷ []) c_scan
 
 region_rounds : after_rounds (edge_of 0 1 1 0 ∷ []) (are_equal_at region_tables) 7 ((0 ∷ 1 ∷ 2 ∷ 3 ∷ 4 ∷ []) ∷ (0 ∷ []) ∷ []) ≡ (0 ∷ []) ∷ (0 ∷ []) ∷ []
 region_rounds = refl
 
-pub region_reduced : reduced_of by_region region_tables ≡ (0 ∷ []) ∷ (0 ∷ []) ∷ []
+pub region_reduced : reduced_of region_query region_tables ≡ (0 ∷ []) ∷ (0 ∷ []) ∷ []
 region_reduced =
-    reduced_from by_region region_tables (edge_of 0 1 1 0 ∷ []) ((0 ∷ 1 ∷ 2 ∷ 3 ∷ 4 ∷ []) ∷ (0 ∷ []) ∷ []) region_joined region_scans ∙ region_rounds
+    reduced_from region_query region_tables (edge_of 0 1 1 0 ∷ []) ((0 ∷ 1 ∷ 2 ∷ 3 ∷ 4 ∷ []) ∷ (0 ∷ []) ∷ []) region_joined region_scans ∙ region_rounds
 
 one_row_each : plan_answer (1 ∷ 1 ∷ 1 ∷ 1 ∷ []) (1 ∷ 1 ∷ []) 1 ≡ Ok (plan_of (0 ∷ 1 ∷ []) (1 ∷ 1 ∷ []) (1 ∷ 1 ∷ []))
 unfolding plan_answer best_order
 one_row_each = refl
 
-region_sets : set_bounds_over by_region region_tables ((0 ∷ []) ∷ (0 ∷ []) ∷ []) 1 ≡ 1 ∷ 1 ∷ 1 ∷ 1 ∷ []
+region_sets : set_bounds_over region_query region_tables ((0 ∷ []) ∷ (0 ∷ []) ∷ []) 1 ≡ 1 ∷ 1 ∷ 1 ∷ 1 ∷ []
 unfolding entries_of_set
 region_sets = rw (equality_two 0 1 1 0 (λ e. absurd (omega (arith, e))), equality_literal (column_operand 1 1) (operand.Int (pos 3)) refl) refl
 
-pub region_plan : planned_reduced by_region region_tables 1 1 ≡ Ok (plan_of (0 ∷ 1 ∷ []) (1 ∷ 1 ∷ []) (1 ∷ 1 ∷ []))
+pub region_plan : planned_reduced region_query region_tables 1 1 ≡ Ok (plan_of (0 ∷ 1 ∷ []) (1 ∷ 1 ∷ []) (1 ∷ 1 ∷ []))
 region_plan =
-    plan_computed by_region region_tables ((0 ∷ []) ∷ (0 ∷ []) ∷ []) 1 1 (1 ∷ 1 ∷ 1 ∷ 1 ∷ []) (1 ∷ 1 ∷ []) region_reduced region_sets refl ∙ one_row_each
+    plan_computed region_query region_tables ((0 ∷ []) ∷ (0 ∷ []) ∷ []) 1 1 (1 ∷ 1 ∷ 1 ∷ 1 ∷ []) (1 ∷ 1 ∷ []) region_reduced region_sets refl ∙ one_row_each
 
--- ---- A, B and D
+-- ---- the query that joins A, B and D in a chain
 
 abbrev chain : List Edge
 chain = edge_of 0 0 1 0 ∷ edge_of 1 1 2 0 ∷ []
@@ -154,7 +154,7 @@ chain_plan =
     plan_computed chain_query chain_tables ((0 ∷ []) ∷ (0 ∷ []) ∷ (0 ∷ []) ∷ []) 1 1 (1 ∷ 1 ∷ 1 ∷ 1 ∷ 1 ∷ 1 ∷ 1 ∷ 1 ∷ []) (1 ∷ 1 ∷ 1 ∷ []) chain_reduced chain_sets refl
     ∙ chain_chosen
 
--- ---- the triangle
+-- ---- the query that joins three tables in a triangle
 
 abbrev three_each : List (List ℕ)
 three_each = (0 ∷ 1 ∷ 2 ∷ []) ∷ (0 ∷ 1 ∷ 2 ∷ []) ∷ (0 ∷ 1 ∷ 2 ∷ []) ∷ []
@@ -188,27 +188,27 @@ triangle_plan =
 
 -- ---- an empty table, and a constant condition that is false
 
-another_joined : equalities_of with_another ≡ edge_of 0 0 1 0 ∷ []
+another_joined : equalities_of unjoined_entry_query ≡ edge_of 0 0 1 0 ∷ []
 another_joined = rw (equality_two 0 0 1 0 (λ e. absurd (omega (arith, e)))) refl
 
-another_scans : scans_of with_another empty_first ≡ [] ∷ (0 ∷ 1 ∷ []) ∷ (0 ∷ 1 ∷ []) ∷ []
+another_scans : scans_of unjoined_entry_query empty_first_tables ≡ [] ∷ (0 ∷ 1 ∷ []) ∷ (0 ∷ 1 ∷ []) ∷ []
 another_scans = rw (entries_compare op.Eq (column_operand 0 0) (column_operand 1 0)) refl
 
-another_rounds : after_rounds (edge_of 0 0 1 0 ∷ []) (are_equal_at empty_first) 5 ([] ∷ (0 ∷ 1 ∷ []) ∷ (0 ∷ 1 ∷ []) ∷ []) ≡ [] ∷ [] ∷ (0 ∷ 1 ∷ []) ∷ []
+another_rounds : after_rounds (edge_of 0 0 1 0 ∷ []) (are_equal_at empty_first_tables) 5 ([] ∷ (0 ∷ 1 ∷ []) ∷ (0 ∷ 1 ∷ []) ∷ []) ≡ [] ∷ [] ∷ (0 ∷ 1 ∷ []) ∷ []
 another_rounds = refl
 
-pub another_reduced : reduced_of with_another empty_first ≡ [] ∷ [] ∷ (0 ∷ 1 ∷ []) ∷ []
+pub another_reduced : reduced_of unjoined_entry_query empty_first_tables ≡ [] ∷ [] ∷ (0 ∷ 1 ∷ []) ∷ []
 another_reduced =
-    reduced_from with_another empty_first (edge_of 0 0 1 0 ∷ []) ([] ∷ (0 ∷ 1 ∷ []) ∷ (0 ∷ 1 ∷ []) ∷ []) another_joined another_scans ∙ another_rounds
+    reduced_from unjoined_entry_query empty_first_tables (edge_of 0 0 1 0 ∷ []) ([] ∷ (0 ∷ 1 ∷ []) ∷ (0 ∷ 1 ∷ []) ∷ []) another_joined another_scans ∙ another_rounds
 
-never_joined : equalities_of never_true ≡ edge_of 0 0 1 0 ∷ []
+never_joined : equalities_of never_true_query ≡ edge_of 0 0 1 0 ∷ []
 never_joined = rw (equality_two 0 0 1 0 (λ e. absurd (omega (arith, e))), equality_literal (operand.Int (pos 1)) (operand.Int (pos 2)) refl) refl
 
-never_scans : scans_of never_true small_tables ≡ (0 ∷ 1 ∷ 2 ∷ 3 ∷ 4 ∷ 5 ∷ []) ∷ (0 ∷ 1 ∷ 2 ∷ 3 ∷ 4 ∷ []) ∷ []
+never_scans : scans_of never_true_query small_tables ≡ (0 ∷ 1 ∷ 2 ∷ 3 ∷ 4 ∷ 5 ∷ []) ∷ (0 ∷ 1 ∷ 2 ∷ 3 ∷ 4 ∷ []) ∷ []
 never_scans =
     rw (entries_compare op.Eq (column_operand 0 0) (column_operand 1 0), entries_compare op.Eq (operand.Int (pos 1)) (operand.Int (pos 2))) refl
 
-pub never_reduced : reduced_of never_true small_tables ≡ (0 ∷ 1 ∷ 2 ∷ []) ∷ (0 ∷ 1 ∷ []) ∷ []
+pub never_reduced : reduced_of never_true_query small_tables ≡ (0 ∷ 1 ∷ 2 ∷ []) ∷ (0 ∷ 1 ∷ []) ∷ []
 never_reduced =
-    reduced_from never_true small_tables (edge_of 0 0 1 0 ∷ []) ((0 ∷ 1 ∷ 2 ∷ 3 ∷ 4 ∷ 5 ∷ []) ∷ (0 ∷ 1 ∷ 2 ∷ 3 ∷ 4 ∷ []) ∷ []) never_joined never_scans
+    reduced_from never_true_query small_tables (edge_of 0 0 1 0 ∷ []) ((0 ∷ 1 ∷ 2 ∷ 3 ∷ 4 ∷ 5 ∷ []) ∷ (0 ∷ 1 ∷ 2 ∷ 3 ∷ 4 ∷ []) ∷ []) never_joined never_scans
     ∙ pair_rounds

@@ -19,16 +19,16 @@ use Rattle.level_bounds.specs.Orders.{IsOrderOfSet}
 
 -- ---- bounds of entries
 
--- `bounds` stands for the listed rows in a set. `taking` has lists of scanned rows that suffice: the set's level over them is the level over the
--- listed rows. Each entry of the set has at most as many rows in `taking` as its row bound. The degree sequence of each column that joins two entries
--- of the set dominates the degrees of these rows' keys
+-- `bounds` stands for the listed rows in a set. `sufficient_lists` has lists of scanned rows; over them the set's level is the same as over the
+-- listed rows. Each entry of the set has at most as many rows in `sufficient_lists` as its row bound. The degree sequence of each column that joins
+-- two entries of the set dominates the degrees of the keys of these rows
 pub record StandInSet (query : Query) (tables : Tables) (lists : List (List ℕ)) (key : Keys) (bounds : EntryBounds) (subset : ℕ) : Type 0 where
-  pub taking : List (List ℕ)
-  pub are : AreOfScans query tables taking
+  pub sufficient_lists : List (List ℕ)
+  pub are : AreOfScans query tables sufficient_lists
   pub none_lost : (order : List ℕ) → IsOrderOfSet (entries_of_set subset) order
-      → level_over (conjuncts_of query tables) (list_at lists) order ≡ level_over (conjuncts_of query tables) (list_at taking) order
+      → level_over (conjuncts_of query tables) (list_at lists) order ≡ level_over (conjuncts_of query tables) (list_at sufficient_lists) order
   pub have_lists : SetHasLists bounds (equalities_of query) subset
-  pub dominate : SetDominates bounds (scanned (list_at taking) key) (equalities_of query) subset
+  pub dominate : SetDominates bounds (scanned (list_at sufficient_lists) key) (equalities_of query) subset
 
 -- rows that an equality joins have the same key, and the bounds of the entries in each set stand for the listed rows
 pub record StandForLists (query : Query) (tables : Tables) (lists : List (List ℕ)) (key : Keys) (bounds : ℕ → EntryBounds) : Type 0 where

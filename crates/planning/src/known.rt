@@ -10,7 +10,7 @@ use base_io::{NoMemory, Seq};
 use join_graph::Parts;
 use order_search::{PlanError, choose};
 use plans::Plan;
-use set_bounds::{KnownInSets, bounds_in_sets};
+use set_bounds::{EntryListsBySet, bounds_in_sets};
 use std::alloc::Global;
 
 /// A bound for each set of a query's entries, and a bound for each scan, in FROM order. Bounds are in rows. A set's index is the number whose bits
@@ -26,7 +26,7 @@ pub struct QueryBounds {
 ///
 /// In each turn, the set has trees, and each tree has a bound from the degree sequences of its columns. The trees' bounds are multiplied. The set's
 /// bound is the least of these products (SafeBound, SIGMOD 2023; Degree Sequence Bound, ICDT 2023).
-pub fn bounds_from<K: KnownInSets>(
+pub fn bounds_from<K: EntryListsBySet>(
     alloc: Global,
     parts: &Parts,
     lists: &K,
@@ -34,7 +34,7 @@ pub fn bounds_from<K: KnownInSets>(
 ) -> Result<QueryBounds, NoMemory>
     requires few { length scans ≤ most_entries }
     requires listed { (subset : ℕ) → subset < 2 ^ length scans → K.is_listed lists.now parts.now.equalities subset }
-    requires looks { DependsOnPartsOnly (K.known lists.now) parts.now.equalities }
+    requires depends_on_parts { DependsOnPartsOnly (K.known lists.now) parts.now.equalities }
     ensures sets { IfOk result (λ known. known.sets ≡ told_in_sets (K.known lists.now) parts.now.equalities (length scans)) }
     ensures scans { IfOk result (λ known. known.scans ≡ scans) }
 {

@@ -60,7 +60,7 @@ pub fn bounds_are_near()
 {}
 
 /// The result `planned` of a query over its tables is never `NoMemory`.
-pub fn plans_want_no_memory()
+pub fn plans_are_never_out_of_memory()
     ensures { (query : Query) (tables : Tables) (accuracy budget : ℕ) → planned query tables accuracy budget ≢ Err error.NoMemory }
 {}
 
@@ -85,10 +85,10 @@ pub fn plans_are_never_under()
         → length query.from ≤ most_entries → budget ≤ most_budget
         → planned query tables accuracy budget ≡ Ok plan → k < length query.from
         → length (level (conjuncts_of query tables) (row_counts tables) plan.order (k + 1)) ≤ slice_index plan.levels k }
-    ensures small_scans { (query : Query) (tables : Tables) (accuracy budget : ℕ) (plan : Plan) (entry : ℕ)
+    ensures scan_bounds_within_tables { (query : Query) (tables : Tables) (accuracy budget : ℕ) (plan : Plan) (entry : ℕ)
         → planned query tables accuracy budget ≡ Ok plan → entry < length query.from
         → slice_index plan.scans entry ≤ row_counts tables entry }
-    ensures small_levels { (query : Query) (tables : Tables) (accuracy budget : ℕ) (plan : Plan) (k : ℕ)
+    ensures level_bounds_within_budget { (query : Query) (tables : Tables) (accuracy budget : ℕ) (plan : Plan) (k : ℕ)
         → planned query tables accuracy budget ≡ Ok plan → k < length query.from
         → slice_index plan.levels k ≤ budget }
 {}

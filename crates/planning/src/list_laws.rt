@@ -74,9 +74,9 @@ pub fn levels_over_whole_scans()
         ≡ level (conjuncts_of query tables) (row_counts tables) order k }
 {}
 
-/// Suppose that the equalities close no cycle of entries, and that no other conjunct names several entries. Then each reduced row takes part in a
-/// choice of reduced rows, one row of each entry that is connected with its own. Every conjunct that names one of these entries holds for the choice.
-/// The same is true of any lists of scanned rows in which each row has a partner across each equality.
+/// Suppose that the equalities close no cycle of entries, and that every other conjunct names at most one entry. Then each reduced row takes part in
+/// a choice of reduced rows. The choice has one row of each entry that equalities connect with the row's entry. Every conjunct that names one of
+/// these entries holds for it. The same is true of any lists of scanned rows in which each row has a partner across each equality.
 pub fn reduced_rows_take_part()
     ensures consistent { (query : Query) (tables : Tables) (lists : List (List ℕ)) (entry row : ℕ) → AreConsistentScans query tables lists
         → ClosesNoCycle (equalities_of query) → JoinsByEqualitiesAlone query → Contains (list_at lists entry) row

@@ -50,9 +50,9 @@ pub fn reduced_lists(
 /// The bounds from the reduced scans of the query, together with these scans. A scan's bound is the number of rows in the reduced scan.
 ///
 /// A row of a scan is kept if it has a match for each equality that joins its entry with another one. A match is a row of the other entry that has
-/// the same value and is also kept (semi-join reduction, Bernstein and Goodman 1981). Time and memory are linear in the rows times their equalities,
-/// except for sorting columns and for the bounds of all sets. All memory except the result's is freed, and the result's lists have room only for
-/// their own rows.
+/// the same value and is also kept (semi-join reduction, Bernstein and Goodman 1981). Sorting columns and bounding all sets take further time. Apart
+/// from that, time and memory are linear in each entry's rows times the equalities that join it. All memory except the result's is freed, and the
+/// result's lists have room only for their own rows.
 ///
 /// `accuracy` is the accuracy of compressed lists (SafeBound, SIGMOD 2023).
 pub fn from_reduced(

@@ -1,4 +1,4 @@
-//! Takes row bounds from lists of rows.
+//! Makes row bounds of entries: the numbers of rows in their lists.
 ghost use Rattle.std.specs.Prelude.{◌≡◌, ◌≤◌, ℕ, IfOk, None, length};
 ghost use Rattle.limits.specs.Profile.{most_entries, most_rows};
 ghost use Rattle.bound_fold.specs.Lists.{list_of as list_known};

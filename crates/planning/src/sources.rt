@@ -7,7 +7,7 @@ ghost use Rattle.sql_meaning.specs.Tables.{tables_of};
 ghost use Rattle.join_steps.specs.Lists.{list_sizes, lists_of};
 ghost use Rattle.reduced_scans.specs.Lists.{AreRowLists};
 ghost use Rattle.query_bounds.specs.Bounds.{entry_bounds, scan_bounds, set_bounds};
-ghost use Rattle.query_bounds.specs.Statistics.{TellsSomeStatistics, Statistics, HasStatistics};
+ghost use Rattle.query_bounds.specs.Statistics.{HasSomeStatistics, Statistics, HasStatistics};
 ghost use Rattle.planning.specs.Bounds.{scan_bounds_of, set_bounds_of};
 ghost use Rattle.planning.specs.HasBounds.{HasBounds};
 ghost use Rattle.planning.specs.ListedBounds.{set_bounds_over};
@@ -35,7 +35,7 @@ pub fn from_given_statistics(
 ) -> Result<QueryBounds, NoMemory>
     requires few { length query.now.from ≤ most_entries }
     requires equalities { parts.now.equalities ≡ equalities_of query.now }
-    requires told { TellsSomeStatistics query.now stats.now }
+    requires told { HasSomeStatistics query.now stats.now }
     ensures gives { IfOk result (λ made. (known : Statistics) → HasStatistics query.now stats.now known
         → HasBounds (set_bounds query.now known) (scan_bounds query.now known) made) }
     ensures lists { IfOk result (λ made. (known : Statistics) → HasStatistics query.now stats.now known

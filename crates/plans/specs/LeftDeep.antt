@@ -9,7 +9,8 @@ pub record IsOrder (n : ℕ) (order : List ℕ) : Type 0 where
   pub once : IsDistinct ◌==◌ order
   pub all : length order ≡ n
 
--- a plan for n entries. It has an order of them and a bound for each scan. For each k from 1 to n it has a bound for the join of the first k entries
+-- a plan for n entries: an order of these entries, a bound for each scan, and for each k from 1 to n a bound for the join of the order's first k
+-- entries
 pub record IsPlan (n : ℕ) (plan : Plan) : Type 0 where
   pub order : IsOrder n plan.order
   pub scans : length plan.scans ≡ n

@@ -1,2 +1,5 @@
 pub mod Examples
 pub mod LeftDeep
+pub mod Orders
+pub mod TreeExamples
+pub mod TreePlans

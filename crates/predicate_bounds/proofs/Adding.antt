@@ -1,4 +1,4 @@
--- The steps of an AND and of an OR are added member by member. After each member the new steps are those of the definition.
+-- The steps of an AND and of an OR are added member by member. After each member the steps are the steps of the definition.
 use Rattle.std.proofs.Common.{◌≡◌, ℕ, ◌+◌, ◌<◌, Bool, true, false, ◌||◌, List, [], ◌∷◌, ◌++◌, map, length, take, get_or, refl, ap, sym, ◌∙◌, subst, append_assoc}
 use Rattle.std.proofs.lemmas.List.{take_more, map-append}
 use Rattle.std.proofs.Math.Bool.{or-true, or-false}
@@ -11,8 +11,8 @@ use Rattle.predicate_bounds.specs.declared.steps.Step.{Step}
 use Rattle.predicate_bounds.specs.declared.steps.Step.TheVariants as step
 use Rattle.predicate_bounds.specs.declared.reading.Members.{Members}
 use Rattle.predicate_bounds.specs.Added.{IsConjunctionAdded, and_if_earlier, range_steps, is_not_empty, last_steps, more_steps}
-use Rattle.predicate_bounds.specs.Steps.{range_in, range_of, step_answers}
-use Rattle.predicate_bounds.proofs.Literals.{ranges_again}
+use Rattle.predicate_bounds.specs.Steps.{literal_range_of, range_of, step_answers}
+use Rattle.predicate_bounds.proofs.Literals.{ranges_of_ranges_in}
 
 append_nil : (s : List Step) → s ++ [] ≡ s
 append_nil [] = refl
@@ -58,18 +58,18 @@ or_assoc false b c = refl
 abbrev pub both_conjunctions : Conjunction (List Step) → Conjunction (List Step) → Conjunction (List Step)
 both_conjunctions x y = record { ranges = x.ranges ++ y.ranges; others = x.others ++ y.others }
 
-pub both_added : (before between after : Members) (old mid new : List Step) (x y : Conjunction (List Step))
+pub conjunctions_added : (before between after : Members) (old mid new : List Step) (x y : Conjunction (List Step))
     → IsConjunctionAdded before old between mid x → IsConjunctionAdded between mid after new y → IsConjunctionAdded before old after new (both_conjunctions x y)
-both_added before between after old mid new x y h k = record {
+conjunctions_added before between after old mid new x y h k = record {
   steps = k.steps ∙ ap (λ (s : List Step). s ++ more_steps between.has_answer y.others) h.steps ∙ append_assoc old (more_steps before.has_answer x.others) (more_steps between.has_answer y.others)
       ∙ ap (λ (b : Bool). old ++ (more_steps before.has_answer x.others ++ more_steps b y.others)) h.has_answer ∙ ap (λ (s : List Step). old ++ s) (sym (more_steps-append before.has_answer x.others y.others));
-  ranges = k.ranges ∙ ap (λ (s : List Range). s ++ map range_in y.ranges) h.ranges ∙ append_assoc before.ranges (map range_in x.ranges) (map range_in y.ranges)
-      ∙ ap (λ (s : List Range). before.ranges ++ s) (sym (map-append range_in x.ranges y.ranges));
+  ranges = k.ranges ∙ ap (λ (s : List Range). s ++ map literal_range_of y.ranges) h.ranges ∙ append_assoc before.ranges (map literal_range_of x.ranges) (map literal_range_of y.ranges)
+      ∙ ap (λ (s : List Range). before.ranges ++ s) (sym (map-append literal_range_of x.ranges y.ranges));
   has_answer = k.has_answer ∙ ap (λ (b : Bool). b || is_not_empty y.others) h.has_answer ∙ or_assoc before.has_answer (is_not_empty x.others) (is_not_empty y.others) ∙ ap (λ (b : Bool). before.has_answer || b) (sym (is_not_empty-append x.others y.others));
 }
 
-pub joined_more : (cs : List (Conjunction (List Step))) (c : Conjunction (List Step)) → one_conjunction (cs ++ c ∷ []) ≡ both_conjunctions (one_conjunction cs) c
-joined_more [] c = ap (λ (s : List ranges.Range). record { ranges = s; others = c.others ++ [] }) (nil c.ranges) ∙ ap (λ (s : List (List Step)). record { ranges = c.ranges; others = s }) (nils c.others)
+pub one_conjunction_push : (cs : List (Conjunction (List Step))) (c : Conjunction (List Step)) → one_conjunction (cs ++ c ∷ []) ≡ both_conjunctions (one_conjunction cs) c
+one_conjunction_push [] c = ap (λ (s : List ranges.Range). record { ranges = s; others = c.others ++ [] }) (nil c.ranges) ∙ ap (λ (s : List (List Step)). record { ranges = c.ranges; others = s }) (nils c.others)
   where
     nil : (s : List ranges.Range) → s ++ [] ≡ s
     nil [] = refl
@@ -78,19 +78,19 @@ joined_more [] c = ap (λ (s : List ranges.Range). record { ranges = s; others =
     nils : (s : List (List Step)) → s ++ [] ≡ s
     nils [] = refl
     nils (x ∷ s) = ap (λ (t : List (List Step)). x ∷ t) (nils s)
-joined_more (d ∷ cs) c =
-    rw (joined_more cs c)
+one_conjunction_push (d ∷ cs) c =
+    rw (one_conjunction_push cs c)
     (ap (λ (s : List ranges.Range). record { ranges = s; others = d.others ++ ((one_conjunction cs).others ++ c.others) }) (sym (append_assoc d.ranges (one_conjunction cs).ranges c.ranges))
     ∙ ap (λ (s : List (List Step)). record { ranges = (d.ranges ++ (one_conjunction cs).ranges) ++ c.ranges; others = s }) (sym (append_assoc d.others (one_conjunction cs).others c.others)))
 
-pub each_more : (f : Cond → Conjunction (List Step)) (conds : List Cond) (i : ℕ) (cond : Cond) (before between after : Members) (old mid new : List Step)
+pub add_each_step : (f : Cond → Conjunction (List Step)) (conds : List Cond) (i : ℕ) (cond : Cond) (before between after : Members) (old mid new : List Step)
     → i < length conds → cond ≡ get_or conds i cond
     → IsConjunctionAdded before old between mid (one_conjunction (map f (take i conds))) → IsConjunctionAdded between mid after new (f cond) → IsConjunctionAdded before old after new (one_conjunction (map f (take (i + 1) conds)))
-each_more f conds i cond before between after old mid new low is h k =
-    let front : take (i + 1) conds ≡ take i conds ++ cond ∷ [] = take_more conds i cond low ∙ ap (λ (c : Cond). take i conds ++ c ∷ []) (sym is) in
+add_each_step f conds i cond before between after old mid new is_below is h k =
+    let front : take (i + 1) conds ≡ take i conds ++ cond ∷ [] = take_more conds i cond is_below ∙ ap (λ (c : Cond). take i conds ++ c ∷ []) (sym is) in
     subst (IsConjunctionAdded before old after new)
-    (sym (joined_more (map f (take i conds)) (f cond)) ∙ ap one_conjunction (sym (map-append f (take i conds) (cond ∷ [])) ∙ ap (map f) (sym front)))
-    (both_added before between after old mid new (one_conjunction (map f (take i conds))) (f cond) h k)
+    (sym (one_conjunction_push (map f (take i conds)) (f cond)) ∙ ap one_conjunction (sym (map-append f (take i conds) (cond ∷ [])) ∙ ap (map f) (sym front)))
+    (conjunctions_added before between after old mid new (one_conjunction (map f (take i conds))) (f cond) h k)
 
 pub answer_added : (before after : Members) (old mid new x : List Step) → mid ≡ old ++ x → new ≡ mid ++ and_if_earlier before.has_answer → after.has_answer ≡ true → after.ranges ≡ before.ranges
     → IsConjunctionAdded before old after new (of_answer x)
@@ -104,13 +104,13 @@ answer_added before after old mid new x is closed has_answer same = record {
     nil [] = refl
     nil (y ∷ s) = ap (λ (t : List Range). y ∷ t) (nil s)
 
--- ---- if a conjunction was added to no members, and the AND was ended, the new steps are those of the conjunction's answer
+-- ---- if an AND has only the members of this conjunction and was ended, its steps are those of the conjunction's answer
 
 pub answer_steps : (none after : Members) (old mid new : List Step) (c : Conjunction (List Step)) → none.has_answer ≡ false → none.ranges ≡ []
     → IsConjunctionAdded none old after mid c → new ≡ mid ++ range_steps after.has_answer after.ranges → new ≡ old ++ and_answer step_answers c
 answer_steps none after old mid new c fresh empty h closed =
     let has_answer : after.has_answer ≡ is_not_empty c.others = h.has_answer ∙ ap (λ (b : Bool). b || is_not_empty c.others) fresh in
-    let same_ranges : map range_of after.ranges ≡ c.ranges = ap (map range_of) (h.ranges ∙ ap (λ (s : List Range). s ++ map range_in c.ranges) empty) ∙ ranges_again c.ranges in
+    let same_ranges : map range_of after.ranges ≡ c.ranges = ap (map range_of) (h.ranges ∙ ap (λ (s : List Range). s ++ map literal_range_of c.ranges) empty) ∙ ranges_of_ranges_in c.ranges in
     let steps : mid ≡ old ++ more_steps false c.others = h.steps ∙ ap (λ (b : Bool). old ++ more_steps b c.others) fresh in
     closed ∙ ap (λ (s : List Step). s ++ range_steps after.has_answer after.ranges) steps
     ∙ ap (λ (b : Bool). (old ++ more_steps false c.others) ++ range_steps b after.ranges) has_answer
@@ -118,7 +118,7 @@ answer_steps none after old mid new c fresh empty h closed =
     ∙ append_assoc old (more_steps false c.others) (last_steps (is_not_empty c.others) (map step_answers.range (intersection_for_each_column c.ranges)))
     ∙ ap (λ (s : List Step). old ++ s) (sym (all_steps c.others (map step_answers.range (intersection_for_each_column c.ranges))))
 
--- ---- the steps of an OR: Nothing, and then for each member its steps and Or
+-- ---- the steps of an OR: NoRows, and then for each member its steps and Or
 
 abbrev pub or_steps : List (List Step) → List Step
 or_steps [] = []
@@ -135,10 +135,10 @@ or_steps_more [] x = refl
 or_steps_more (y ∷ xs) x =
     rw (or_steps_more xs x) (sym (append_assoc y (step.Or ∷ or_steps xs) (x ++ step.Or ∷ [])))
 
-pub any_more : (f : Cond → List Step) (conds : List Cond) (i : ℕ) (cond : Cond) (old mid next new : List Step) → i < length conds → cond ≡ get_or conds i cond
+pub add_any_step : (f : Cond → List Step) (conds : List Cond) (i : ℕ) (cond : Cond) (old mid next new : List Step) → i < length conds → cond ≡ get_or conds i cond
     → mid ≡ old ++ or_steps (map f (take i conds)) → next ≡ mid ++ f cond → new ≡ next ++ step.Or ∷ [] → new ≡ old ++ or_steps (map f (take (i + 1) conds))
-any_more f conds i cond old mid next new low is so_far more last =
-    let front : take (i + 1) conds ≡ take i conds ++ cond ∷ [] = take_more conds i cond low ∙ ap (λ (c : Cond). take i conds ++ c ∷ []) (sym is) in
+add_any_step f conds i cond old mid next new is_below is so_far more last =
+    let front : take (i + 1) conds ≡ take i conds ++ cond ∷ [] = take_more conds i cond is_below ∙ ap (λ (c : Cond). take i conds ++ c ∷ []) (sym is) in
     last ∙ ap (λ (s : List Step). s ++ step.Or ∷ []) more ∙ append_assoc mid (f cond) (step.Or ∷ []) ∙ ap (λ (s : List Step). s ++ (f cond ++ step.Or ∷ [])) so_far
     ∙ append_assoc old (or_steps (map f (take i conds))) (f cond ++ step.Or ∷ [])
     ∙ ap (λ (s : List Step). old ++ s) (sym (or_steps_more (map f (take i conds)) (f cond)))

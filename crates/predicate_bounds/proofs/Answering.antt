@@ -12,7 +12,7 @@ use Rattle.predicate_bounds.specs.declared.steps.Step.TheVariants as step
 use Rattle.predicate_bounds.specs.ListRuns.{after_list_step, after_list_steps, with_list}
 use Rattle.predicate_bounds.specs.Runs.{after_step, after_steps}
 use Rattle.predicate_bounds.specs.Steps.{step_answers, steps_of}
-use Rattle.predicate_bounds.proofs.Literals.{value_again, range_of_in}
+use Rattle.predicate_bounds.proofs.Literals.{value_of_literal_of, range_of_in}
 
 abbrev Puts : (A : Type 0) → ComparisonAnswers A → List Step → A → Type 0
 Puts A answers steps answer = (rest : List Step) (stack : List A) → after_steps answers (steps ++ rest) stack ≡ after_steps answers rest (answer ∷ stack)
@@ -21,7 +21,7 @@ puts_filtered : (A : Type 0) (answers : ComparisonAnswers A) (entry : ℕ) (conj
 puts_filtered A answers =
     filtered_related (List Step) A (Puts A answers) step_answers answers (record {
       whole = λ rest stack. refl;
-      equal = λ column value rest stack. ap (λ (v : Value). after_steps answers rest (answers.equal column v ∷ stack)) (value_again value);
+      equal = λ column value rest stack. ap (λ (v : Value). after_steps answers rest (answers.equal column v ∷ stack)) (value_of_literal_of value);
       range = λ range rest stack. ap (λ (r : ranges.Range). after_steps answers rest (answers.range r ∷ stack)) (range_of_in range);
       both = λ x y a b h k rest stack. ap (λ (s : List Step). after_steps answers s stack) (append_assoc x (y ++ step.And ∷ []) rest ∙ ap (λ (s : List Step). x ++ s) (append_assoc y (step.And ∷ []) rest))
           ∙ h (y ++ (step.And ∷ rest)) stack ∙ k (step.And ∷ rest) (a ∷ stack);

@@ -9,32 +9,32 @@ use Rattle.std.proofs.lemmas.List.Elements.{filter-append}
 use Rattle.csv_tables.specs.Values.{Value}
 use Rattle.degree_sequences.specs.Degrees.{different}
 use Rattle.filtered_lists.specs.Ranges as ranges
-use Rattle.filtered_lists.specs.Ranges.{greatest_value, least, intersection_of, ranges_of, intersection_for_each_column}
+use Rattle.filtered_lists.specs.Ranges.{greatest_value, least_value, intersection_of, ranges_of, intersection_for_each_column}
 use Rattle.predicate_bounds.specs.declared.steps.Range.{Range}
 use Rattle.predicate_bounds.specs.declared.steps.Step.{Step}
-use Rattle.predicate_bounds.specs.Narrowing.{lower_high, greater_low, narrowed}
+use Rattle.predicate_bounds.specs.Narrowing.{lower_high_end, greater_low_end, narrowed}
 use Rattle.predicate_bounds.specs.Steps.{range_of, step_answers}
 
 -- ---- the ends of the intersection of a column's ranges
 
-low_more : (low : Option Value) (lows : List Value) → greatest_value (cons_option low lows) ≡ greater_low low (greatest_value lows)
-low_more None lows = refl
-low_more (Some v) lows = refl
+greatest_of_one_more : (low : Option Value) (lows : List Value) → greatest_value (cons_option low lows) ≡ greater_low_end low (greatest_value lows)
+greatest_of_one_more None lows = refl
+greatest_of_one_more (Some v) lows = refl
 
-high_more : (high : Option Value) (highs : List Value) → least (cons_option high highs) ≡ lower_high high (least highs)
-high_more None highs = refl
-high_more (Some v) highs = refl
+least_of_one_more : (high : Option Value) (highs : List Value) → least_value (cons_option high highs) ≡ lower_high_end high (least_value highs)
+least_of_one_more None highs = refl
+least_of_one_more (Some v) highs = refl
 
-range_more : (r : ranges.Range) (rs : List ranges.Range) (column : ℕ) → eqb r.column column ≡ true → intersection_of (r ∷ rs) column ≡ narrowed r (intersection_of rs column)
-range_more r rs column t =
-    rw t (ap (λ (low : Option Value). record { column = column; low = low; high = least (cons_option r.high (filter_map (λ range. range.high) (ranges_of column rs))) }) (low_more r.low (filter_map (λ range. range.low) (ranges_of column rs)))
-    ∙ ap (λ (high : Option Value). record { column = column; low = greater_low r.low (greatest_value (filter_map (λ range. range.low) (ranges_of column rs))); high = high }) (high_more r.high (filter_map (λ range. range.high) (ranges_of column rs))))
+intersection_of_one_more : (r : ranges.Range) (rs : List ranges.Range) (column : ℕ) → eqb r.column column ≡ true → intersection_of (r ∷ rs) column ≡ narrowed r (intersection_of rs column)
+intersection_of_one_more r rs column t =
+    rw t (ap (λ (low : Option Value). record { column = column; low = low; high = least_value (cons_option r.high (filter_map (λ range. range.high) (ranges_of column rs))) }) (greatest_of_one_more r.low (filter_map (λ range. range.low) (ranges_of column rs)))
+    ∙ ap (λ (high : Option Value). record { column = column; low = greater_low_end r.low (greatest_value (filter_map (λ range. range.low) (ranges_of column rs))); high = high }) (least_of_one_more r.high (filter_map (λ range. range.high) (ranges_of column rs))))
 
-range_other : (r : ranges.Range) (rs : List ranges.Range) (column : ℕ) → eqb r.column column ≡ false → intersection_of (r ∷ rs) column ≡ intersection_of rs column
-range_other r rs column n = rw n refl
+intersection_without_other : (r : ranges.Range) (rs : List ranges.Range) (column : ℕ) → eqb r.column column ≡ false → intersection_of (r ∷ rs) column ≡ intersection_of rs column
+intersection_without_other r rs column n = rw n refl
 
-front : (rs : List Range) (j : ℕ) (r : Range) → j < length rs → r ≡ get_or rs j r → drop j (map range_of rs) ≡ range_of r ∷ drop (suc j) (map range_of rs)
-front rs j r low is =
+drop_is_cons : (rs : List Range) (j : ℕ) (r : Range) → j < length rs → r ≡ get_or rs j r → drop j (map range_of rs) ≡ range_of r ∷ drop (suc j) (map range_of rs)
+drop_is_cons rs j r low is =
     let within : j < length (map range_of rs) = omega (arith, length-map rs range_of) in
     drop-cons (map range_of rs) j (range_of r) within ∙ ap (λ (x : ranges.Range). x ∷ drop (suc j) (map range_of rs)) (get_or-map range_of rs j r ∙ ap range_of (sym is))
 
@@ -44,21 +44,21 @@ pub narrowed_more : (rs : List Range) (i : ℕ) (r : Range) (column : ℕ) (one 
 narrowed_more rs i r column one more some low is same so_far narrow =
     let here : i ≡ suc (i - 1) = omega arith in
     narrow ∙ ap (narrowed (range_of r)) (so_far ∙ ap (λ (n : ℕ). intersection_of (drop n (map range_of rs)) column) here)
-    ∙ sym (range_more (range_of r) (drop (suc (i - 1)) (map range_of rs)) column (eq-eqb r.column column same))
-    ∙ ap (λ (s : List ranges.Range). intersection_of s column) (sym (front rs (i - 1) r (omega arith) is))
+    ∙ sym (intersection_of_one_more (range_of r) (drop (suc (i - 1)) (map range_of rs)) column (eq-eqb r.column column same))
+    ∙ ap (λ (s : List ranges.Range). intersection_of s column) (sym (drop_is_cons rs (i - 1) r (omega arith) is))
 
 pub other_more : (rs : List Range) (i : ℕ) (r : Range) (column : ℕ) (one : ranges.Range) → 0 < i → i ≤ length rs → r ≡ get_or rs (i - 1) r → ¬ (r.column ≡ column)
     → one ≡ intersection_of (drop i (map range_of rs)) column → one ≡ intersection_of (drop (i - 1) (map range_of rs)) column
 other_more rs i r column one some low is apart so_far =
     let here : i ≡ suc (i - 1) = omega arith in
     so_far ∙ ap (λ (n : ℕ). intersection_of (drop n (map range_of rs)) column) here
-    ∙ sym (range_other (range_of r) (drop (suc (i - 1)) (map range_of rs)) column (ne_eqb r.column column apart))
-    ∙ ap (λ (s : List ranges.Range). intersection_of s column) (sym (front rs (i - 1) r (omega arith) is))
+    ∙ sym (intersection_without_other (range_of r) (drop (suc (i - 1)) (map range_of rs)) column (ne_eqb r.column column apart))
+    ∙ ap (λ (s : List ranges.Range). intersection_of s column) (sym (drop_is_cons rs (i - 1) r (omega arith) is))
 
 -- ---- the different columns of a list, when one more column is added to it
 
-same_test : (a b : ℕ) → eqb a b ≡ eqb b a
-same_test a b = elim (cases_Bool (eqb a b)) [
+eqb_symmetric : (a b : ℕ) → eqb a b ≡ eqb b a
+eqb_symmetric a b = elim (cases_Bool (eqb a b)) [
   | inl t ↦ t ∙ sym (eq-eqb b a (sym (eqb-true a b t)))
   | inr n ↦ n ∙ sym (ne_eqb b a (λ e. eqb-false a b n (sym e)))
 ]
@@ -69,7 +69,7 @@ different_new (y ∷ xs) x h = elim (cases_Bool (eqb y x)) [
   | inl t ↦ (let no : true ≡ false = rw t at h in absurd (cc))
   | inr n ↦ (let rest : list_any (λ c. eqb c x) xs ≡ false = rw n at h in
       ap (λ (s : List ℕ). y ∷ s) (ap (filter (λ other. not (eqb other y))) (different_new xs x rest) ∙ filter-append (λ other. not (eqb other y)) (different xs) (x ∷ [])
-      ∙ ap (λ (b : Bool). filter (λ other. not (eqb other y)) (different xs) ++ cond (not b) (x ∷ []) []) (same_test x y ∙ n)))
+      ∙ ap (λ (b : Bool). filter (λ other. not (eqb other y)) (different xs) ++ cond (not b) (x ∷ []) []) (eqb_symmetric x y ∙ n)))
 ]
 
 append_none : (s : List ℕ) → s ++ [] ≡ s
@@ -82,7 +82,7 @@ different_old (y ∷ xs) x h = elim (cases_Bool (list_any (λ c. eqb c x) xs)) [
   | inl t ↦ ap (λ (s : List ℕ). y ∷ filter (λ other. not (eqb other y)) s) (different_old xs x t)
   | inr n ↦ elim (cases_Bool (eqb y x)) [
     | inl t ↦ ap (λ (s : List ℕ). y ∷ s) (ap (filter (λ other. not (eqb other y))) (different_new xs x n) ∙ filter-append (λ other. not (eqb other y)) (different xs) (x ∷ [])
-        ∙ ap (λ (b : Bool). filter (λ other. not (eqb other y)) (different xs) ++ cond (not b) (x ∷ []) []) (same_test x y ∙ t)
+        ∙ ap (λ (b : Bool). filter (λ other. not (eqb other y)) (different xs) ++ cond (not b) (x ∷ []) []) (eqb_symmetric x y ∙ t)
         ∙ append_none (filter (λ other. not (eqb other y)) (different xs)))
     | inr m ↦ (let no : false ≡ true = rw (m, n) at h in absurd (cc))
   ]

@@ -21,15 +21,15 @@ abbrev pub after_list_steps : List ListStep → List (List ℕ) → List (List �
 after_list_steps [] stack = stack
 after_list_steps (step ∷ steps) stack = after_list_steps steps (after_list_step step stack)
 
-abbrev pub top_of : List (List ℕ) → List ℕ
-top_of [] = []
-top_of (list ∷ stack) = list
+abbrev pub top_list : List (List ℕ) → List ℕ
+top_list [] = []
+top_list (list ∷ stack) = list
 
 -- the sum of all lists on the stack together
 abbrev pub total_of : List (List ℕ) → ℕ
 total_of stack = sum_by sum stack
 
--- whether the list of a step, if the step has one, has at most 2^32 rows
+-- whether the list of a step, if the step has one, sums to at most 2^32
 abbrev pub is_small : ListStep → Bool
 is_small (list_step.List list) = nat_le (sum list) (2 ^ 32)
 is_small list_step.And = true

@@ -7,7 +7,7 @@ use Rattle.predicate_bounds.specs.declared.columns.ColumnSteps.{ColumnSteps}
 use Rattle.predicate_bounds.specs.declared.columns.EntryStats.{EntryStats}
 use Rattle.predicate_bounds.specs.declared.columns.QueryStats.{QueryStats}
 use Rattle.predicate_bounds.specs.declared.running.ListStep.{ListStep}
-use Rattle.predicate_bounds.specs.ListRuns.{after_list_steps, with_list, top_of}
+use Rattle.predicate_bounds.specs.ListRuns.{after_list_steps, with_list, top_list}
 use Rattle.predicate_bounds.specs.Steps.{steps_of}
 
 abbrev pub no_columns : EntryStats
@@ -21,14 +21,14 @@ columns_of stats from = (slice_index_or stats.entries from no_columns).columns
 abbrev pub column_steps : QueryStats → ℕ → ℕ → Option (List ListStep)
 column_steps stats from column = option_map (λ joined. joined.steps) (find (λ joined. joined.column == column) (columns_of stats from))
 
--- the steps of the first column of entry `from`; the entry's row bound is made of them
+-- the steps of the first column of entry `from`. The entry's row bound is made from these steps
 abbrev pub first_steps : QueryStats → ℕ → Option (List ListStep)
 first_steps stats from = option_map (λ joined. joined.steps) (slice_get (columns_of stats from) 0)
 
 -- the list that steps leave on top of the stack, or the empty list if there are no steps
 abbrev pub list_on_top : Option (List ListStep) → List ℕ
 list_on_top None = []
-list_on_top (Some steps) = top_of (after_list_steps steps [])
+list_on_top (Some steps) = top_list (after_list_steps steps [])
 
 -- the list that the steps of a joined column leave
 abbrev pub list_in_stats : QueryStats → ℕ → ℕ → List ℕ

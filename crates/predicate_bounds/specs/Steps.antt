@@ -12,7 +12,8 @@ use Rattle.predicate_bounds.specs.declared.steps.Range.{Range}
 use Rattle.predicate_bounds.specs.declared.steps.Step.{Step}
 use Rattle.predicate_bounds.specs.declared.steps.Step.TheVariants as step
 
--- the code's literals and ranges as values and ranges of the definitions (`value_of`, `range_of`), and the other way (`literal_of`, `range_in`)
+-- `value_of` and `range_of` turn literals and ranges of the code into values and ranges of the definitions. `literal_of` and `literal_range_of` turn
+-- these back into literals and ranges
 abbrev pub value_of : Literal → Value
 value_of (literal.Int number) = values.Int number
 value_of (literal.Text text) = values.Text text
@@ -24,15 +25,15 @@ literal_of (values.Text text) = literal.Text text
 abbrev pub range_of : Range → ranges.Range
 range_of range = record { column = range.column; low = option_map value_of range.low; high = option_map value_of range.high }
 
-abbrev pub range_in : ranges.Range → Range
-range_in range = record { column = range.column; low = option_map literal_of range.low; high = option_map literal_of range.high }
+abbrev pub literal_range_of : ranges.Range → Range
+literal_range_of range = record { column = range.column; low = option_map literal_of range.low; high = option_map literal_of range.high }
 
 -- answers that are lists of steps: running the steps puts the answer itself on the stack
 abbrev pub step_answers : ComparisonAnswers (List Step)
 step_answers = record {
   whole = step.Whole ∷ [];
   equal = λ column value. step.Equal column (literal_of value) ∷ [];
-  range = λ range. step.Within (range_in range) ∷ [];
+  range = λ range. step.Within (literal_range_of range) ∷ [];
   both = λ x y. x ++ (y ++ step.And ∷ []);
   none = step.NoRows ∷ [];
   either = λ x y. x ++ (y ++ step.Or ∷ []);

@@ -7,7 +7,8 @@ use crate::running::ListStep;
 use base_io::{NoMemory, Seq};
 use std::alloc::Global;
 
-/// A joined column of an entry with its steps. A step that puts a list on the stack holds that list, of at most 2^32 rows.
+/// A joined column of an entry with its steps. A step that puts a list on the stack holds that list, which sums to at most
+/// 2^32.
 #[derive(Drop)]
 pub struct ColumnSteps {
     pub column: u32,
@@ -27,7 +28,7 @@ impl ColumnSteps {
         }
     }
 
-    /// Appends `step`. If the step holds a list, the list has at most 2^32 rows. On `NoMemory` the step is dropped.
+    /// Appends `step`. If the step holds a list, the list sums to at most 2^32. On `NoMemory` the step is dropped.
     pub fn push(&mut self, step: ListStep) -> Result<(), NoMemory>
         requires { IsTrue (is_small step) }
         ensures steps { OnOk result (self.new.steps ≡ self.old.steps ++ step ∷ []) }

@@ -1,7 +1,7 @@
-//! Comparisons of a column with a literal, the literal on the right.
+//! Comparisons of a column with a literal, turned so that the literal is on the right.
 ghost use Rattle.std.specs.Prelude.{◌≡◌, IfOk, option_map};
 ghost use Rattle.filtered_lists.specs.Comparisons.{comparison_of, negated_operator, mirrored};
-ghost use Rattle.predicate_bounds.specs.Comparing.{compared_of, literal_in};
+ghost use Rattle.predicate_bounds.specs.Comparing.{comparison_with_literal, literal_of_operand};
 
 use crate::steps::Literal;
 use base_io::{Name, NoMemory};
@@ -11,7 +11,7 @@ use std::alloc::Global;
 
 /// A column compared with a literal on its right.
 #[derive(Debug, Drop)]
-pub(crate) struct Compared {
+pub(crate) struct LiteralComparison {
     pub op: Op,
     pub column: u32,
     pub literal: Literal,
@@ -46,8 +46,8 @@ fn mirrored(op: Op) -> Op
 }
 
 // The literal of an operand, or None if the operand is a column.
-fn literal_in(alloc: Global, operand: &Operand) -> Result<Option<Literal>, NoMemory>
-    ensures { IfOk result (λ literal. literal ≡ literal_in operand.now) }
+fn literal_of_operand(alloc: Global, operand: &Operand) -> Result<Option<Literal>, NoMemory>
+    ensures { IfOk result (λ literal. literal ≡ literal_of_operand operand.now) }
 {
     match operand {
         Operand::Column(_) => Ok(None),
@@ -57,17 +57,17 @@ fn literal_in(alloc: Global, operand: &Operand) -> Result<Option<Literal>, NoMem
 }
 
 // The comparison of a column with an operand, or None if the operand isn't a literal.
-fn compared_with(
+fn comparison_with_operand(
     alloc: Global,
     op: Op,
     column: u32,
     operand: &Operand,
-) -> Result<Option<Compared>, NoMemory>
+) -> Result<Option<LiteralComparison>, NoMemory>
     ensures { IfOk result (λ compared. compared
-        ≡ option_map (λ literal. record { op = op; column = column; literal = literal }) (literal_in operand.now)) }
+        ≡ option_map (λ literal. record { op = op; column = column; literal = literal }) (literal_of_operand operand.now)) }
 {
-    match literal_in(alloc, operand)? {
-        Some(literal) => Ok(Some(Compared {
+    match literal_of_operand(alloc, operand)? {
+        Some(literal) => Ok(Some(LiteralComparison {
             op,
             column,
             literal,
@@ -77,19 +77,19 @@ fn compared_with(
 }
 
 /// The comparison of a column with a literal on either side, or None for any other comparison.
-pub(crate) fn compared_of(
+pub(crate) fn comparison_with_literal(
     alloc: Global,
     op: Op,
     left: &Operand,
     right: &Operand,
-) -> Result<Option<Compared>, NoMemory>
-    ensures { IfOk result (λ compared. compared ≡ compared_of op left.now right.now) }
+) -> Result<Option<LiteralComparison>, NoMemory>
+    ensures { IfOk result (λ compared. compared ≡ comparison_with_literal op left.now right.now) }
 {
     if let Operand::Column(column) = left {
-        return compared_with(alloc, op, column.column, right);
+        return comparison_with_operand(alloc, op, column.column, right);
     }
     if let Operand::Column(column) = right {
-        return compared_with(alloc, mirrored(op), column.column, left);
+        return comparison_with_operand(alloc, mirrored(op), column.column, left);
     }
     Ok(None)
 }

@@ -1,4 +1,4 @@
-//! Bounds of filtered entries: from an entry's own conjuncts and their lists to a list that dominates the scanned rows.
+//! Makes the bounds of filtered entries. From an entry's own conjuncts and their lists it makes a list that dominates the scanned rows.
 //!
 //! In: a query, and each joined column's lists by values and ranges of filter columns. `read_steps` turns own conjuncts into steps that run over
 //! a stack of lists. It pushes NOT down to the comparisons, and merges nested ANDs. If a comparison has its literal on the left, its sides are

@@ -2,14 +2,14 @@
 ghost use Rattle.std.specs.Prelude.{◌≡◌, ◌==◌, map, option_map, IfOk};
 ghost use Rattle.std.specs.List.{list_any};
 ghost use Rattle.filtered_lists.specs.Ranges.{intersection_of};
-ghost use Rattle.predicate_bounds.specs.Narrowing.{is_below, is_above, lower_high, greater_low, narrowed};
-ghost use Rattle.predicate_bounds.specs.Steps.{range_in, range_of, value_of};
+ghost use Rattle.predicate_bounds.specs.Narrowing.{is_below, is_above, lower_high_end, greater_low_end, narrowed};
+ghost use Rattle.predicate_bounds.specs.Steps.{literal_range_of, range_of, value_of};
 
 use crate::steps::{Literal, Range, compare_literals};
 use base_io::NoMemory;
 use std::alloc::Global;
 
-// Whether `end` is there and is above `literal`.
+// Whether `end` exists and is above `literal`.
 fn is_above(end: &Option<Literal>, literal: &Literal) -> bool
     ensures { result ≡ is_above (option_map value_of end.now) (value_of literal.now) }
 {
@@ -19,7 +19,7 @@ fn is_above(end: &Option<Literal>, literal: &Literal) -> bool
     }
 }
 
-// Whether `end` is there and is below `literal`.
+// Whether `end` exists and is below `literal`.
 fn is_below(end: &Option<Literal>, literal: &Literal) -> bool
     ensures { result ≡ is_below (option_map value_of end.now) (value_of literal.now) }
 {
@@ -29,13 +29,13 @@ fn is_below(end: &Option<Literal>, literal: &Literal) -> bool
     }
 }
 
-// The greater of two low ends.
-fn greater_low(
+// The greater of two low ends. If one end is missing, the result is the other end.
+fn greater_low_end(
     alloc: Global,
     one: &Option<Literal>,
     other: Option<Literal>,
 ) -> Result<Option<Literal>, NoMemory>
-    ensures { IfOk result (λ low. option_map value_of low ≡ greater_low (option_map value_of one.now) (option_map value_of other)) }
+    ensures { IfOk result (λ low. option_map value_of low ≡ greater_low_end (option_map value_of one.now) (option_map value_of other)) }
 {
     let Some(one) = one else {
         return Ok(other);
@@ -46,13 +46,13 @@ fn greater_low(
     Ok(Some(one.copy(alloc)?))
 }
 
-// The lower of two high ends.
-fn lower_high(
+// The lower of two high ends. If one end is missing, the result is the other end.
+fn lower_high_end(
     alloc: Global,
     one: &Option<Literal>,
     other: Option<Literal>,
 ) -> Result<Option<Literal>, NoMemory>
-    ensures { IfOk result (λ high. option_map value_of high ≡ lower_high (option_map value_of one.now) (option_map value_of other)) }
+    ensures { IfOk result (λ high. option_map value_of high ≡ lower_high_end (option_map value_of one.now) (option_map value_of other)) }
 {
     let Some(one) = one else {
         return Ok(other);
@@ -68,8 +68,8 @@ fn narrowed(alloc: Global, range: &Range, one: Range) -> Result<Range, NoMemory>
     ensures { IfOk result (λ narrow. range_of narrow ≡ narrowed (range_of range.now) (range_of one)) }
 {
     let Range { column, low, high } = one;
-    let low = greater_low(alloc, &range.low, low)?;
-    let high = lower_high(alloc, &range.high, high)?;
+    let low = greater_low_end(alloc, &range.low, low)?;
+    let high = lower_high_end(alloc, &range.high, high)?;
     Ok(Range { column, low, high })
 }
 
@@ -79,7 +79,7 @@ pub(crate) fn intersection_of(
     ranges: &[Range],
     column: u32,
 ) -> Result<Range, NoMemory>
-    ensures { IfOk result (λ range. range ≡ range_in (intersection_of (map range_of ranges.now) column)) }
+    ensures { IfOk result (λ range. range ≡ literal_range_of (intersection_of (map range_of ranges.now) column)) }
 {
     let mut one = Range {
         column,

@@ -6,9 +6,9 @@ ghost use Rattle.filtered_lists.specs.Filters.{and_answer, conjunction_of, one_c
 ghost use Rattle.filtered_lists.specs.Filters.{of_answer, of_comparison, of_comparison_or_whole};
 ghost use Rattle.predicate_bounds.specs.Added.{IsConjunctionAdded, and_if_earlier, range_steps};
 ghost use Rattle.predicate_bounds.specs.Steps.{range_of, step_answers, steps_of, value_of};
-ghost use Rattle.join_graph.specs.Conjuncts.{local_of, names_just, numbers_where};
+ghost use Rattle.join_graph.specs.Conjuncts.{local_of, is_own_conjunct, numbers_where};
 
-use crate::comparing::{Compared, compared_of, negated_operator};
+use crate::comparing::{LiteralComparison, comparison_with_literal, negated_operator};
 use crate::ranges::{has_column, intersection_of};
 use crate::steps::{Literal, Range, Step};
 use base_io::{NoMemory, Seq};
@@ -70,16 +70,16 @@ impl Members {
     }
 
     // Adds a comparison of a column with a literal.
-    fn add_compared(
+    fn add_literal_comparison(
         &mut self,
         alloc: Global,
-        compared: Compared,
+        compared: LiteralComparison,
         steps: &mut Seq<Step>,
     ) -> Result<(), NoMemory>
         ensures { OnOk result (IsConjunctionAdded self.old steps.old self.new steps.new
             (of_comparison step_answers compared.op compared.column (value_of compared.literal))) }
     {
-        let Compared {
+        let LiteralComparison {
             op,
             column,
             literal,
@@ -130,8 +130,8 @@ impl Members {
         ensures { OnOk result (IsConjunctionAdded self.old steps.old self.new steps.new
             (of_comparison_or_whole step_answers (comparison_of op left.now right.now))) }
     {
-        match compared_of(alloc, op, left, right)? {
-            Some(compared) => self.add_compared(alloc, compared, steps),
+        match comparison_with_literal(alloc, op, left, right)? {
+            Some(compared) => self.add_literal_comparison(alloc, compared, steps),
             None => {
                 steps.push(Step::Whole)?;
                 self.add_and(steps)
@@ -229,7 +229,7 @@ fn add_answer(
 
 // The steps of the own conjuncts of entry `from`. `own` has these conjuncts' numbers in the query.
 fn read_own(alloc: Global, query: &Query, from: u8, own: &[u32]) -> Result<Seq<Step>, NoMemory>
-    requires { own.now ≡ numbers_where (names_just from) 0 query.now.conjuncts }
+    requires { own.now ≡ numbers_where (is_own_conjunct from) 0 query.now.conjuncts }
     ensures { IfOk result (λ steps. steps ≡ steps_of from query.now.conjuncts) }
 {
     let mut members = Members::none(alloc);

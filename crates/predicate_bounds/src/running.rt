@@ -4,7 +4,7 @@ ghost use Rattle.std.specs.List.{list_all, sum_by, sum};
 ghost use Rattle.degree_sequences.specs.ByRank.{rank_sum};
 ghost use Rattle.degree_sequences.specs.RunningSums.{lesser};
 ghost use Rattle.predicate_bounds.specs.Runs.{combine_top};
-ghost use Rattle.predicate_bounds.specs.ListRuns.{after_list_step, after_list_steps, is_small, top_of, total_of};
+ghost use Rattle.predicate_bounds.specs.ListRuns.{after_list_step, after_list_steps, is_small, top_list, total_of};
 
 use base_io::{NoMemory, Seq};
 use piece_math::Pieces;
@@ -55,7 +55,7 @@ fn or_top(stack: &mut Seq<Pieces>) -> Result<(), NoMemory>
     stack.push(list)
 }
 
-// Takes one step. The step adds at most 2^32 rows to the sum of all lists on the stack.
+// Takes one step. The step adds at most 2^32 to the sum of all lists on the stack.
 fn take_step(alloc: Global, step: &ListStep, stack: &mut Seq<Pieces>) -> Result<(), NoMemory>
     requires room { total_of stack.old < 2 ^ 128 }
     requires small { IsTrue (is_small step.now) }
@@ -71,9 +71,9 @@ fn take_step(alloc: Global, step: &ListStep, stack: &mut Seq<Pieces>) -> Result<
 }
 
 /// The list that steps leave on top of the stack, or the empty list if the stack is empty.
-pub(crate) fn run(alloc: Global, steps: &[ListStep]) -> Result<Pieces, NoMemory>
+pub(crate) fn run_steps(alloc: Global, steps: &[ListStep]) -> Result<Pieces, NoMemory>
     requires { IsTrue (list_all is_small steps.now) }
-    ensures { IfOk result (λ list. list ≡ top_of (after_list_steps steps.now [])) }
+    ensures { IfOk result (λ list. list ≡ top_list (after_list_steps steps.now [])) }
 {
     let mut stack = Seq::new(alloc);
     for i in 0..steps.len() {

@@ -8,7 +8,7 @@ ghost use Rattle.filtered_lists.specs.Standing.{ListsStandFor, SumTo, scan_of};
 ghost use Rattle.predicate_bounds.specs.StatsLists.{HasLists, HasRowLists, column_steps, columns_of, first_steps, list_in_stats, row_bound_in_stats};
 
 use crate::columns::{ColumnSteps, QueryStats};
-use crate::running::run;
+use crate::running::run_steps;
 use base_io::NoMemory;
 use piece_math::Pieces;
 use std::alloc::Global;
@@ -37,7 +37,7 @@ impl QueryStats {
     {
         for joined in self.columns(from) {
             if joined.column == column {
-                return run(alloc, joined.steps.as_slice());
+                return run_steps(alloc, joined.steps.as_slice());
             }
         }
         unreachable!()
@@ -56,7 +56,7 @@ impl QueryStats {
             → IfOk result (λ rows. length (scan_of tables from query.conjuncts) ≤ rows) }
     {
         let columns = self.columns(from);
-        let list = run(alloc, columns[0].steps.as_slice())?;
+        let list = run_steps(alloc, columns[0].steps.as_slice())?;
         Ok(rows_of(&list))
     }
 }

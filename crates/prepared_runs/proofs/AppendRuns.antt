@@ -1,10 +1,10 @@
--- Every outcome of `append` is an earlier statistics file with rows added, and stands for the earlier file's tables with these rows
+-- Every outcome of `append` is an earlier statistics file after new rows were counted. It stands for the earlier file's tables with these rows
 -- (`StandsAfterAppend`).
 use Rattle.std.proofs.Common.{◌≡◌, ℕ, ◌+◌, List, Result, Ok, Err, length, refl, subst, sym, inl, inr}
 use Rattle.std.specs.Prelude.{IfOk, nat_le}
 use Rattle.std.proofs.lemmas.Bool.{cases_Bool}
 use Rattle.appended_stats.specs.Appended.{file_after}
-use Rattle.appended_stats.proofs.StillStands.{file_still}
+use Rattle.appended_stats.proofs.StillStands.{file_still_stands}
 use Rattle.base_io.specs.Files.{Files}
 use Rattle.csv_tables.specs.Rows.{Row}
 use Rattle.limits.specs.Profile.{most_rows}
@@ -30,7 +30,7 @@ pub any_ok : {A B : Type 0} (Q : B → Type 0) (r : Result A Refusal) (f : A →
 any_ok Q (Ok x) f next = next x
 any_ok Q (Err s) f next = tt
 
-module _ (append : NewRows) (schema : Schema) (Q : RunOutcome → Type 0) (so : (made : AppendedRows) → StandsAfterAppend made → Q (Appended made)) where
+module _ (append : NewRows) (schema : Schema) (Q : RunOutcome → Type 0) (appended_has_Q : (made : AppendedRows) → StandsAfterAppend made → Q (Appended made)) where
   abbrev with_rows : StatsFile → ℕ → List Row → AppendedRows
   with_rows stats table rows = record { schema = schema; table = table; rows = rows; file = file_after stats table rows }
 
@@ -39,13 +39,13 @@ module _ (append : NewRows) (schema : Schema) (Q : RunOutcome → Type 0) (so : 
     before = stats;
     keeps = keeps;
     grown = refl;
-    stands = λ query tables after stood has. file_still stats table rows schema query tables after keeps stood has;
+    stands = λ query tables after stood has. file_still_stands stats table rows schema query tables after keeps stood has;
   }
 
   grown_holds : (stats : StatsFile) (table before : ℕ) (rows : List Row) → KeepsRules schema stats → IfOk (grown_stage schema stats table before rows) Q
   unfolding grown_stage
   grown_holds stats table before rows keeps = elim (cases_Bool (nat_le (before + length rows) most_rows)) [
-    | inl few ↦ rw few (so (with_rows stats table rows) (stands stats table rows keeps))
+    | inl few ↦ rw few (appended_has_Q (with_rows stats table rows) (stands stats table rows keeps))
     | inr many ↦ rw many tt
   ]
 

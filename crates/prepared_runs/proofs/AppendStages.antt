@@ -19,7 +19,7 @@ use Rattle.outcomes.specs.declared.names.FileId.TheVariants as file
 use Rattle.outcomes.specs.declared.refusal.Refusal.{Refusal}
 use Rattle.outcomes.specs.declared.refusal.Refusal.TheVariants as refusal
 use Rattle.outcomes.specs.declared.refusal.StatsCause.TheVariants as cause
-use Rattle.outcomes.proofs.ReadFacts.{Meets, joined, reads_as, then_gives, then_reads, then_stops, then_tells}
+use Rattle.outcomes.proofs.ReadFacts.{IsFollowedBy, joined, reads_as, then_gives, then_reads, then_stops, then_fails}
 use Rattle.schema_types.specs.declared.errors.LimitKind.TheVariants as limit
 use Rattle.schema_types.specs.declared.types.Schema.{Schema}
 use Rattle.stats_file.specs.Rules.{IsSection, KeepsRules}
@@ -58,25 +58,25 @@ module _ (name : List ℕ) (schema : Schema) (stats : StatsFile) where
         let of : IsSection schema section = subst (IsSection schema) place.2 (keeps.tables place.0 section place.1) in
         slice_get_within schema.tables section.table of.table of.table_is
 
-    -- every section of the table counts as many rows as this one, since no other section is of the table
+    -- every section of the table counts as many rows as `section`, since no other section is of this table
     pub section_alone : All (HasAsMany (section_rows section)) stats.tables
     section_alone i d low same = elim (cases_lt i place.0) [
-      | inl before ↦ absurd (omega (arith, keeps.order i place.0 d before place.1, same, its_table))
+      | inl before ↦ absurd (omega (arith, keeps.order i place.0 d before place.1, same, is_table))
       | inr not_before ↦ elim (cases_lt place.0 i) [
-        | inl behind ↦ absurd (omega (arith, keeps.order place.0 i d behind low, same, its_table))
+        | inl behind ↦ absurd (omega (arith, keeps.order place.0 i d behind low, same, is_table))
         | inr not_behind ↦ (let here : i ≡ place.0 = omega (arith, not_before, not_behind) in
-            ap (λ (n : ℕ). (get_or stats.tables n d).rows) here ∙ ap (λ (s : TableStats). s.rows) its)
+            ap (λ (n : ℕ). (get_or stats.tables n d).rows) here ∙ ap (λ (s : TableStats). s.rows) is_section)
       ]
     ]
       where
-        one : (n : ℕ) → n < length stats.tables → get_or stats.tables n section ≡ get_or stats.tables n d
-        one n within = get_or_default stats.tables n section d within
+        default_is_unused : (n : ℕ) → n < length stats.tables → get_or stats.tables n section ≡ get_or stats.tables n d
+        default_is_unused n within = get_or_default stats.tables n section d within
 
-        its : get_or stats.tables place.0 d ≡ section
-        its = sym (one place.0 place.1) ∙ place.2
+        is_section : get_or stats.tables place.0 d ≡ section
+        is_section = sym (default_is_unused place.0 place.1) ∙ place.2
 
-        its_table : (get_or stats.tables place.0 d).table ≡ section.table
-        its_table = ap (λ (s : TableStats). s.table) its
+        is_table : (get_or stats.tables place.0 d).table ≡ section.table
+        is_table = ap (λ (s : TableStats). s.table) is_section
 
   -- ---- the section whose rows were counted
 
@@ -102,20 +102,20 @@ module _ (name : List ℕ) (schema : Schema) (stats : StatsFile) where
         (λ no. (let never : refusal.Stats cause.Missing 0 ≡ refusal.Usage = sym missing ∙ no in cc)),
       )
 
--- ---- the file with new rows
+-- ---- the statistics file after the new rows are counted
 
-module _ (schema : Schema) (stats : StatsFile) (table before : ℕ) (rows : List Row) (n : ℕ) (many : n ≡ length rows) where
+module _ (schema : Schema) (stats : StatsFile) (table before : ℕ) (rows : List Row) (n : ℕ) (n_is_length : n ≡ length rows) where
   as_many : (b : Bool) → b ≡ nat_le (before + n) most_rows → nat_le (before + length rows) most_rows ≡ b
-  as_many b is = ap (λ (m : ℕ). nat_le (before + m) most_rows) (sym many) ∙ sym is
+  as_many b is = ap (λ (m : ℕ). nat_le (before + m) most_rows) (sym n_is_length) ∙ sym is
 
-  pub grown_few : (after : StatsFile) → true ≡ nat_le (before + n) most_rows → after ≡ file_after stats table rows
+  pub grown_within_limit : (after : StatsFile) → true ≡ nat_le (before + n) most_rows → after ≡ file_after stats table rows
       → grown_stage schema stats table before rows ≡ Ok (Appended (record { schema = schema; table = table; rows = rows; file = after }))
   unfolding grown_stage
-  grown_few after few is = rw (as_many true few) (ap (λ (f : StatsFile). Ok (Appended (record { schema = schema; table = table; rows = rows; file = f }))) (sym is))
+  grown_within_limit after few is = rw (as_many true few) (ap (λ (f : StatsFile). Ok (Appended (record { schema = schema; table = table; rows = rows; file = f }))) (sym is))
 
-  pub grown_many : false ≡ nat_le (before + n) most_rows → StopsBy (grown_stage schema stats table before rows) (failure.Refused (refusal.Limit limit.Rows (file.Table table) 4000001))
+  pub grown_above_limit : false ≡ nat_le (before + n) most_rows → StopsBy (grown_stage schema stats table before rows) (failure.Refused (refusal.Limit limit.Rows (file.Table table) 4000001))
   unfolding grown_stage
-  grown_many past = rw (as_many false past) (refl, (λ id e. cc), (λ e. cc))
+  grown_above_limit past = rw (as_many false past) (refl, (λ id e. cc), (λ e. cc))
 
 -- ---- the new rows, and then the file
 
@@ -134,7 +134,7 @@ module _ {store : Reading} (name : List ℕ) (schema : Schema) (stats : StatsFil
   rows_ran rows (Ok made) is tells h =
       then_gives store (rows_in table (table_at schema table) name) (grown_stage schema stats table before) (AtFile (file.Table table)) (AtFile (file.Table table)) rows (appended_from schema made) is h
   rows_ran rows (Err e) is tells h =
-      then_tells store (rows_in table (table_at schema table) name) (grown_stage schema stats table before) (AtFile (file.Table table)) (AtFile (file.Table table)) rows e tells h
+      then_fails store (rows_in table (table_at schema table) name) (grown_stage schema stats table before) (AtFile (file.Table table)) (AtFile (file.Table table)) rows e tells h
 
 -- ---- the section, and then the new rows
 
@@ -188,7 +188,7 @@ module _ (append : NewRows) (schema : Schema) where
   reached stats files id is at' =
       inr (subst (λ (r : Result StatsFile Refusal). IsOkAnd (r >>= λ s. section_stage append.table schema s) (λ section. id ≡ file.Table section.table)) (sym is) at')
 
-  pub append_ran : (first second : Reading) (stats : StatsFile) (answer : Result RunOutcome Failure) → Meets first second
+  pub append_ran : (first second : Reading) (stats : StatsFile) (answer : Result RunOutcome Failure) → IsFollowedBy first second
       → Reads first (stats_stage append.stats_file schema) (AtFile file.Stats) (Ok stats) → Reads second (stats_run append schema stats) (AtRows append schema stats) answer
       → Reads (joined first second) (append_run append schema) (IsAimFile (aims.Append append) schema) answer
   unfolding append_run

@@ -8,10 +8,10 @@
 --   other by `subst` and `ap`. No lemma is needed to say that a query asks only for its own entries' tables.
 -- - The facts about an accepted verdict are one induction over its stages (`Runs`): each stage is a `>>=`, and `then_ok` carries a predicate
 --   through it. The two sentences of the headline on bounds and rows are then one line each, about plain tables, and need no code.
--- - What is left to do is an enum that owns its memory (`PendingOutput`): it determines which text goes to out (`pending_text`), so no invariant has to
---   connect a command with a reservation.
--- - A function can be proved before the functions that it calls, with stand-ins that have the same contracts. If the stand-in always refuses,
---   each law about plans is true (`absurd`), and a call with `requires ⊥` needs no body.
+-- - What is left to do is an enum that owns its memory (`PendingOutput`). It determines which text goes to out (`pending_text`), so no invariant
+--   has to connect a command with a reservation.
+-- - A function can be proved before the functions that it calls, with stand-ins that have the same contracts. A stand-in that always refuses
+--   satisfies each law about plans (`absurd`). A stand-in with `requires ⊥` needs no body.
 -- - A store that can't fail is a wrapper. Its invariant is that no call is set to fail, and its ghost `faults` is the constant 0: then
 --   `Rose 0 0` is absurd, and `read_at` needed no written proof.
 -- - The shop is a field of the command that no stage looks at (`command_run`). So the verdict of `demo` equals that of an audit by one `ap`
@@ -20,43 +20,46 @@
 -- - A word's text is taken by `get` only where a file is read. Then one equation about `get` is rewritten at that place, and the clauses
 --   above speak of the command's own words.
 --
--- - The functions that take memory for joins require `MayJoin`. That the plan is within the budget is a clause of `plan_task` (AllowedFacts).
---   That the plan is within the limit of memory follows from the result of the test (`within_ok`). So these functions can only be called
---   after the test.
+-- - The functions that take memory for joins require `MayJoin`. A clause of `plan_task` says that the plan is within the budget
+--   (AllowedFacts). The result of the test says that it is within the limit of memory (`within_ok`). So these functions can only be called after
+--   the test.
 --
 -- Sources of lists
 --
--- - What a source gives is a value (`bounds_and_lists_by`, a record of bounds of sets, bounds of scans and lists). What is proved about it is one record
---   (`IsSource`), whose parts have a line for each source (`rows_kept`, `scans_bound`, `levels_bound`, `all_sets` in SourceFacts). Everything
---   above is about any value with that record: plans (`plan_fits`, `plan_over`), levels, rooms, texts. So no proof above has a case for each
---   source.
+-- - What a source gives is a value (`bounds_and_lists_by`, a record of bounds of sets, bounds of scans and lists). What is proved about this value is
+--   one record (`IsSource`), whose parts have a line for each source (`rows_kept`, `scans_bound`, `levels_bound`, `all_sets` in SourceFacts).
+--   Everything above is about any value with that record: plans (`plan_fits`, `plan_over`), levels, rooms, texts. So no proof above has a case for
+--   each source.
 -- - `sets_by`, `scans_by`, `lists_by` and `planned_by` are `unfoldable`: goals stay as long as these names. They are opened in SourceFacts
 --   and ShapeFacts, and in the answers of `given_by` (`rw c.in-Columns.is`, and then the clause of the call is the goal). They are also
 --   opened where the headline says what each source's scans are (`of_columns`, `of_keyed`, `of_reduced` in Runs). `bounds_and_lists_by` itself is
 --   transparent, so that its lists are `lists_by` without a lemma. A prepared run keeps no schema, since lists and scan bounds don't depend
 --   on it.
--- - What a source needs of the tables (`SourceNeeds`) is a condition for its bounds of sets alone: its lists lose no row, and its bounds of scans
+-- - What a source needs of the tables (`SourceNeeds`) is needed only for its bounds of sets: its lists lose no row, and its bounds of scans
 --   hold, whatever the tables are. That declared keys hold follows from reading the files (KeyFacts): each entry's rows are those in some
---   file of its table (`AreOfFiles` of table_files). This is a clause of reading and a law of the stage. One lemma goes from there to keys,
+--   file of its table (`CanComeFromFiles` of table_files). This is a clause of reading and a law of the stage. One lemma goes from there to keys,
 --   for the code and for the verdict.
 -- - Whole scans are lists like any others (`lists_in`). Only `list_rows`, which makes lists, asks whether the lists are there already. Rooms,
 --   levels and texts are about lists, with one record (`CanJoin`: the lists lose no row, and there is room for a plan over them).
--- - The accuracy is an argument of what `bounds_and_lists_by` gives, and not of `bounds_and_lists_by`, so the lists of a run don't depend on it.
--- - `let Given { known, scans } = f()?` names its goals by the first variable (`in_ok-known`); the value is `field-0`.
+-- - `bounds_and_lists_by` has no accuracy; only the bounds in its result take one. So the lists of a run don't depend on the accuracy.
+-- - The goals of `let Given { known, scans } = f()?` are named by `known` (`in_ok-known`); the value of `f` is `field-0`.
 --
 -- Shapes
 --
--- - Facts about a plan are stated by definitions over `AnyPlan` (specs/Shapes: its parts, their bounds and rows, its texts). So the sentences
---   of the headline, the verdict and the texts have no case for a tree. Only ShapeFacts and RootFacts, and the functions of `shapes` and
---   `texts`, have a case for each shape.
--- - In both shapes the entries of a choice for all entries are an order of the query's entries (`joined_entries`, `order_is`). So there is
---   one proof that the printed rows are the answer, from `last` of `LoseNoRow`.
--- - A plan's tree and its buffers are one value (`Room`), so what is left to do has the plan. An order is a tree whose right children are leaves
---   (`tree_of`), so rooms, joins and bytes have no case for an order. Its texts have: `OrderParts` says which node a level's rows are in.
+-- - A plan is a join tree; an order's plan is the tree of the order. Facts about a plan are stated by definitions over its shape and the tree
+--   (specs/Shapes: its parts, their bounds and rows, its texts). So the sentences of the headline, the verdict and the texts have no case for a tree.
+--   Only ShapeFacts, AllowedFacts, KeptFacts and RootFacts have a case for each shape. Rooms, joins and bytes know only the tree.
+-- - An order is read from its tree (`order_of_tree`). What is read is the order that the search found (`read_back` in Singles): the tree doesn't
+--   keep the bound of level 1, but in the bounds of each source an entry alone has the bound of its scan (`BoundSingles`). No equality joins an entry
+--   with itself, so no conjunct is carried to an entry in a set of one.
+-- - In both shapes the entries of a choice for all entries are the leaves of the tree (`joined_entries`, `order_is`). So there is one proof that the
+--   printed rows are the answer, from `last` of `LoseNoRow`.
+-- - `OrderParts` says which node a level's rows are in.
 -- - No node of a tree has more rows than its bound, whatever the sizes of the tables (`nodes_fit` of bushy_planning). So the verdict's law
 --   has no condition on sizes. Joins over a tree also require that tables are small, which the code knows about tables that it read
---   (`plan_over`).
--- - The answer of a shape is made from the answer of its search by `mapped`, which changes the value of an answer. `mapped_ok` takes the plan out again.
+--   (`plan_over`, `tree_over`).
+-- - The answer of an order is made from the answer of its search by `mapped`, which changes the value of an answer. `mapped_ok` takes the order out
+--   again.
 
 pub mod AllowedFacts
 pub mod Answered
@@ -73,5 +76,6 @@ pub mod OrderParts
 pub mod RootFacts
 pub mod Runs
 pub mod ShapeFacts
+pub mod Singles
 pub mod SourceFacts
 pub mod Stages

@@ -1,4 +1,4 @@
--- The levels of an order have the rows of the nodes of its tree, but for level 1, which has none if a conjunct that names no entry fails.
+-- Each level of an order has the rows of its node in the order's tree. Only level 1 differs: it has no rows if a conjunct such as 1 = 2 fails.
 use Rattle.std.proofs.Common.{◌≡◌, inl, inr, ℕ, ◌+◌, ◌*◌, ◌<◌, ◌≤◌, ◌&&◌, Bool, not, cond, List, [], length, map, get_or, ap, sym, ◌∙◌, arith}
 use Rattle.std.specs.List.{range_with_len}
 use Rattle.std.proofs.lemmas.Bool.{cases_eq, ne_eqb}
@@ -11,9 +11,9 @@ use Rattle.query_types.specs.declared.types.Query.{Query}
 use Rattle.sql_meaning.specs.Databases.{IsDatabaseOf}
 use Rattle.sql_meaning.specs.Tables.{tables_of}
 use Rattle.join_steps.specs.Lists.{list_levels, AreOfScans}
-use Rattle.tree_plans.specs.Orders.{level_node, tree_of_order}
-use Rattle.tree_plans.proofs.Building.{level_later}
-use Rattle.tree_plans.proofs.OrderTrees.{order_is_tree}
+use Rattle.plans.specs.Orders.{level_node, tree_of_order}
+use Rattle.plans.proofs.Building.{level_later}
+use Rattle.plans.proofs.OrderTrees.{order_is_tree}
 use Rattle.tree_rows.specs.Nodes.{Node, node_at}
 use Rattle.tree_rows.specs.Trees.{node_count}
 use Rattle.tree_rows.proofs.OrderNodes.{first_there}

@@ -1,4 +1,4 @@
--- The root of a tree has the rows of the last level. The counts of the listed rows are the sizes of the tree's nodes.
+-- The root of a tree has the rows of the last level. The numbers of listed rows are the numbers of rows of the tree's nodes.
 use Rattle.std.proofs.Common.{◌≡◌, ℕ, ◌+◌, ◌-◌, ◌*◌, ◌<◌, ◌&&◌, Bool, true, false, List, length, map, ltb, refl, ap, sym, ◌∙◌, subst, arith, inl, inr}
 use Rattle.std.specs.Prelude.{All}
 use Rattle.std.specs.List.{range_with_len}
@@ -14,9 +14,9 @@ use Rattle.sql_meaning.specs.Choices.{IsChoiceOf}
 use Rattle.sql_meaning.specs.Databases.{IsDatabaseOf}
 use Rattle.sql_meaning.specs.Levels.{level_over}
 use Rattle.sql_meaning.specs.Tables.{Tables, row_counts, tables_of}
-use Rattle.sql_meaning.proofs.AnswerFacts.{own_entries}
-use Rattle.tree_plans.specs.TreePlans.{IsTreePlan}
-use Rattle.tree_plans.specs.declared.bushy.BushyPlan.{BushyPlan}
+use Rattle.sql_meaning.proofs.AnswerFacts.{names_its_entries}
+use Rattle.plans.specs.TreePlans.{IsTreePlan}
+use Rattle.plans.specs.declared.bushy.BushyPlan.{BushyPlan}
 use Rattle.tree_rows.specs.Nodes.{Node, node_at}
 use Rattle.tree_rows.specs.Trees.{entries_at, node_count}
 use Rattle.join_steps.specs.Lists.{list_at, IsOrderOf}
@@ -25,10 +25,10 @@ use Rattle.bushy_join.specs.Trees.{chosen_rows, is_joined_leaf, node_rows}
 use Rattle.bushy_join.proofs.Running.{are_choices}
 use Rattle.joined_texts.specs.JoinedRows.{root_of}
 use Rattle.joined_texts.specs.Printed.{node_counts, printed_rows, selected_rows}
-use Rattle.joined_texts.proofs.AuditLines.{node_count_at, node_count_long}
+use Rattle.joined_texts.proofs.AuditLines.{node_count_at, node_counts_length}
 use Rattle.prepared_runs.specs.Shapes.{part_sizes}
 use Rattle.prepared_runs.specs.Standing.{LoseNoRow}
-use Rattle.prepared_runs.specs.declared.shapes.AnyPlan.TheVariants as shaped
+use Rattle.safebound_words.specs.declared.command.Shape.TheVariants as shapes
 use Rattle.prepared_runs.proofs.ShapeFacts.{order_is, order_of}
 
 and_false : (b : Bool) → (b && false) ≡ false
@@ -58,11 +58,11 @@ module _ (query : Query) (db : Database) (plan : BushyPlan) (is : IsTreePlan (le
   root_rows =
       root_chosen query (tables_of db) plan is lists
       ∙ ap (λ (placed : List ℕ). level_over (conjuncts_of query (tables_of db)) (list_at lists) placed) (sym (take-length its))
-      ∙ rows.last (own_entries query db database) its (order_is query (shaped.TreePlan plan) is)
+      ∙ rows.last (names_its_entries query db database) its (order_is query plan is)
 
   root_choices : All (IsChoiceOf (row_counts (tables_of db)) its) (node_rows query (tables_of db) lists plan (node_count plan - 1))
   root_choices =
-      let order = order_of query (shaped.TreePlan plan) is in
+      let order = order_of query plan is in
       subst (All (IsChoiceOf (row_counts (tables_of db)) its)) (sym (root_chosen query (tables_of db) plan is lists))
       (All-from_recursion (IsChoiceOf (row_counts (tables_of db)) its) (chosen_rows query (tables_of db) lists its)
       (are_choices query db lists rows.scanned its order.entries))
@@ -88,7 +88,7 @@ module _ (query : Query) (db : Database) (plan : BushyPlan) (is : IsTreePlan (le
   root_listed = ap (λ (node : Node). node.rows) root_is ∙ listed (node_count plan - 1) there
 
   pub root_order : IsOrderOf query (root_of query done).entries
-  root_order = subst (IsOrderOf query) (sym root_entries) (order_of query (shaped.TreePlan plan) is)
+  root_order = subst (IsOrderOf query) (sym root_entries) (order_of query plan is)
 
   pub root_whole : All (IsChoiceOf (row_counts (tables_of db)) (root_of query done).entries) (root_of query done).rows
   root_whole =
@@ -105,13 +105,13 @@ module _ (query : Query) (tables : Tables) (plan : BushyPlan) (is : IsTreePlan (
   abbrev size : ℕ → ℕ
   size k = length (node_rows query tables lists plan (length plan.scans + k))
 
-  pub counts_of_nodes : node_counts (length plan.scans) done ≡ part_sizes query tables lists (shaped.TreePlan plan)
+  pub counts_of_nodes : node_counts (length plan.scans) done ≡ part_sizes query tables lists shapes.Tree plan
   counts_of_nodes =
       let many : ℕ = length plan.joins in
       ext_get_or 0 (node_counts (length plan.scans) done) (map size (range_with_len 0 many))
-      (omega (arith, node_count_long (length plan.scans) done, count, length-map-range_with_len size 0 many))
+      (omega (arith, node_counts_length (length plan.scans) done, count, length-map-range_with_len size 0 many))
       (λ k low.
-      let within : k < many = omega (arith, low, node_count_long (length plan.scans) done, count) in
+      let within : k < many = omega (arith, low, node_counts_length (length plan.scans) done, count) in
       node_count_at (length plan.scans) done k (omega (arith, within, count))
       ∙ ap (λ (r : List (List ℕ)). length r) (listed (length plan.scans + k) (omega (arith, within)))
       ∙ sym (get_or-map-range_with_len size 0 many k k 0 within (omega arith)))

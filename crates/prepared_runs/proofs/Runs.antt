@@ -8,7 +8,7 @@ use Rattle.schema_types.specs.Validity.{IsValid}
 use Rattle.schema_types.specs.declared.types.Schema.{Schema}
 use Rattle.stats_file.specs.Rules.{KeepsRules}
 use Rattle.query_types.specs.Named.{NamesItsEntries}
-use Rattle.query_types.specs.Validity.{IsOf}
+use Rattle.query_types.specs.Validity.{IsQueryOf}
 use Rattle.query_types.specs.declared.types.Query.{Query}
 use Rattle.sql_meaning.specs.Answers.{answer, conjuncts_of, entries_of, selected}
 use Rattle.sql_meaning.specs.Levels.{level_of, row_in}
@@ -27,7 +27,7 @@ use Rattle.table_files.specs.EntryTables.{tables_in}
 use Rattle.table_files.specs.Stage.{tables_stage}
 use Rattle.table_files.specs.TableFile.{read}
 use Rattle.join_steps.specs.Lists.{list_at, scans_of, list_sizes}
-use Rattle.join_steps.proofs.WholeScans.{scan_at, size_at}
+use Rattle.join_steps.proofs.WholeScans.{scans_of_at, list_sizes_at}
 use Rattle.reduced_scans.specs.Rounds.{reduced_of}
 use Rattle.prepared_runs.specs.AcceptedQuery.{AcceptedQuery, BoundsHold, IsOverReducedScans, IsOverWholeScans, RowsAreTheAnswer, tables}
 use Rattle.safebound_words.specs.InRange.{HasRanges, IsInRange, WorkHasRanges}
@@ -39,7 +39,7 @@ use Rattle.safebound_words.specs.declared.command.QueryTask.TheVariants as works
 use Rattle.prepared_runs.specs.StatsFiles.{stats_stage}
 use Rattle.prepared_runs.specs.Limits.{IsWithinLimit}
 use Rattle.prepared_runs.specs.RunOutcome.{Appended, StatsMade, KeepsItsLimit, NoBoundIsTooLow, RunOutcome, Planned, PlannedFromStats, PrintsTheAnswer}
-use Rattle.prepared_runs.specs.Shapes.{joined_entries, part_rows, scan_bounds, shape_bytes}
+use Rattle.prepared_runs.specs.Shapes.{joined_entries, part_rows}
 use Rattle.prepared_runs.specs.Sources.{SourceNeeds, BoundsAndLists, lists_by, scans_by, bounds_and_lists_by}
 use Rattle.prepared_runs.specs.Standing.{IsSource, LoseNoRow}
 use Rattle.safebound_words.specs.declared.command.ListSource.{ListSource}
@@ -48,11 +48,13 @@ use Rattle.prepared_runs.specs.Verdict.{aim_run, command_run, command_stage, pla
 use Rattle.join_graph.proofs.FromEntries.{names_its_entries}
 use Rattle.prepared_runs.proofs.AppendRuns.{any_ok, append_holds, then_ok}
 use Rattle.prepared_runs.proofs.StatsFileRuns.{filed_plan_holds, filed_stands, stats_keep}
-use Rattle.prepared_runs.specs.declared.shapes.AnyPlan.{AnyPlan}
+use Rattle.plans.specs.TreePlans.{IsTreePlan}
+use Rattle.plans.specs.declared.bushy.BushyPlan.{BushyPlan}
+use Rattle.tree_rows.specs.Memory.{tree_bytes}
 use Rattle.safebound_words.specs.declared.command.PlanWork.{PlanWork}
 use Rattle.prepared_runs.proofs.LimitFacts.{within_so}
 use Rattle.prepared_runs.proofs.CommandFacts.{has_ranges}
-use Rattle.prepared_runs.proofs.ShapeFacts.{Fits, order_is, plan_fits, scan_is_given, whole_part}
+use Rattle.prepared_runs.proofs.ShapeFacts.{Fits, order_is, plan_fits, scans_are_given, shaped_is_tree, whole_part}
 use Rattle.prepared_runs.proofs.KeyFacts.{needs_read}
 use Rattle.prepared_runs.proofs.SourceFacts.{stand}
 
@@ -64,11 +66,11 @@ ok_with_refusal : {A E : Type 0} (P : A → Type 0) (f : E → Refusal) (r : Res
 ok_with_refusal P f (Ok x) h = h x refl
 ok_with_refusal P f (Err e) h = tt
 
-query_ok : (name : List ℕ) (schema : Schema) (files : Files) → IfOk (query_stage name schema files) (IsOf schema)
+query_ok : (name : List ℕ) (schema : Schema) (files : Files) → IfOk (query_stage name schema files) (IsQueryOf schema)
 unfolding query_stage
 query_ok name schema files =
-    any_ok (IsOf schema) (read file.Query 1048576 name files) (query_of_text schema)
-    (λ text. ok_with_refusal (IsOf schema) query_refusal (query_answer schema text) (λ query e. queries.of_schema schema text query e))
+    any_ok (IsQueryOf schema) (read file.Query 1048576 name files) (query_of_text schema)
+    (λ text. ok_with_refusal (IsQueryOf schema) query_refusal (query_answer schema text) (λ query e. queries.of_schema schema text query e))
 
 pub schema_ok : (name : List ℕ) (files : Files) → IfOk (schema_stage name files) IsValid
 unfolding schema_stage
@@ -80,9 +82,10 @@ pub record IsRun (run : AcceptedQuery) : Type 0 where
   pub own : NamesItsEntries run.query
   pub lists : run.lists ≡ lists_by run.source run.query (tables run)
   pub rows : LoseNoRow run.query (tables run) run.lists
-  pub bounds : Fits run.query (tables run) run.lists run.plan
-  pub limit : IsWithinLimit run.memory (shape_bytes run.plan)
-  pub scans : (accuracy : ℕ) × ((entry : ℕ) → get_or (scan_bounds run.plan) entry 0 ≡ get_or (scans_by run.source run.query (tables run) accuracy) entry 0)
+  pub tree : IsTreePlan (length run.query.from) run.plan
+  pub bounds : Fits run.query (tables run) run.lists run.shape run.plan
+  pub limit : IsWithinLimit run.memory (tree_bytes run.plan)
+  pub scans : (accuracy : ℕ) × ((entry : ℕ) → get_or run.plan.scans entry 0 ≡ get_or (scans_by run.source run.query (tables run) accuracy) entry 0)
 
 abbrev IsSound : RunOutcome → Type 0
 IsSound (Planned run) = IsRun run
@@ -95,28 +98,33 @@ unfolding plan_stage
 plan_ok task schema query rows needs range some few own =
     then_ok IsMade IsSound (with_refusal plan_refusal (plan_asked task schema query (tables_in rows))) _
     (ok_with_refusal IsMade plan_refusal (plan_asked task schema query (tables_in rows)) made_ok)
-    (λ plan is. within_so IsSound task.terms.memory (shape_bytes plan) (Planned (run_asked task query rows plan)) is)
+    (λ plan is. within_so IsSound task.terms.memory (tree_bytes plan) (Planned (run_asked task query rows plan)) is)
   where
-    IsMade : AnyPlan → Type 0
-    IsMade plan = IsWithinLimit task.terms.memory (shape_bytes plan) → IsRun (run_asked task query rows plan)
+    IsMade : BushyPlan → Type 0
+    IsMade plan = IsWithinLimit task.terms.memory (tree_bytes plan) → IsRun (run_asked task query rows plan)
 
-    made_ok : (plan : AnyPlan) → plan_asked task schema query (tables_in rows) ≡ Ok plan → IsMade plan
+    made_ok : (plan : BushyPlan) → plan_asked task schema query (tables_in rows) ≡ Ok plan → IsMade plan
     made_ok plan made within =
         let given : BoundsAndLists = bounds_and_lists_by task.source schema query (tables_in rows) in
         let is : IsSource query (tables_in rows) given = stand query (tables_in rows) schema task.source needs in
+        let fits = plan_fits query (tables_in rows) given is task.accuracy task.terms.budget some few task.terms.shape plan made range.budget in
         record {
           own = own;
           lists = refl;
           rows = is.rows;
           limit = within;
-          bounds = plan_fits query (tables_in rows) given is task.accuracy task.terms.budget some few task.terms.shape plan made range.budget;
-          scans = (task.accuracy, scan_is_given query (tables_in rows) given is task.accuracy task.terms.budget some few task.terms.shape plan made);
+          tree = shaped_is_tree (length query.from) task.terms.shape plan some few fits.plan;
+          bounds = fits;
+          scans = (
+            task.accuracy,
+            λ entry. ap (λ (s : List ℕ). get_or s entry 0) (scans_are_given query (tables_in rows) given is task.accuracy task.terms.budget some few task.terms.shape plan made),
+          );
         }
 
-work_ok : (work : QueryTask) (schema : Schema) (query : Query) (files : Files) → WorkHasRanges work → IsValid schema → IsOf schema query → IfOk (work_run work schema query files) IsSound
+work_ok : (work : QueryTask) (schema : Schema) (query : Query) (files : Files) → WorkHasRanges work → IsValid schema → IsQueryOf schema query → IfOk (work_run work schema query files) IsSound
 work_ok (works.Plan task) schema query files range valid of =
     then_ok (λ rows. tables_stage schema query.from files ≡ Ok rows) IsSound (tables_stage schema query.from files) _ (is_ok (tables_stage schema query.from files))
-    (λ rows is. plan_ok task schema query rows (needs_read task.source schema query files rows of is) range (omega (arith, of.some)) of.few (names_its_entries schema query of))
+    (λ rows is. plan_ok task schema query rows (needs_read task.source schema query files rows of is) range (omega (arith, of.has_entries)) of.entries_within_limit (names_its_entries schema query of))
 work_ok (works.WriteStats accuracy) schema query files range valid of =
     then_ok (λ rows. tables_stage schema query.from files ≡ Ok rows) IsSound (tables_stage schema query.from files) _ (is_ok (tables_stage schema query.from files))
     (λ rows is. filed_stands schema query files accuracy rows is)
@@ -126,7 +134,7 @@ work_ok (works.PlanFromStats name terms) schema query files range valid of =
 
 aim_ok : (aim : SchemaTask) (schema : Schema) (files : Files) → HasRanges aim → IsValid schema → IfOk (aim_run aim schema files) IsSound
 aim_ok (aims.Query name work) schema files range valid =
-    then_ok (IsOf schema) IsSound (query_stage name schema files) _ (query_ok name schema files)
+    then_ok (IsQueryOf schema) IsSound (query_stage name schema files) _ (query_ok name schema files)
     (λ query of. work_ok work schema query files range valid of)
 aim_ok (aims.Append append) schema files range valid = append_holds append schema IsSound (λ made stands. stands) files valid
 
@@ -149,10 +157,10 @@ module _ (run : AcceptedQuery) (is : IsRun run) where
 
   of_whole : run.lists ≡ scans_of run.query (tables run) → IsOverWholeScans run
   of_whole whole = record {
-    scans = λ entry low. ap (λ (l : List (List ℕ)). list_at l entry) whole ∙ scan_at run.query (tables run) entry low;
+    scans = λ entry low. ap (λ (l : List (List ℕ)). list_at l entry) whole ∙ scans_of_at run.query (tables run) entry low;
     parts = λ k low.
-        ap (λ (l : List (List ℕ)). part_rows run.query (tables run) l run.plan k) whole
-        ∙ whole_part run.query (tables run) run.plan is.bounds.plan k low;
+        ap (λ (l : List (List ℕ)). part_rows run.query (tables run) l run.shape run.plan k) whole
+        ∙ whole_part run.query (tables run) run.shape run.plan is.bounds.plan k low;
   }
 
   of_columns : run.source ≡ sources.Columns → IsOverWholeScans run
@@ -172,7 +180,7 @@ module _ (run : AcceptedQuery) (is : IsRun run) where
         exact = λ entry low.
             is.scans.1 entry ∙ ap (λ (source : ListSource). get_or (scans_by source run.query (tables run) is.scans.0) entry 0) from'
             ∙ ap (λ (s : List ℕ). get_or s entry 0) sizes
-            ∙ size_at run.query (reduced_of run.query (tables run)) entry low ∙ ap (λ (l : List (List ℕ)). length (list_at l entry)) (sym reduced);
+            ∙ list_sizes_at run.query (reduced_of run.query (tables run)) entry low ∙ ap (λ (l : List (List ℕ)). length (list_at l entry)) (sym reduced);
       }
 
   of_reduced : run.source ≡ sources.Reduced → IsOverReducedScans run
@@ -197,7 +205,7 @@ module _ (run : AcceptedQuery) (is : IsRun run) where
   run_rows : RowsAreTheAnswer run
   run_rows =
       let its : List ℕ = joined_entries run.plan in
-      let order : IsOrderOfSet (entries_of run.query) its = order_is run.query run.plan is.bounds.plan in
+      let order : IsOrderOfSet (entries_of run.query) its = order_is run.query run.plan is.tree in
       subst (λ (level : List (List ℕ)). IsPermutation (map (λ choice. selected run.query (tables run) (row_in its choice)) level) (answer run.query (tables run)))
       (sym (is.rows.last is.own its order
       ∙ ap (λ (placed : List ℕ). level_of (conjuncts_of run.query (tables run)) (row_counts (tables run)) placed) (take-length its)))

@@ -10,7 +10,7 @@ use Rattle.sql_meaning.specs.Answers.{conjuncts_of}
 use Rattle.sql_meaning.specs.Levels.{level_of, level_over}
 use Rattle.sql_meaning.specs.Tables.{Tables, row_counts}
 use Rattle.join_steps.specs.Lists.{list_at, scans_of}
-use Rattle.join_steps.proofs.WholeScans.{whole_of_scans}
+use Rattle.join_steps.proofs.WholeScans.{scans_are_of_scans}
 use Rattle.tree_bounds.specs.TreeBounds.{EntryBounds}
 use Rattle.set_bounds.specs.AllSets.{bound_in_128_bits, bounds_in_sets, in_every_set}
 use Rattle.query_bounds.specs.Bounds.{entry_bounds}
@@ -33,10 +33,12 @@ use Rattle.counted_planning.proofs.InSets.{bound_levels}
 use Rattle.stats_file.specs.declared.types.StatsFile.{StatsFile}
 use Rattle.stats_file_of_query.specs.Standing.{StandsFor}
 use Rattle.stats_file_bounds.specs.Entries.{KeepsRulesOfSome}
+use Rattle.stats_file_bounds.specs.FileStatistics.{stats_file_statistics}
 use Rattle.stats_file_bounds.specs.Found.{first_missing}
 use Rattle.stats_file_bounds.proofs.FromFiles.{all_sets as file_sets, levels_fit, scans_fit}
 use Rattle.prepared_runs.specs.Sources.{SourceNeeds, sets_by, lists_by, scans_by, bounds_and_lists_by, sourced_of_file}
-use Rattle.prepared_runs.specs.Standing.{IsSource, LoseNoRow}
+use Rattle.prepared_runs.specs.Standing.{BoundSingles, IsSource, LoseNoRow}
+use Rattle.prepared_runs.proofs.Singles.{counted_singles, keyed_singles, listed_singles, statistics_singles}
 use Rattle.safebound_words.specs.declared.command.ListSource.{ListSource}
 use Rattle.safebound_words.specs.declared.command.ListSource.TheVariants as sources
 
@@ -44,7 +46,7 @@ use Rattle.safebound_words.specs.declared.command.ListSource.TheVariants as sour
 
 module _ (query : Query) (tables : Tables) where
   whole_rows : LoseNoRow query tables (scans_of query tables)
-  whole_rows = record { scanned = whole_of_scans query tables; last = λ own order is. levels_of_scans query tables order (length order) is }
+  whole_rows = record { scanned = scans_are_of_scans query tables; last = λ own order is. levels_of_scans query tables order (length order) is }
 
   reduced_rows : LoseNoRow query tables (reduced_of query tables)
   reduced_rows = record {
@@ -98,8 +100,21 @@ module _ (query : Query) (tables : Tables) where
     all_sets sources.Reduced accuracy = many (in_every_set (entry_bounds_over tables (reduced_of query tables) accuracy))
     all_sets sources.Counted accuracy = counted_sets
 
+    pub single_bounds : (source : ListSource) (accuracy : ℕ) → BoundSingles (length query.from) (sets_by source schema query tables accuracy) (scans_by source query tables accuracy)
+    unfolding sets_by scans_by
+    single_bounds sources.Columns accuracy = statistics_singles query (statistics_of tables accuracy)
+    single_bounds sources.Keyed accuracy = keyed_singles schema query tables accuracy
+    single_bounds sources.Reduced accuracy = listed_singles query tables (reduced_of query tables) accuracy
+    single_bounds sources.Counted accuracy = counted_singles query tables (reduced_of query tables) (reduced_of_scans query tables)
+
     pub stand : (source : ListSource) → SourceNeeds source schema query tables → IsSource query tables (bounds_and_lists_by source schema query tables)
-    stand source needs = record { rows = rows_kept source; of_scans = scans_bound source; of_sets = levels_bound source needs; of_all_sets = all_sets source }
+    stand source needs = record {
+      rows = rows_kept source;
+      of_scans = scans_bound source;
+      of_sets = levels_bound source needs;
+      of_all_sets = all_sets source;
+      of_single = single_bounds source;
+    }
 
 -- ---- what a statistics file gives, for tables for which it stands
 
@@ -110,4 +125,5 @@ file_is_source query file own is none tables stands = record {
   of_scans = λ accuracy. scans_fit query file own is none tables stands;
   of_sets = λ accuracy. levels_fit query file own is none tables stands;
   of_all_sets = λ accuracy. file_sets query file;
+  of_single = λ accuracy. statistics_singles query (stats_file_statistics query file);
 }

@@ -14,7 +14,7 @@ use Rattle.outcomes.specs.declared.failure.Failure.{Failure}
 use Rattle.outcomes.specs.declared.names.FileId.{FileId}
 use Rattle.outcomes.specs.declared.names.FileId.TheVariants as file
 use Rattle.outcomes.specs.declared.refusal.Refusal.{Refusal}
-use Rattle.outcomes.proofs.ReadFacts.{Meets, joined, then_gives, then_reads, then_stops, then_tells}
+use Rattle.outcomes.proofs.ReadFacts.{IsFollowedBy, joined, then_gives, then_reads, then_stops, then_fails}
 use Rattle.table_files.specs.Stage.{tables_stage}
 use Rattle.table_files.specs.TableFile.{read}
 use Rattle.safebound_words.specs.declared.command.SchemaTask.{SchemaTask}
@@ -45,7 +45,7 @@ module _ {store : Reading} (name : List ℕ) where
       → Reads store (read file.Schema 1048576 name) (AtFile file.Schema) (Ok text) → Reads store (schema_stage name) (AtFile file.Schema) (Err e)
   unfolding schema_stage
   schema_refused text slice e same tells h =
-      then_tells store (read file.Schema 1048576 name) schema_of_text (AtFile file.Schema) (AtFile file.Schema) text e
+      then_fails store (read file.Schema 1048576 name) schema_of_text (AtFile file.Schema) (AtFile file.Schema) text e
       (subst (λ (t : List ℕ). StopsBy (schema_of_text t) e) same tells) h
 
 -- ---- the query, from its file's bytes
@@ -66,7 +66,7 @@ module _ {store : Reading} (name : List ℕ) (schema : Schema) where
       → Reads store (read file.Query 1048576 name) (AtFile file.Query) (Ok text) → Reads store (query_stage name schema) (AtFile file.Query) (Err e)
   unfolding query_stage
   query_refused text slice e same tells h =
-      then_tells store (read file.Query 1048576 name) (query_of_text schema) (AtFile file.Query) (AtFile file.Query) text e
+      then_fails store (read file.Query 1048576 name) (query_of_text schema) (AtFile file.Query) (AtFile file.Query) text e
       (subst (λ (t : List ℕ). StopsBy (query_of_text schema t) e) same tells) h
 
 -- ---- the stages from the tables on
@@ -79,7 +79,7 @@ module _ {store : Reading} (task : PlanWork) (schema : Schema) (query : Query) (
       → IfErr result (StopsBy (plan_stage task schema query rows)) → Reads store (tables_stage schema query.from) C (Ok rows)
       → Reads store (work_run (works.Plan task) schema query) C (mapped planned_outcome result)
   tables_ran rows (Ok p) is tells h = then_gives store (tables_stage schema query.from) (plan_stage task schema query) C C rows (planned_outcome p) is h
-  tables_ran rows (Err e) is tells h = then_tells store (tables_stage schema query.from) (plan_stage task schema query) C C rows e tells h
+  tables_ran rows (Err e) is tells h = then_fails store (tables_stage schema query.from) (plan_stage task schema query) C C rows e tells h
 
 pub work_done : {store : Reading} (asked work : QueryTask) (schema : Schema) (query : Query) (answer : Result RunOutcome Failure) → asked ≡ work
     → Reads store (work_run work schema query) (IsWorkFile work schema query) answer
@@ -98,7 +98,7 @@ module _ (name : List ℕ) (work : QueryTask) (schema : Schema) where
   query_not_run {store} e h =
       then_stops (query_stage name schema) (work_run work schema) store (AtFile file.Query) AtQueryOrFile e (λ files id at'. inl at') h
 
-  pub query_ran : (first second : Reading) (query : Query) (answer : Result RunOutcome Failure) → Meets first second
+  pub query_ran : (first second : Reading) (query : Query) (answer : Result RunOutcome Failure) → IsFollowedBy first second
       → Reads first (query_stage name schema) (AtFile file.Query) (Ok query)
       → Reads second (work_run work schema query) (IsWorkFile work schema query) answer
       → Reads (joined first second) (aim_run (aims.Query name work) schema) AtQueryOrFile answer

@@ -16,7 +16,7 @@ use Rattle.outcomes.specs.Errors.{stats_refusal}
 use Rattle.outcomes.specs.declared.names.FileId.TheVariants as file
 use Rattle.outcomes.specs.declared.refusal.Refusal.{Refusal}
 use Rattle.query_types.specs.Named.{NamesItsEntries}
-use Rattle.query_types.specs.Validity.{IsOf}
+use Rattle.query_types.specs.Validity.{IsQueryOf}
 use Rattle.query_types.specs.declared.types.Query.{Query}
 use Rattle.query_types.specs.declared.types.Source.{Source}
 use Rattle.schema_types.specs.Validity.{IsValid}
@@ -32,9 +32,10 @@ use Rattle.table_files.specs.TableFile.{read}
 use Rattle.prepared_runs.specs.StatsFiles.{made_from_file, plan_from_file_asked, stats_file_plan_stage, stats_of_text, stats_stage, stats_file_of_tables, unless_missing}
 use Rattle.prepared_runs.specs.Limits.{IsWithinLimit}
 use Rattle.prepared_runs.specs.RunOutcome.{PlanFromStatsFile, BoundsHoldForItsTables, NoBoundIsTooLow, RunOutcome, PlannedFromStats}
-use Rattle.prepared_runs.specs.Shapes.{planned_within, shape_bytes}
+use Rattle.prepared_runs.specs.Shapes.{planned_within}
 use Rattle.prepared_runs.specs.Sources.{sourced_of_file}
-use Rattle.prepared_runs.specs.declared.shapes.AnyPlan.{AnyPlan}
+use Rattle.plans.specs.declared.bushy.BushyPlan.{BushyPlan}
+use Rattle.tree_rows.specs.Memory.{tree_bytes}
 use Rattle.safebound_words.specs.Commands.{most_budget_of}
 use Rattle.safebound_words.specs.declared.command.PlanTerms.{PlanTerms}
 use Rattle.prepared_runs.proofs.LimitFacts.{within_so}
@@ -69,7 +70,7 @@ filed_stands schema query files accuracy rows is =
 -- ---- a file that is read
 
 keeps_told : (schema : Schema) (text : List ℕ) → IsValid schema → (answer : Result StatsFile StatsError) → stats_answer schema text ≡ answer → IfOk (with_refusal stats_refusal answer) (KeepsRules schema)
-keeps_told schema text valid (Ok stats) is = (texts.keeps schema text stats valid is).0
+keeps_told schema text valid (Ok stats) is = (texts.result_keeps_rules schema text stats valid is).0
 keeps_told schema text valid (Err e) is = tt
 
 keeps_read : (schema : Schema) → IsValid schema → (bytes : Result (List ℕ) Refusal) → IfOk (bytes >>= stats_of_text schema) (KeepsRules schema)
@@ -82,27 +83,27 @@ stats_keep name schema files valid = keeps_read schema valid (read file.Stats 67
 
 -- ---- a plan from a statistics file
 
-module _ (schema : Schema) (query : Query) (of : IsOf schema query) (stats : StatsFile) (keeps : KeepsRules schema stats) (terms : PlanTerms)
+module _ (schema : Schema) (query : Query) (of_schema : IsQueryOf schema query) (stats : StatsFile) (keeps : KeepsRules schema stats) (terms : PlanTerms)
     (small : terms.budget ≤ most_budget_of terms.shape) where
-  abbrev made_of : AnyPlan → PlanFromStatsFile
-  made_of plan = record { query = query; file = stats; plan = plan; memory = terms.memory }
+  abbrev made_of : BushyPlan → PlanFromStatsFile
+  made_of plan = record { query = query; file = stats; shape = terms.shape; plan = plan; memory = terms.memory }
 
   own : NamesItsEntries query
-  own = names_its_entries schema query of
+  own = names_its_entries schema query of_schema
 
   its : KeepsRulesOfSome stats
   its = record { schema = schema; keeps = keeps }
 
   -- no bound of the plan is too low for tables for which the file stands
-  holds : first_missing query stats ≡ None → (plan : AnyPlan) → plan_from_file_asked terms query stats ≡ Ok plan → BoundsHoldForItsTables (made_of plan)
+  holds : first_missing query stats ≡ None → (plan : BushyPlan) → plan_from_file_asked terms query stats ≡ Ok plan → BoundsHoldForItsTables (made_of plan)
   holds none plan made tables stands =
       answer_over query tables (sourced_of_file query stats tables) (file_is_source query stats own its none tables stands) 1 terms.budget
-      (omega (arith, of.some)) of.few terms.shape plan small (few_rows query stats own its none tables stands) made
+      (omega (arith, of_schema.has_entries)) of_schema.entries_within_limit terms.shape plan small (few_rows query stats own its none tables stands) made
 
-  module _ (Q : RunOutcome → Type 0) (so : (plan : AnyPlan) → BoundsHoldForItsTables (made_of plan) → IsWithinLimit terms.memory (shape_bytes plan) → Q (PlannedFromStats (made_of plan))) where
-    planned_so : first_missing query stats ≡ None → (answer : Result AnyPlan PlanError) → plan_from_file_asked terms query stats ≡ answer
+  module _ (Q : RunOutcome → Type 0) (planned_has_Q : (plan : BushyPlan) → BoundsHoldForItsTables (made_of plan) → IsWithinLimit terms.memory (tree_bytes plan) → Q (PlannedFromStats (made_of plan))) where
+    planned_so : first_missing query stats ≡ None → (answer : Result BushyPlan PlanError) → plan_from_file_asked terms query stats ≡ answer
         → IfOk (planned_within terms.memory (made_from_file terms query stats) answer) Q
-    planned_so none (Ok plan) made = within_so Q terms.memory (shape_bytes plan) (PlannedFromStats (made_of plan)) (so plan (holds none plan made))
+    planned_so none (Ok plan) made = within_so Q terms.memory (tree_bytes plan) (PlannedFromStats (made_of plan)) (planned_has_Q plan (holds none plan made))
     planned_so none (Err e) made = tt
 
     there_so : (missing : Option ℕ) → first_missing query stats ≡ missing

@@ -17,7 +17,7 @@ use Rattle.outcomes.specs.declared.failure.Failure.{Failure}
 use Rattle.outcomes.specs.declared.failure.Failure.TheVariants as failure
 use Rattle.outcomes.specs.declared.names.FileId.{FileId}
 use Rattle.outcomes.specs.declared.names.FileId.TheVariants as file
-use Rattle.outcomes.proofs.ReadFacts.{then_gives, then_stops, then_tells}
+use Rattle.outcomes.proofs.ReadFacts.{then_gives, then_stops, then_fails}
 use Rattle.outcomes.specs.declared.refusal.Refusal.{Refusal}
 use Rattle.query_types.specs.declared.types.Query.{Query}
 use Rattle.schema_types.specs.Validity.{IsValid}
@@ -59,14 +59,14 @@ module _ {store : Reading} (name : List ℕ) (schema : Schema) where
       → Reads store (read file.Stats 67108864 name) (AtFile file.Stats) (Ok text) → Reads store (stats_stage name schema) (AtFile file.Stats) (Err e)
   unfolding stats_stage
   stats_refused text slice e same tells h =
-      then_tells store (read file.Stats 67108864 name) (stats_of_text schema) (AtFile file.Stats) (AtFile file.Stats) text e
+      then_fails store (read file.Stats 67108864 name) (stats_of_text schema) (AtFile file.Stats) (AtFile file.Stats) text e
       (subst (λ (t : List ℕ). StopsBy (stats_of_text schema t) e) same tells) h
 
 -- ---- the reader of a text returns the only answer that the text has, or NoMemory
 
 module _ (schema : Schema) (text : List ℕ) (is : IsValid schema) (bytes : HasByteColumns schema) where
   pub stats_read : (x : StatsFile) → IsAllowedResult schema text (Ok x) → stats_answer schema text ≡ Ok x
-  stats_read x answers = same_value stats_error.NoMemory (stats_answer schema text) x (stats.only schema text (Ok x) is bytes answers)
+  stats_read x answers = same_value stats_error.NoMemory (stats_answer schema text) x (stats.no_other_result schema text (Ok x) is bytes answers)
 
   tells : (answer : Result StatsFile StatsError) (e : StatsError) → (◌≡◌ {A = Result StatsFile StatsError} (Err e) (Err stats_error.NoMemory)) ⊎ (Err e ≡ answer)
       → StopsBy (with_refusal stats_refusal answer) (stats_failure e)
@@ -77,7 +77,7 @@ module _ (schema : Schema) (text : List ℕ) (is : IsValid schema) (bytes : HasB
   tells answer (stats_error.Rule line) (inr e) = (ap (with_refusal stats_refusal) (sym e), (λ file h. cc), (λ h. cc))
 
   pub stats_stops_by : (e : StatsError) → IsAllowedResult schema text (Err e) → StopsBy (with_refusal stats_refusal (stats_answer schema text)) (stats_failure e)
-  stats_stops_by e answers = tells (stats_answer schema text) e (stats.only schema text (Err e) is bytes answers)
+  stats_stops_by e answers = tells (stats_answer schema text) e (stats.no_other_result schema text (Err e) is bytes answers)
 
 -- ---- the plan from a file
 
@@ -85,7 +85,7 @@ module _ (terms : PlanTerms) (query : Query) (stats : StatsFile) where
   abbrev plan_of : Result RunOutcome Refusal
   plan_of = planned_within terms.memory (made_from_file terms query stats) (plan_from_file_asked terms query stats)
 
-  -- if nothing is missing, the stage is the plan within the limit of memory
+  -- if the file has all that the query needs, the stage's result is the plan, or the refusal of a plan above the limit of memory
   pub all_there : first_missing query stats ≡ None
       → stats_file_plan_stage terms query stats ≡ planned_within terms.memory (made_from_file terms query stats) (plan_from_file_asked terms query stats)
   unfolding stats_file_plan_stage
@@ -97,7 +97,7 @@ module _ (terms : PlanTerms) (query : Query) (stats : StatsFile) where
   need_stops_by (need.Missing from) is = (ap (λ (o : Option ℕ). unless_missing o >>= λ there. plan_of) is, (λ file h. cc), (λ h. cc))
   need_stops_by need.NoMemory is = tt
 
-  -- the plan by known bounds is the one that is asked for, if these are the file's bounds
+  -- the plan by the bounds `known` is the plan that is asked for, if `known` has the file's bounds
   pub asked_known : (known : QueryBounds) → HasBounds (set_bounds_of_file query stats) (scan_bounds_of_file query stats) known
       → answer_of terms.shape known.sets known.scans terms.budget ≡ plan_from_file_asked terms query stats
   asked_known known gives =
@@ -111,7 +111,7 @@ module _ {store : Reading} (accuracy : ℕ) (schema : Schema) (query : Query) (C
   file_stops e h = then_stops (tables_stage schema query.from) (λ rows files. Ok (stats_file_of_tables schema query rows accuracy)) store C C e (λ files id at. at) h
 
   pub file_wants : (rows : List (List Row)) → Reads store (tables_stage schema query.from) C (Ok rows) → Reads store (work_run (works.WriteStats accuracy) schema query) C (Err failure.NoMemory)
-  file_wants rows h = then_tells store (tables_stage schema query.from) (λ rows. Ok (stats_file_of_tables schema query rows accuracy)) C C rows failure.NoMemory tt h
+  file_wants rows h = then_fails store (tables_stage schema query.from) (λ rows. Ok (stats_file_of_tables schema query rows accuracy)) C C rows failure.NoMemory tt h
 
   pub file_made : (rows : List (List Row)) (outcome : RunOutcome) → outcome ≡ stats_file_of_tables schema query rows accuracy → Reads store (tables_stage schema query.from) C (Ok rows)
       → Reads store (work_run (works.WriteStats accuracy) schema query) C (Ok outcome)
@@ -128,4 +128,4 @@ module _ {store : Reading} (name : List ℕ) (terms : PlanTerms) (schema : Schem
       → IfErr result (StopsBy (stats_file_plan_stage terms query stats)) → Reads store (stats_stage name schema) C (Ok stats)
       → Reads store (work_run (works.PlanFromStats name terms) schema query) C (mapped plan_from result)
   plan_ran stats (Ok made) is tells h = then_gives store (stats_stage name schema) (stats_file_plan_stage terms query) C C stats (plan_from made) is h
-  plan_ran stats (Err e) is tells h = then_tells store (stats_stage name schema) (stats_file_plan_stage terms query) C C stats e tells h
+  plan_ran stats (Err e) is tells h = then_fails store (stats_stage name schema) (stats_file_plan_stage terms query) C C stats e tells h

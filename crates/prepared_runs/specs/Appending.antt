@@ -1,4 +1,4 @@
--- New rows of a table in a statistics file, as stages of the verdict.
+-- The stages of the verdict for `append`, which counts new rows of a table in a statistics file.
 use Rattle.std.specs.Prelude.{ℕ, ◌+◌, nat_le, Bool, List, length, find, if◌then◌else◌, Option, None, Some, Result, Ok, Err}
 use Rattle.std.specs.Str.{str_eq_ignore_ascii_case}
 use Rattle.limits.specs.Profile.{most_rows}
@@ -35,9 +35,9 @@ or_missing (Some section) = Ok section
 unfoldable pub section_stage : List ℕ → Schema → StatsFile → Result TableStats Refusal
 section_stage name schema stats = or_missing (find (is_of_table schema name) stats.tables)
 
--- ---- the file with new rows
+-- ---- the statistics file after the new rows are counted
 
--- the statistics file with the new rows. The table had `before` rows before; with the new rows it may have at most `most_rows`
+-- the statistics file after the new rows are counted. The table had `before` rows; with the new rows it may have at most `most_rows`
 unfoldable pub grown_stage : Schema → StatsFile → ℕ → ℕ → List Row → Result RunOutcome Refusal
 grown_stage schema stats table before rows =
     if nat_le (before + length rows) most_rows
@@ -50,7 +50,7 @@ rows_run name schema stats table before files = do
   rows ← rows_in table (table_at schema table) name files
   grown_stage schema stats table before rows
 
--- ---- all stages of `append`: the statistics file, its section of the table, and the new rows
+-- ---- all stages of `append`: read the statistics file, find its section of the table, and count the new rows
 
 unfoldable pub stats_run : NewRows → Schema → StatsFile → Files → Result RunOutcome Refusal
 stats_run append schema stats files = do

@@ -5,7 +5,8 @@ use Rattle.csv_tables.specs.declared.types.Database.{Database}
 use Rattle.join_steps.specs.Lists.{lists_of, scans_of}
 use Rattle.bushy_join.specs.Trees.{IsTreePlanOf}
 use Rattle.reserve_plan.specs.Memory.{buffers_bytes, lists_bytes}
-use Rattle.tree_rows.specs.Memory.{tree_reserved_bytes}
+use Rattle.plans.specs.declared.bushy.BushyPlan.{BushyPlan}
+use Rattle.tree_rows.specs.Memory.{tree_bytes, tree_reserved_bytes}
 use Rattle.tree_rows.specs.Rooms.{HasTreeRooms}
 use Rattle.joined_texts.specs.Printed.{printed_rows}
 use Rattle.printed_texts.specs.Texts.{rows_lines}
@@ -13,7 +14,7 @@ use Rattle.sql_meaning.specs.Databases.{IsDatabaseOf}
 use Rattle.sql_meaning.specs.Tables.{Tables, tables_of}
 use Rattle.table_files.specs.EntryTables.{entry_rows, tables_in}
 use Rattle.prepared_runs.specs.AcceptedQuery.{AcceptedQuery}
-use Rattle.prepared_runs.specs.Shapes.{IsPlanOver, IsShapedPlan, joined_entries, part_sizes, shape_audits, shape_bytes, shaped_by, tree_of}
+use Rattle.prepared_runs.specs.Shapes.{IsShapedPlan, joined_entries, part_sizes, shape_audits}
 use Rattle.prepared_runs.specs.Sources.{lists_by}
 use Rattle.prepared_runs.specs.Standing.{LoseNoRow}
 use Rattle.prepared_runs.specs.declared.prepare.PreparedQuery.{PreparedQuery}
@@ -21,11 +22,11 @@ use Rattle.prepared_runs.specs.declared.prepare.PendingOutput.{PendingOutput}
 use Rattle.prepared_runs.specs.declared.prepare.PendingOutput.TheVariants as rest
 use Rattle.prepared_runs.specs.declared.scans.Joins.{Joins}
 use Rattle.prepared_runs.specs.declared.shapes.Room.{Room}
-use Rattle.prepared_runs.specs.declared.shapes.AnyPlan.{AnyPlan}
 use Rattle.prepared_runs.specs.declared.scans.Scans.{Scans}
 use Rattle.prepared_runs.specs.declared.scans.Scans.TheVariants as scans
 use Rattle.safebound_words.specs.declared.command.OutText.{OutText}
 use Rattle.safebound_words.specs.declared.command.OutText.TheVariants as out_text
+use Rattle.safebound_words.specs.declared.command.Shape.{Shape}
 
 -- the text that still has to be written to out
 abbrev pub pending_text : PendingOutput → OutText
@@ -33,14 +34,10 @@ pending_text (rest.Rows joins) = out_text.Rows
 pending_text (rest.Audit joins) = out_text.Audit
 pending_text (rest.Nothing plan) = out_text.Nothing
 
--- for each entry the rows that are joined: the rows of its whole scan, or the listed rows
+-- for each entry the rows that are joined: its complete scan, or the listed rows
 abbrev pub lists_in : Scans → Query → Tables → List (List ℕ)
 lists_in scans.Whole query ts = scans_of query ts
 lists_in (scans.Listed lists) query ts = lists_of lists.items
-
--- the plan for whose joins there are buffers
-abbrev pub plan_in : Room → AnyPlan
-plan_in room = shaped_by room.order room.tree
 
 -- how many bytes the buffers for the joins hold
 abbrev pub room_bytes : Room → ℕ
@@ -55,12 +52,10 @@ abbrev pub HoldExactly : Scans → List ℕ → Type 0
 HoldExactly scans.Whole bounds = ⊤
 HoldExactly (scans.Listed lists) bounds = buffers_bytes lists ≡ lists_bytes bounds
 
--- the bounds of the plan and of its tree fit the lists, and there are buffers with room for each join of the tree
+-- the bounds of the plan fit the lists, and there are buffers with room for each of its joins
 pub record IsRoomOver (query : Query) (ts : Tables) (lists : List (List ℕ)) (room : Room) : Type 0 where
-  pub plan_of : IsPlanOver query ts lists (plan_in room)
-  pub tree : room.tree ≡ tree_of (plan_in room)
-  pub tree_plan : IsTreePlanOf query ts lists room.tree
-  pub rooms : HasTreeRooms room.tree room.reserved
+  pub plan_of : IsTreePlanOf query ts lists room.plan
+  pub rooms : HasTreeRooms room.plan room.reserved
 
 -- the lists lose no row of the answer, and there is room for the joins of a plan over them
 pub record CanJoin (query : Query) (db : Database) (joins : Joins) : Type 0 where
@@ -86,29 +81,30 @@ HoldsBytes bytes (rest.Audit joins) = room_and_list_bytes joins ≡ bytes
 HoldsBytes bytes (rest.Nothing plan) = ⊤
 
 -- the plan of the pending output
-abbrev pub pending_plan : PendingOutput → AnyPlan
-pending_plan (rest.Rows joins) = plan_in joins.room
-pending_plan (rest.Audit joins) = plan_in joins.room
+abbrev pub pending_plan : PendingOutput → BushyPlan
+pending_plan (rest.Rows joins) = joins.room.plan
+pending_plan (rest.Audit joins) = joins.room.plan
 pending_plan (rest.Nothing plan) = plan
 
 -- the two texts that can be written after the joins: the rows, and the audit
 abbrev pub rows_text_from : Joins → Query → Database → List ℕ
-rows_text_from joins query db = rows_lines query.select (printed_rows query db (joined_entries (plan_in joins.room)))
+rows_text_from joins query db = rows_lines query.select (printed_rows query db (joined_entries joins.room.plan))
 
-abbrev pub audit_text_from : Joins → Query → Database → List ℕ
-audit_text_from joins query db =
-    shape_audits query.from (plan_in joins.room) (part_sizes query (tables_of db) (lists_of joins.lists.items) (plan_in joins.room))
+abbrev pub audit_text_from : Shape → Joins → Query → Database → List ℕ
+audit_text_from shape joins query db =
+    shape_audits query.from shape joins.room.plan (part_sizes query (tables_of db) (lists_of joins.lists.items) shape joins.room.plan)
 
 -- the text that is left to write, if any
-abbrev pub text_from : PendingOutput → Query → Database → Option (List ℕ)
-text_from (rest.Rows joins) query db = Some (rows_text_from joins query db)
-text_from (rest.Audit joins) query db = Some (audit_text_from joins query db)
-text_from (rest.Nothing plan) query db = None
+abbrev pub text_from : Shape → PendingOutput → Query → Database → Option (List ℕ)
+text_from shape (rest.Rows joins) query db = Some (rows_text_from joins query db)
+text_from shape (rest.Audit joins) query db = Some (audit_text_from shape joins query db)
+text_from shape (rest.Nothing plan) query db = None
 
 abbrev pub accepted_of : PreparedQuery → AcceptedQuery
 accepted_of prepared = record {
   query = prepared.query;
   rows = entry_rows prepared.db;
+  shape = prepared.shape;
   plan = pending_plan prepared.rest;
   source = prepared.source;
   lists = lists_by prepared.source prepared.query (tables_in (entry_rows prepared.db));
@@ -120,8 +116,8 @@ accepted_of prepared = record {
 -- bytes of the plan
 pub record IsPrepared (prepared : PreparedQuery) : Type 0 where
   pub database : IsDatabaseOf prepared.query prepared.db
-  pub plan : IsShapedPlan (length prepared.query.from) (pending_plan prepared.rest)
-  pub bytes : prepared.bytes ≡ shape_bytes (pending_plan prepared.rest)
+  pub plan : IsShapedPlan (length prepared.query.from) prepared.shape (pending_plan prepared.rest)
+  pub bytes : prepared.bytes ≡ tree_bytes (pending_plan prepared.rest)
   pub tables : tables_in (entry_rows prepared.db) ≡ tables_of prepared.db
   pub room : HasRoom prepared.query prepared.db prepared.rest
   pub lists : AreOverLists (accepted_of prepared).lists prepared.rest

@@ -13,21 +13,24 @@ use Rattle.stats_file.specs.declared.types.StatsFile.{StatsFile}
 use Rattle.table_files.specs.EntryTables.{tables_in}
 use Rattle.prepared_runs.specs.AcceptedQuery.{AcceptedQuery, BoundsHold, RowsAreTheAnswer}
 use Rattle.prepared_runs.specs.Limits.{IsWithinLimit}
-use Rattle.prepared_runs.specs.Shapes.{IsPlanOver, shape_bytes}
-use Rattle.prepared_runs.specs.declared.shapes.AnyPlan.{AnyPlan}
+use Rattle.prepared_runs.specs.Shapes.{IsPlanOver}
+use Rattle.safebound_words.specs.declared.command.Shape.{Shape}
+use Rattle.plans.specs.declared.bushy.BushyPlan.{BushyPlan}
+use Rattle.tree_rows.specs.Memory.{tree_bytes}
 
--- a statistics file for a query, and the rows of each FROM entry's table: the file is made from these rows
+-- a statistics file for a query, and the rows from which it is made: those of each FROM entry's table
 pub record StatsFileOfTables : Type 0 where
   pub schema : Schema
   pub query : Query
   pub rows : List (List Row)
   pub file : StatsFile
 
--- a plan of a query, the statistics file from which it is made, and the limit of memory, if there is one
+-- a plan of a query with its shape, the statistics file from which it is made, and the limit of memory, if there is one
 pub record PlanFromStatsFile : Type 0 where
   pub query : Query
   pub file : StatsFile
-  pub plan : AnyPlan
+  pub shape : Shape
+  pub plan : BushyPlan
   pub memory : Option ℕ
 
 -- a statistics file after an append: its schema, the number of one table in the schema, the rows that were added to this table, and the file
@@ -48,10 +51,10 @@ pub data RunOutcome : Type 0 where
 -- more rows than the plan says
 abbrev pub BoundsHoldForItsTables : PlanFromStatsFile → Type 0
 BoundsHoldForItsTables made = (tables : Tables) → StandsFor made.query made.file tables
-    → IsPlanOver made.query tables (scans_of made.query tables) made.plan
+    → IsPlanOver made.query tables (scans_of made.query tables) made.shape made.plan
 
--- The file is an earlier statistics file with the new rows added. If the earlier file stood for some tables, then the new file stands for
--- these tables with the new rows at the end of their table.
+-- The file is an earlier statistics file after the new rows were counted. If the earlier file stands for some tables, then the new file stands for
+-- these tables with the new rows at the end of the table to which they were appended.
 pub record StandsAfterAppend (made : AppendedRows) : Type 0 where
   pub before : StatsFile
   pub keeps : KeepsRules made.schema before
@@ -60,8 +63,8 @@ pub record StandsAfterAppend (made : AppendedRows) : Type 0 where
       → StandsFor query made.file after
 
 -- No bound is too low. The bounds of a plan from tables hold for these tables. The bounds of a plan from a statistics file hold for all
--- tables for which the file stands. A new statistics file stands for the tables from which it is made. A file after an append stands for the
--- tables of the earlier file with the rows added.
+-- tables for which the file stands. A new statistics file stands for the tables from which it is made. For a file after an append,
+-- `StandsAfterAppend` says what it stands for.
 abbrev pub NoBoundIsTooLow : RunOutcome → Type 0
 NoBoundIsTooLow (Planned run) = BoundsHold run
 NoBoundIsTooLow (StatsMade made_stats) = StandsFor made_stats.query made_stats.file (tables_in made_stats.rows)
@@ -77,7 +80,7 @@ PrintsTheAnswer (Appended made) = ⊤
 
 -- the buffers of a plan take no more bytes than its limit of memory, if there is one
 abbrev pub KeepsItsLimit : RunOutcome → Type 0
-KeepsItsLimit (Planned run) = IsWithinLimit run.memory (shape_bytes run.plan)
+KeepsItsLimit (Planned run) = IsWithinLimit run.memory (tree_bytes run.plan)
 KeepsItsLimit (StatsMade made_stats) = ⊤
-KeepsItsLimit (PlannedFromStats made) = IsWithinLimit made.memory (shape_bytes made.plan)
+KeepsItsLimit (PlannedFromStats made) = IsWithinLimit made.memory (tree_bytes made.plan)
 KeepsItsLimit (Appended made) = ⊤

@@ -1,18 +1,17 @@
--- The two shapes of a plan: an order, or a join tree. The parts of a plan are the levels of its order, or the inner nodes of its tree. Each
--- part has a bound and a list of rows. Memory and joins know only the plan's tree (`tree_of`). Five other files have a case for each shape: Allowed
--- (costs), KeptBuffers (rows of parts), Commands of safebound_words (budgets), Promise of safebound_top (plan texts) and FilePlans of
--- safebound_laws (bounds that are near).
-use Rattle.std.specs.Prelude.{ℕ, ◌+◌, ◌-◌, List, length, map, slice_index, Option, None, Some, Result}
+-- A plan is a join tree, with a bound for each scan and each inner node. The shape of a plan says how it was searched and how it is printed: as an
+-- order, or as a tree. The plan of an order is the tree of this order. The parts of a plan are the levels of its order, or the inner nodes of its
+-- tree. Each part has a bound and a list of rows. Memory and joins know only the tree. Five other files have a case for each shape: Allowed (costs),
+-- KeptBuffers (rows of parts), Commands of safebound_words (budgets), Promise of safebound_top (plan texts) and FilePlans of safebound_laws (bounds
+-- that are near).
+use Rattle.std.specs.Prelude.{◌≡◌, ℕ, ◌+◌, ◌-◌, List, length, map, slice_index, Option, Result}
 use Rattle.std.specs.List.{range_with_len}
 use Rattle.order_search.specs.declared.refusal.PlanError.{PlanError}
 use Rattle.plan_answers.specs.PlanAnswer.{plan_answer}
-use Rattle.plans.specs.LeftDeep.{IsPlan}
-use Rattle.plans.specs.declared.left_deep.Plan.{Plan}
-use Rattle.tree_answers.specs.TreeAnswer.{tree_answer}
-use Rattle.tree_plans.specs.declared.bushy.BushyPlan.{BushyPlan}
-use Rattle.tree_plans.specs.Orders.{tree_of_order}
-use Rattle.tree_plans.specs.TreePlans.{IsTreePlan}
-use Rattle.tree_rows.specs.Memory.{tree_bytes, tree_rooms_bytes}
+use Rattle.plan_answers.specs.TreeAnswer.{tree_answer}
+use Rattle.plans.specs.declared.bushy.BushyPlan.{BushyPlan}
+use Rattle.plans.specs.Orders.{order_of_tree, tree_of_order, IsOrderTree}
+use Rattle.plans.specs.TreePlans.{IsTreePlan}
+use Rattle.tree_rows.specs.Memory.{tree_bytes}
 use Rattle.tree_rows.specs.Rooms.{bound_at}
 use Rattle.tree_rows.specs.Trees.{entries_at, node_count}
 use Rattle.query_types.specs.declared.types.Query.{Query}
@@ -30,101 +29,82 @@ use Rattle.printed_texts.specs.Plans.{audit_lines, plan_lines}
 use Rattle.printed_texts.specs.TreePlans.{tree_audits, tree_lines}
 use Rattle.prepared_runs.specs.Limits.{within_limit}
 use Rattle.prepared_runs.specs.Sources.{BoundsAndLists}
-use Rattle.prepared_runs.specs.declared.shapes.AnyPlan.{AnyPlan}
-use Rattle.prepared_runs.specs.declared.shapes.AnyPlan.TheVariants as shaped
 use Rattle.safebound_words.specs.declared.command.Shape.{Shape}
 use Rattle.safebound_words.specs.declared.command.Shape.TheVariants as shapes
 
 -- ---- the choice of a plan
 
 -- the best plan by a bound for each set of entries and a bound for each scan, or the reason why no plan is within the budget
-abbrev pub answer_of : Shape → List ℕ → List ℕ → ℕ → Result AnyPlan PlanError
-answer_of shapes.Order sets scans budget = mapped (λ plan. shaped.OrderPlan plan) (plan_answer sets scans budget)
-answer_of shapes.Tree sets scans budget = mapped (λ plan. shaped.TreePlan plan) (tree_answer sets scans budget)
+abbrev pub answer_of : Shape → List ℕ → List ℕ → ℕ → Result BushyPlan PlanError
+answer_of shapes.Order sets scans budget = mapped (λ plan. tree_of_order plan) (plan_answer sets scans budget)
+answer_of shapes.Tree sets scans budget = tree_answer sets scans budget
 
 -- the plan by the bounds that a source gives at an accuracy: the best plan of the shape, or PastBits, or Budget with the least cost
-unfoldable pub planned_by : Shape → BoundsAndLists → ℕ → ℕ → Result AnyPlan PlanError
+unfoldable pub planned_by : Shape → BoundsAndLists → ℕ → ℕ → Result BushyPlan PlanError
 planned_by shape given accuracy budget = answer_of shape (given.sets accuracy) (given.scans accuracy) budget
 
--- ---- a plan's entries, bounds and bytes
-
--- the plan is for n entries
-abbrev pub IsShapedPlan : ℕ → AnyPlan → Type 0
-IsShapedPlan n (shaped.OrderPlan plan) = IsPlan n plan
-IsShapedPlan n (shaped.TreePlan plan) = IsTreePlan n plan
-
--- the bounds of the entries' scans, in FROM order
-abbrev pub scan_bounds : AnyPlan → List ℕ
-scan_bounds (shaped.OrderPlan plan) = plan.scans
-scan_bounds (shaped.TreePlan plan) = plan.scans
-
-abbrev pub part_count : AnyPlan → ℕ
-part_count (shaped.OrderPlan plan) = length plan.order
-part_count (shaped.TreePlan plan) = length plan.joins
-
-abbrev pub part_bound : AnyPlan → ℕ → ℕ
-part_bound (shaped.OrderPlan plan) k = slice_index plan.levels k
-part_bound (shaped.TreePlan plan) k = bound_at plan (length plan.scans + k)
-
--- the entries in the order of their row numbers in a choice for all of them: the plan's order, or the order of the tree's leaves
-abbrev pub joined_entries : AnyPlan → List ℕ
-joined_entries (shaped.OrderPlan plan) = plan.order
-joined_entries (shaped.TreePlan plan) = entries_at plan (node_count plan - 1)
-
--- the join tree of a plan. An order is a tree whose right children are leaves
-abbrev pub tree_of : AnyPlan → BushyPlan
-tree_of (shaped.OrderPlan plan) = tree_of_order plan
-tree_of (shaped.TreePlan plan) = plan
-
--- the plan with this order, if there is one, and with this tree
-abbrev pub shaped_by : Option Plan → BushyPlan → AnyPlan
-shaped_by None tree = shaped.TreePlan tree
-shaped_by (Some plan) tree = shaped.OrderPlan plan
-
--- how many bytes the plan's buffers take: the lists to be joined, and the buffers of its tree's joins
-abbrev pub shape_bytes : AnyPlan → ℕ
-shape_bytes plan = tree_bytes (tree_of plan)
-
--- how many bytes the plan's buffers take without the lists to be joined
-abbrev pub parts_bytes : AnyPlan → ℕ
-parts_bytes plan = tree_rooms_bytes (tree_of plan)
-
 -- the result of `made` for a plan, or a refusal: the reason why there is no plan, or MemoryLimit with the bytes of the plan
-abbrev pub planned_within : {A : Type 0} → Option ℕ → (AnyPlan → A) → Result AnyPlan PlanError → Result A Refusal
+abbrev pub planned_within : {A : Type 0} → Option ℕ → (BushyPlan → A) → Result BushyPlan PlanError → Result A Refusal
 planned_within limit made answer = do
   plan ← with_refusal plan_refusal answer
-  within_limit limit (shape_bytes plan) (made plan)
+  within_limit limit (tree_bytes plan) (made plan)
 
--- no list has more rows than its bound, no part over these lists has more rows than its bound, and no bound is more than joins can take
-abbrev pub IsPlanOver : Query → Tables → List (List ℕ) → AnyPlan → Type 0
-IsPlanOver query tables lists (shaped.OrderPlan plan) = IsPlanOf query tables lists plan
-IsPlanOver query tables lists (shaped.TreePlan plan) = IsTreePlanOf query tables lists plan
+-- ---- a plan's entries and bounds
+
+-- the plan is for n entries, and it is a tree of this shape: the tree of an order, or any tree
+abbrev pub IsShapedPlan : ℕ → Shape → BushyPlan → Type 0
+IsShapedPlan n shapes.Order plan = IsOrderTree n plan
+IsShapedPlan n shapes.Tree plan = IsTreePlan n plan
+
+abbrev pub part_count : Shape → BushyPlan → ℕ
+part_count shapes.Order plan = length (order_of_tree plan).order
+part_count shapes.Tree plan = length plan.joins
+
+abbrev pub part_bound : Shape → BushyPlan → ℕ → ℕ
+part_bound shapes.Order plan k = slice_index (order_of_tree plan).levels k
+part_bound shapes.Tree plan k = bound_at plan (length plan.scans + k)
+
+-- the entries in the order of their row numbers in a choice for all of them: the order of the tree's leaves. An order's tree has its leaves in this
+-- order
+abbrev pub joined_entries : BushyPlan → List ℕ
+joined_entries plan = entries_at plan (node_count plan - 1)
+
+-- the plan is the tree of an order. No list has more rows than its bound, no level over these lists has more rows than its bound, and no bound is
+-- more than joins can take
+pub record IsOrderOver (query : Query) (tables : Tables) (lists : List (List ℕ)) (plan : BushyPlan) : Type 0 where
+  pub order : IsPlanOf query tables lists (order_of_tree plan)
+  pub its_tree : plan ≡ tree_of_order (order_of_tree plan)
+
+-- no list has more rows than its bound, no part over these lists has more rows than its bound, and no bound is above the limits of joins
+abbrev pub IsPlanOver : Query → Tables → List (List ℕ) → Shape → BushyPlan → Type 0
+IsPlanOver query tables lists shapes.Order plan = IsOrderOver query tables lists plan
+IsPlanOver query tables lists shapes.Tree plan = IsTreePlanOf query tables lists plan
 
 -- ---- the rows of a plan's parts
 
--- the rows of part k over lists: the choices, of one listed row from each entry of the part, that satisfy every conjunct which names only these
--- entries
-abbrev pub part_rows : Query → Tables → List (List ℕ) → AnyPlan → ℕ → List (List ℕ)
-part_rows query tables lists (shaped.OrderPlan plan) k = list_levels query tables lists plan.order (k + 1)
-part_rows query tables lists (shaped.TreePlan plan) k = node_rows query tables lists plan (length plan.scans + k)
+-- The rows of part k over lists. A choice takes one listed row for each entry of the part. The rows are the choices that satisfy every conjunct which
+-- names only these entries
+abbrev pub part_rows : Query → Tables → List (List ℕ) → Shape → BushyPlan → ℕ → List (List ℕ)
+part_rows query tables lists shapes.Order plan k = list_levels query tables lists (order_of_tree plan).order (k + 1)
+part_rows query tables lists shapes.Tree plan k = node_rows query tables lists plan (length plan.scans + k)
 
 -- the rows of part k over complete tables
-abbrev pub whole_parts : Query → Tables → AnyPlan → ℕ → List (List ℕ)
-whole_parts query tables (shaped.OrderPlan plan) k = level (conjuncts_of query tables) (row_counts tables) plan.order (k + 1)
-whole_parts query tables (shaped.TreePlan plan) k = rows_over_tables query tables plan (length plan.scans + k)
+abbrev pub whole_parts : Query → Tables → Shape → BushyPlan → ℕ → List (List ℕ)
+whole_parts query tables shapes.Order plan k = level (conjuncts_of query tables) (row_counts tables) (order_of_tree plan).order (k + 1)
+whole_parts query tables shapes.Tree plan k = rows_over_tables query tables plan (length plan.scans + k)
 
 -- how many rows each part has over lists
-abbrev pub part_sizes : Query → Tables → List (List ℕ) → AnyPlan → List ℕ
-part_sizes query tables lists plan = map (λ k. length (part_rows query tables lists plan k)) (range_with_len 0 (part_count plan))
+abbrev pub part_sizes : Query → Tables → List (List ℕ) → Shape → BushyPlan → List ℕ
+part_sizes query tables lists shape plan = map (λ k. length (part_rows query tables lists shape plan k)) (range_with_len 0 (part_count shape plan))
 
 -- ---- the texts of a plan
 
 -- the plan's text: a line for each scan with its bound, and then a line for each part with its bound
-abbrev pub shape_lines : List Source → AnyPlan → List ℕ
-shape_lines sources (shaped.OrderPlan plan) = plan_lines sources plan
-shape_lines sources (shaped.TreePlan plan) = tree_lines sources plan
+abbrev pub shape_lines : List Source → Shape → BushyPlan → List ℕ
+shape_lines sources shapes.Order plan = plan_lines sources (order_of_tree plan)
+shape_lines sources shapes.Tree plan = tree_lines sources plan
 
 -- the audit's text: a line for each part with its bound and its number of rows (from `counts`)
-abbrev pub shape_audits : List Source → AnyPlan → List ℕ → List ℕ
-shape_audits sources (shaped.OrderPlan plan) counts = audit_lines sources plan counts
-shape_audits sources (shaped.TreePlan plan) counts = tree_audits plan counts
+abbrev pub shape_audits : List Source → Shape → BushyPlan → List ℕ → List ℕ
+shape_audits sources shapes.Order plan counts = audit_lines sources (order_of_tree plan) counts
+shape_audits sources shapes.Tree plan counts = tree_audits plan counts

@@ -54,8 +54,7 @@ bounds_and_lists_by source schema query tables = record {
   lists = lists_by source query tables;
 }
 
--- the bounds that a statistics file gives for a query, and the lists of any tables. The bounds are the same at each accuracy, and the lists are
--- the scans of the tables
+-- the bounds that a statistics file gives for a query, which are the same at each accuracy; as lists, the scans of the given tables
 abbrev pub sourced_of_file : Query → StatsFile → Tables → BoundsAndLists
 sourced_of_file query file tables = record {
   sets = λ accuracy. set_bounds_of_file query file;

@@ -25,7 +25,7 @@ use Rattle.table_files.specs.EntryTables.{tables_in}
 use Rattle.table_files.specs.TableFile.{read}
 use Rattle.prepared_runs.specs.RunOutcome.{StatsMade, RunOutcome, PlannedFromStats}
 use Rattle.prepared_runs.specs.Shapes.{answer_of, planned_within}
-use Rattle.prepared_runs.specs.declared.shapes.AnyPlan.{AnyPlan}
+use Rattle.plans.specs.declared.bushy.BushyPlan.{BushyPlan}
 use Rattle.safebound_words.specs.declared.command.PlanTerms.{PlanTerms}
 
 -- the statistics file that a text spells over a schema; `stats_stage` reads the text from the file `name`
@@ -48,13 +48,13 @@ unless_missing None = Ok tt
 unless_missing (Some from) = Err (refusal.Stats cause.Missing from)
 
 -- the plan of a query by the bounds that a statistics file gives, in the shape that the words ask for
-abbrev pub plan_from_file_asked : PlanTerms → Query → StatsFile → Result AnyPlan PlanError
+abbrev pub plan_from_file_asked : PlanTerms → Query → StatsFile → Result BushyPlan PlanError
 plan_from_file_asked terms query stats =
     answer_of terms.shape (set_bounds_of_file query stats) (scan_bounds_of_file query stats) terms.budget
 
 -- the outcome of a plan from a statistics file
-abbrev pub made_from_file : PlanTerms → Query → StatsFile → AnyPlan → RunOutcome
-made_from_file terms query stats plan = PlannedFromStats (record { query = query; file = stats; plan = plan; memory = terms.memory })
+abbrev pub made_from_file : PlanTerms → Query → StatsFile → BushyPlan → RunOutcome
+made_from_file terms query stats plan = PlannedFromStats (record { query = query; file = stats; shape = terms.shape; plan = plan; memory = terms.memory })
 
 -- the plan of a query from a statistics file: the best order or tree with its bounds, or a refusal. The refusals are Missing with the first
 -- entry for which the file has no statistics, PastBits, Budget with the least cost, and MemoryLimit with the bytes of the plan

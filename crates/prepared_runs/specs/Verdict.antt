@@ -32,7 +32,7 @@ use Rattle.prepared_runs.specs.StatsFiles.{stats_file_plan_stage, stats_stage, s
 use Rattle.prepared_runs.specs.RunOutcome.{RunOutcome, Planned}
 use Rattle.prepared_runs.specs.Shapes.{planned_by, planned_within}
 use Rattle.prepared_runs.specs.Sources.{lists_by, bounds_and_lists_by}
-use Rattle.prepared_runs.specs.declared.shapes.AnyPlan.{AnyPlan}
+use Rattle.plans.specs.declared.bushy.BushyPlan.{BushyPlan}
 use Rattle.safebound_words.specs.declared.command.PlanWork.{PlanWork}
 
 -- the command that the words ask for, or Usage if they ask for no command
@@ -62,14 +62,15 @@ query_stage name schema files = do
   query_of_text schema text
 
 -- the plan of a query over its tables, in the shape that the task asks for, by the bounds that its source gives
-abbrev pub plan_asked : PlanWork → Schema → Query → Tables → Result AnyPlan PlanError
+abbrev pub plan_asked : PlanWork → Schema → Query → Tables → Result BushyPlan PlanError
 plan_asked task schema query ts = planned_by task.terms.shape (bounds_and_lists_by task.source schema query ts) task.accuracy task.terms.budget
 
 -- the accepted query for a plan, with the rows that the source gives
-abbrev pub run_asked : PlanWork → Query → List (List Row) → AnyPlan → AcceptedQuery
+abbrev pub run_asked : PlanWork → Query → List (List Row) → BushyPlan → AcceptedQuery
 run_asked task query rows plan = record {
   query = query;
   rows = rows;
+  shape = task.terms.shape;
   plan = plan;
   source = task.source;
   lists = lists_by task.source query (tables_in rows);

@@ -98,7 +98,7 @@ fn fits_with(before: u32, more: u32) -> bool
     u64::from(before) + u64::from(more) <= u64::from(MOST_ROWS)
 }
 
-// Makes the statistics file that also counts a table's new rows, unless the table has too many rows with them.
+// Makes the statistics file that also counts a table's new rows. Refuses if the table would then have too many rows.
 fn grow(
     alloc: Global,
     schema: &Schema,

@@ -4,7 +4,7 @@ ghost use Rattle.base_io.specs.Devices.{reading};
 ghost use Rattle.outcomes.specs.Reads.{AtFile, Reads};
 ghost use Rattle.schema_types.specs.Validity.{IsValid};
 ghost use Rattle.stats_reading.specs.Names.{HasByteColumns};
-ghost use Rattle.query_types.specs.Validity.{IsOf};
+ghost use Rattle.query_types.specs.Validity.{IsQueryOf};
 ghost use Rattle.prepared_runs.specs.Verdict.{query_stage, schema_stage};
 
 use base_io::{Seq, Store};
@@ -42,7 +42,7 @@ pub fn load_query<S: Store>(
     schema: &Schema,
 ) -> Result<Query, Failure>
     requires { IsValid schema.now }
-    ensures of_schema { IfOk result (IsOf schema.now) }
+    ensures of_schema { IfOk result (IsQueryOf schema.now) }
     ensures reads { Reads (reading S.files S.faults S.misses store.old store.new) (query_stage name.now schema.now)
         (AtFile FileId.Query) result }
 {

@@ -2,23 +2,21 @@
 ghost use Rattle.std.specs.Prelude.{◌≡◌};
 ghost use Rattle.sql_meaning.specs.Databases.{IsDatabaseOf};
 ghost use Rattle.join_steps.specs.Lists.{lists_of};
-ghost use Rattle.prepared_runs.specs.KeptBuffers.{IsJoined, joined_bytes, plan_joined};
-ghost use Rattle.prepared_runs.specs.PreparedQuery.{CanJoin, room_and_list_bytes, plan_in};
+ghost use Rattle.prepared_runs.specs.KeptBuffers.{IsJoined, joined_bytes};
+ghost use Rattle.prepared_runs.specs.PreparedQuery.{CanJoin, room_and_list_bytes};
 
 use crate::scans::Joins;
 use crate::shapes::Room;
 use bushy_join::execute_bushy;
 use csv_tables::Database;
-use plans::Plan;
+use plans::BushyPlan;
 use query_types::Query;
-use tree_plans::BushyPlan;
 use tree_rows::BushyResult;
 
-/// A join tree whose joins are done, with the rows of its nodes. If the plan is an order, the order is kept for the texts.
+/// A plan whose joins are done, with the rows of the nodes of its tree.
 #[derive(Drop)]
 pub struct Joined {
-    pub order: Option<Plan>,
-    pub tree: BushyPlan,
+    pub plan: BushyPlan,
     pub done: BushyResult,
 }
 
@@ -26,16 +24,12 @@ pub struct Joined {
 pub fn join(joins: Joins, query: &Query, db: &Database) -> Joined
     requires database { IsDatabaseOf query.now db.now }
     requires joins { CanJoin query.now db.now joins }
-    ensures plan { plan_joined result ≡ plan_in joins.room }
+    ensures plan { result.plan ≡ joins.room.plan }
     ensures joined { IsJoined query.now db.now (lists_of joins.lists.items) result }
     ensures bytes { joined_bytes result ≡ room_and_list_bytes joins }
 {
     let Joins { lists, room } = joins;
-    let Room {
-        order,
-        tree,
-        reserved,
-    } = room;
-    let done = execute_bushy(reserved, lists, &tree, query, db);
-    Joined { order, tree, done }
+    let Room { plan, reserved } = room;
+    let done = execute_bushy(reserved, lists, &plan, query, db);
+    Joined { plan, done }
 }

@@ -29,6 +29,6 @@ pub use files::load_schema;
 pub use joined::{Joined, join};
 pub use prepare::{PendingOutput, PreparedQuery, PreparedRun, prepare_run};
 pub use scans::Joins;
-pub use shapes::{AnyPlan, Room};
+pub use shapes::Room;
 pub use shop::{Shop, open_shop};
 pub use stats_files::{PreparedStatsFile, PreparedStatsFilePlan};

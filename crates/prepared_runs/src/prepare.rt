@@ -3,13 +3,15 @@ ghost use Rattle.std.specs.Prelude.{◌≡◌, ◌≤◌, IfErr, IfOk, Ok};
 ghost use Rattle.base_io.specs.Devices.{reading};
 ghost use Rattle.key_carriers.specs.DeclaredKeys.{DeclaredKeysHold};
 ghost use Rattle.outcomes.specs.Reads.{Reads, StopsBy, mapped};
-ghost use Rattle.query_types.specs.Validity.{IsOf};
+ghost use Rattle.query_types.specs.Validity.{IsQueryOf};
 ghost use Rattle.schema_types.specs.Validity.{IsValid};
 ghost use Rattle.stats_reading.specs.Names.{HasByteColumns};
+ghost use Rattle.bushy_join.specs.Trees.{IsTreePlanOf};
 ghost use Rattle.sql_meaning.specs.Databases.{IsDatabaseOf};
 ghost use Rattle.sql_meaning.specs.Tables.{tables_of};
 ghost use Rattle.table_files.specs.EntryTables.{entry_rows, tables_in};
 ghost use Rattle.table_files.specs.Stage.{IsReached, tables_of_query};
+ghost use Rattle.tree_rows.specs.Memory.{tree_bytes};
 ghost use Rattle.safebound_words.specs.InRange.{HasRanges, IsInRange, WorkHasRanges};
 ghost use Rattle.safebound_words.specs.declared.command.SchemaTask.TheVariants as aims;
 ghost use Rattle.safebound_words.specs.declared.command.QueryTask.TheVariants as works;
@@ -17,15 +19,13 @@ ghost use Rattle.prepared_runs.specs.Allowed.{shape_cost};
 ghost use Rattle.prepared_runs.specs.Limits.{IsWithinLimit};
 ghost use Rattle.prepared_runs.specs.PreparedQuery.{AreOverLists, HasRoom, HoldExactly, HoldsBytes, IsPrepared, lists_in, pending_plan, pending_text};
 ghost use Rattle.prepared_runs.specs.PreparedRun.{CanBeWritten, outcome_of, planned_outcome};
-ghost use Rattle.prepared_runs.specs.Shapes.{IsPlanOver, scan_bounds, shape_bytes};
 ghost use Rattle.prepared_runs.specs.Standing.{LoseNoRow};
 ghost use Rattle.prepared_runs.specs.Verdict.{IsAimFile, IsWorkFile, aim_run, plan_stage, work_run};
 
 use crate::append::{PreparedAppend, prepare_append};
 use crate::files::load_query;
-use crate::limit::{check_limit, memory_of};
+use crate::limit::check_limit;
 use crate::scans::{Joins, PlanWithScans, plan_task, prepare_joins};
-use crate::shapes::AnyPlan;
 use crate::stats_files::{
     PreparedStatsFile, PreparedStatsFilePlan, prepare_stats_file, prepare_stats_file_plan,
 };
@@ -33,11 +33,13 @@ use base_io::{NoMemory, Store};
 use csv_tables::Database;
 use limits::Accuracy;
 use outcomes::Failure;
+use plans::BushyPlan;
 use query_types::Query;
-use safebound_words::{ListSource, OutText, PlanWork, QueryTask, SchemaTask, Word};
+use safebound_words::{ListSource, OutText, PlanWork, QueryTask, SchemaTask, Shape, Word};
 use schema_types::Schema;
 use std::alloc::Global;
 use table_files::read_tables;
+use tree_rows::tree_memory;
 
 /// The steps that remain after the plan text is written. All memory that they need has been taken.
 #[derive(Drop)]
@@ -46,17 +48,18 @@ pub enum PendingOutput {
     Rows(Joins),
     /// The joins are left, and then the number of rows of each level or inner node is written.
     Audit(Joins),
-    /// Nothing is left: the run writes the plan's text alone.
-    Nothing(AnyPlan),
+    /// Nothing is left after the plan text, as for `plan`.
+    Nothing(BushyPlan),
 }
 
-/// A query that is ready to be joined: its tables, the source of its bounds, and what is left to do, with the plan. `memory` is the limit of
-/// memory, if there is one, and `bytes` is how many bytes the plan takes.
+/// A query that is ready to be joined: its tables, the source of its bounds, the shape of its plan, and what is left to do, with the plan. `memory`
+/// is the limit of memory, if there is one, and `bytes` is how many bytes the plan takes.
 #[derive(Drop)]
 pub struct PreparedQuery {
     pub query: Query,
     pub db: Database,
     pub source: ListSource,
+    pub shape: Shape,
     pub memory: Option<u64>,
     pub bytes: u128,
     pub rest: PendingOutput,
@@ -77,17 +80,17 @@ fn make_room(
     query: &Query,
     db: &Database,
 ) -> Result<PendingOutput, NoMemory>
-    requires affordable { shape_cost planned.plan ≤ task.now.terms.budget }
-    requires within { IsWithinLimit task.now.terms.memory (shape_bytes planned.plan) }
+    requires affordable { shape_cost task.now.terms.shape planned.plan ≤ task.now.terms.budget }
+    requires within { IsWithinLimit task.now.terms.memory (tree_bytes planned.plan) }
     requires database { IsDatabaseOf query.now db.now }
-    requires plan { IsPlanOver query.now (tables_of db.now) (lists_in planned.scans query.now (tables_of db.now)) planned.plan }
+    requires plan { IsTreePlanOf query.now (tables_of db.now) (lists_in planned.scans query.now (tables_of db.now)) planned.plan }
     requires rows { LoseNoRow query.now (tables_of db.now) (lists_in planned.scans query.now (tables_of db.now)) }
-    requires exact { HoldExactly planned.scans (scan_bounds planned.plan) }
+    requires exact { HoldExactly planned.scans planned.plan.scans }
     ensures plan { IfOk result (λ rest. pending_plan rest ≡ planned.plan) }
     ensures room { IfOk result (HasRoom query.now db.now) }
     ensures lists { IfOk result (AreOverLists (lists_in planned.scans query.now (tables_of db.now))) }
     ensures out { IfOk result (λ rest. pending_text rest ≡ task.now.out) }
-    ensures bytes { IfOk result (HoldsBytes (shape_bytes planned.plan)) }
+    ensures bytes { IfOk result (HoldsBytes (tree_bytes planned.plan)) }
 {
     match task.out {
         OutText::Rows => Ok(PendingOutput::Rows(prepare_joins(alloc, task, planned, query, db)?)),
@@ -105,11 +108,11 @@ pub enum PreparedRun {
     StatsMade(PreparedStatsFile),
     /// A plan from a statistics file.
     PlannedFromStats(PreparedStatsFilePlan),
-    /// A statistics file with new rows.
+    /// A statistics file after an append.
     Appended(PreparedAppend),
 }
 
-// Plans a query over its database, and takes the memory of the remaining steps, unless the plan exceeds the limit.
+// Plans a query over its database, and takes the memory of the remaining steps. Refuses a plan above the limit of memory.
 fn prepare_plan(
     alloc: Global,
     task: &PlanWork,
@@ -126,13 +129,14 @@ fn prepare_plan(
     ensures refused { IfErr result (StopsBy (plan_stage task.now schema.now query (entry_rows db))) }
 {
     let planned = plan_task(alloc, task, schema, &query, &db)?;
-    let bytes = memory_of(&planned.plan);
+    let bytes = tree_memory(&planned.plan);
     check_limit(task.terms.memory, bytes)?;
     let rest = make_room(alloc, task, planned, &query, &db)?;
     Ok(PreparedQuery {
         query,
         db,
         source: task.source,
+        shape: task.terms.shape,
         memory: task.terms.memory,
         bytes,
         rest,
@@ -148,7 +152,7 @@ fn prepare_tables<S: Store>(
     query: Query,
 ) -> Result<PreparedQuery, Failure>
     requires schema { IsValid schema.now }
-    requires query { IsOf schema.now query }
+    requires query { IsQueryOf schema.now query }
     requires ranges { IsInRange task.now }
     ensures ready { IfOk result IsPrepared }
     ensures reads { Reads (reading S.files S.faults S.misses store.old store.new) (work_run (works.Plan task.now) schema.now query)
@@ -168,7 +172,7 @@ fn prepare_query<S: Store>(
 ) -> Result<PreparedRun, Failure>
     requires schema { IsValid schema.now }
     requires bytes { HasByteColumns schema.now }
-    requires query { IsOf schema.now query }
+    requires query { IsQueryOf schema.now query }
     requires ranges { WorkHasRanges work.now }
     ensures ready { IfOk result (CanBeWritten schema.now) }
     ensures reads { Reads (reading S.files S.faults S.misses store.old store.new) (work_run work.now schema.now query)

@@ -2,19 +2,20 @@
 ghost use Rattle.std.specs.Prelude.{◌≡◌, ◌⊎◌, ◌<◌, ◌≤◌, ℕ, Err, IfErr, IfOk, Ok, length, slice_index};
 ghost use Rattle.order_search.specs.declared.refusal.PlanError.TheVariants as error;
 ghost use Rattle.reserve_plan.specs.Memory.{buffers_bytes, lists_bytes};
+ghost use Rattle.bushy_join.specs.Trees.{IsTreePlanOf};
 ghost use Rattle.sql_meaning.specs.Databases.{IsDatabaseOf};
 ghost use Rattle.sql_meaning.specs.Tables.{tables_of};
 ghost use Rattle.join_steps.specs.Lists.{lists_of, listed_row_count, scans_of};
+ghost use Rattle.tree_rows.specs.Memory.{tree_bytes};
 ghost use Rattle.planning.specs.HasBounds.{HasBounds};
 ghost use Rattle.safebound_words.specs.InRange.{IsInRange};
 ghost use Rattle.prepared_runs.specs.Allowed.{MayJoin, shape_cost};
-ghost use Rattle.prepared_runs.specs.PreparedQuery.{CanJoin, HoldExactly, room_and_list_bytes, lists_in, plan_in};
-ghost use Rattle.prepared_runs.specs.Shapes.{IsPlanOver, scan_bounds, shape_bytes};
+ghost use Rattle.prepared_runs.specs.PreparedQuery.{CanJoin, HoldExactly, room_and_list_bytes, lists_in};
 ghost use Rattle.prepared_runs.specs.Sources.{lists_by, scans_by, bounds_and_lists_by};
 ghost use Rattle.prepared_runs.specs.Standing.{LoseNoRow};
 ghost use Rattle.prepared_runs.specs.Verdict.{plan_asked};
 
-use crate::shapes::{AnyPlan, Room, bounds_of_scans, plan_by, reserve_room};
+use crate::shapes::{Room, plan_by, reserve_room};
 use base_io::NoMemory;
 use counted_planning::from_counts;
 use csv_tables::Database;
@@ -23,6 +24,7 @@ use key_bounds::from_keys;
 use limits::Accuracy;
 use order_search::PlanError;
 use planning::{QueryBounds, from_reduced, from_statistics};
+use plans::BushyPlan;
 use query_types::Query;
 use row_buf::RowBuf;
 use safebound_words::{ListSource, PlanWork};
@@ -48,7 +50,7 @@ struct Given {
 /// A plan, and the rows that it joins.
 #[derive(Drop)]
 pub struct PlanWithScans {
-    pub plan: AnyPlan,
+    pub plan: BushyPlan,
     pub scans: Scans,
 }
 
@@ -118,10 +120,10 @@ pub fn plan_task(
     requires database { IsDatabaseOf query.now db.now }
     requires ranges { IsInRange task.now }
     ensures planned { IfOk result (λ p. plan_asked task.now schema.now query.now (tables_of db.now) ≡ Ok p.plan) }
-    ensures affordable { IfOk result (λ p. shape_cost p.plan ≤ task.now.terms.budget) }
+    ensures affordable { IfOk result (λ p. shape_cost task.now.terms.shape p.plan ≤ task.now.terms.budget) }
     ensures lists { IfOk result (λ p. lists_in p.scans query.now (tables_of db.now)
         ≡ lists_by task.now.source query.now (tables_of db.now)) }
-    ensures exact { IfOk result (λ p. HoldExactly p.scans (scan_bounds p.plan)) }
+    ensures exact { IfOk result (λ p. HoldExactly p.scans p.plan.scans) }
     ensures refused { IfErr result (λ e. (e ≡ error.NoMemory) ⊎ (plan_asked task.now schema.now query.now (tables_of db.now) ≡ Err e)) }
 {
     let Given { known, scans } = given_by(
@@ -136,44 +138,44 @@ pub fn plan_task(
     Ok(PlanWithScans { plan, scans })
 }
 
-// Lists the rows of each entry's scan, in memory that is taken by the plan's bounds.
+// Lists the rows of each entry's scan. Each list is reserved by the plan's bound of the scan.
 fn list_scans(
     alloc: Global,
     _task: &PlanWork,
-    plan: &AnyPlan,
+    plan: &BushyPlan,
     query: &Query,
     db: &Database,
 ) -> Result<Vec<RowBuf<u32>>, NoMemory>
     requires allowed { MayJoin _task.now plan.now }
     requires database { IsDatabaseOf query.now db.now }
-    requires count { length (scan_bounds plan.now) ≡ length query.now.from }
+    requires count { length plan.now.scans ≡ length query.now.from }
     requires fit { (entry : ℕ) → entry < length query.now.from
-        → listed_row_count (scans_of query.now (tables_of db.now)) entry ≤ slice_index (scan_bounds plan.now) entry }
+        → listed_row_count (scans_of query.now (tables_of db.now)) entry ≤ slice_index plan.now.scans entry }
     ensures lists { IfOk result (λ lists. lists_of lists.items ≡ scans_of query.now (tables_of db.now)) }
-    ensures bytes { IfOk result (λ lists. buffers_bytes lists ≡ lists_bytes (scan_bounds plan.now)) }
+    ensures bytes { IfOk result (λ lists. buffers_bytes lists ≡ lists_bytes plan.now.scans) }
 {
-    let mut lists = reserve_scans(alloc, query, db, bounds_of_scans(plan))?;
+    let mut lists = reserve_scans(alloc, query, db, plan.scans.as_slice())?;
     scan_all(query, db, lists.as_mut_slice());
     Ok(lists)
 }
 
-// The list of each entry's rows. Complete scans are listed now; otherwise the lists are in `scans`.
+// The rows of each entry that are joined, as a list. Complete scans are listed here; reduced scans are lists already (`scans`).
 fn list_rows(
     alloc: Global,
     task: &PlanWork,
-    plan: &AnyPlan,
+    plan: &BushyPlan,
     scans: Scans,
     query: &Query,
     db: &Database,
 ) -> Result<Vec<RowBuf<u32>>, NoMemory>
     requires allowed { MayJoin task.now plan.now }
     requires database { IsDatabaseOf query.now db.now }
-    requires count { length (scan_bounds plan.now) ≡ length query.now.from }
+    requires count { length plan.now.scans ≡ length query.now.from }
     requires fit { (entry : ℕ) → entry < length query.now.from
-        → listed_row_count (lists_in scans query.now (tables_of db.now)) entry ≤ slice_index (scan_bounds plan.now) entry }
-    requires exact { HoldExactly scans (scan_bounds plan.now) }
+        → listed_row_count (lists_in scans query.now (tables_of db.now)) entry ≤ slice_index plan.now.scans entry }
+    requires exact { HoldExactly scans plan.now.scans }
     ensures lists { IfOk result (λ lists. lists_of lists.items ≡ lists_in scans query.now (tables_of db.now)) }
-    ensures bytes { IfOk result (λ lists. buffers_bytes lists ≡ lists_bytes (scan_bounds plan.now)) }
+    ensures bytes { IfOk result (λ lists. buffers_bytes lists ≡ lists_bytes plan.now.scans) }
 {
     match scans {
         Scans::Whole => list_scans(alloc, task, plan, query, db),
@@ -192,11 +194,11 @@ pub fn prepare_joins(
 ) -> Result<Joins, NoMemory>
     requires allowed { MayJoin task.now planned.plan }
     requires database { IsDatabaseOf query.now db.now }
-    requires plan { IsPlanOver query.now (tables_of db.now) (lists_in planned.scans query.now (tables_of db.now)) planned.plan }
+    requires plan { IsTreePlanOf query.now (tables_of db.now) (lists_in planned.scans query.now (tables_of db.now)) planned.plan }
     requires rows { LoseNoRow query.now (tables_of db.now) (lists_in planned.scans query.now (tables_of db.now)) }
-    requires exact { HoldExactly planned.scans (scan_bounds planned.plan) }
-    ensures plan { IfOk result (λ joins. plan_in joins.room ≡ planned.plan) }
-    ensures bytes { IfOk result (λ joins. room_and_list_bytes joins ≡ shape_bytes planned.plan) }
+    requires exact { HoldExactly planned.scans planned.plan.scans }
+    ensures plan { IfOk result (λ joins. joins.room.plan ≡ planned.plan) }
+    ensures bytes { IfOk result (λ joins. room_and_list_bytes joins ≡ tree_bytes planned.plan) }
     ensures room { IfOk result (CanJoin query.now db.now) }
     ensures lists { IfOk result (λ joins. lists_of joins.lists.items ≡ lists_in planned.scans query.now (tables_of db.now)) }
 {

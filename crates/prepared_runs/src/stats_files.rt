@@ -5,7 +5,7 @@ ghost use Rattle.base_io.specs.Devices.{reading};
 ghost use Rattle.stats_file_of_query.specs.Databases.{FitsQuery};
 ghost use Rattle.outcomes.specs.Reads.{AtFile, Reads, StopsBy, mapped};
 ghost use Rattle.planning.specs.HasBounds.{HasBounds};
-ghost use Rattle.query_types.specs.Validity.{IsOf};
+ghost use Rattle.query_types.specs.Validity.{IsQueryOf};
 ghost use Rattle.schema_types.specs.Validity.{IsValid};
 ghost use Rattle.stats_file.specs.Rules.{KeepsRules};
 ghost use Rattle.stats_reading.specs.Names.{HasByteColumns};
@@ -20,15 +20,16 @@ ghost use Rattle.prepared_runs.specs.StatsFiles.{made_from_file, need_failure, p
 ghost use Rattle.prepared_runs.specs.PreparedRun.{IsPlanned, file_from, plan_from};
 ghost use Rattle.prepared_runs.specs.Verdict.{work_run};
 
-use crate::limit::{check_limit, memory_of};
-use crate::shapes::{AnyPlan, plan_by};
+use crate::limit::check_limit;
+use crate::shapes::plan_by;
 use base_io::{NoMemory, Seq, Store};
 use csv_tables::Database;
 use limits::{Accuracy, MOST_FILE};
 use outcomes::{Failure, FileId, Refusal, StatsCause};
 use planning::QueryBounds;
+use plans::BushyPlan;
 use query_types::Query;
-use safebound_words::{PlanTerms, Word};
+use safebound_words::{PlanTerms, Shape, Word};
 use schema_types::Schema;
 use stats_file::StatsFile;
 use stats_file_bounds::{NeedError, from_file};
@@ -36,6 +37,7 @@ use stats_file_of_query::stats_of;
 use stats_reading::read_stats;
 use std::alloc::Global;
 use table_files::{load_file, read_tables};
+use tree_rows::tree_memory;
 
 /// A statistics file of a query's tables, and the database from which it was made.
 #[derive(Drop)]
@@ -45,12 +47,13 @@ pub struct PreparedStatsFile {
     pub file: StatsFile,
 }
 
-/// A plan of a query, the statistics file from which it was made, the limit of memory, if there is one, and the bytes of the plan.
+/// A plan of a query with its shape, the statistics file from which it was made, the limit of memory, if there is one, and the bytes of the plan.
 #[derive(Drop)]
 pub struct PreparedStatsFilePlan {
     pub query: Query,
     pub file: StatsFile,
-    pub plan: AnyPlan,
+    pub shape: Shape,
+    pub plan: BushyPlan,
     pub memory: Option<u64>,
     pub bytes: u128,
 }
@@ -86,7 +89,7 @@ fn failure_of(error: NeedError) -> Failure
     }
 }
 
-// Plans a query by the bounds that the statistics file gives, unless the plan takes more bytes than the limit of memory.
+// Plans a query by the bounds that the statistics file gives. Refuses a plan that takes more bytes than the limit of memory.
 fn plan_known(
     alloc: Global,
     query: Query,
@@ -105,11 +108,12 @@ fn plan_known(
         (plan_from_file_asked terms.now query file))) }
 {
     let plan = plan_by(alloc, terms.shape, known, terms.budget)?;
-    let bytes = memory_of(&plan);
+    let bytes = tree_memory(&plan);
     check_limit(terms.memory, bytes)?;
     Ok(PreparedStatsFilePlan {
         query,
         file,
+        shape: terms.shape,
         plan,
         memory: terms.memory,
         bytes,
@@ -124,7 +128,7 @@ fn plan_from_stats_file(
     file: StatsFile,
     terms: &PlanTerms,
 ) -> Result<PreparedStatsFilePlan, Failure>
-    requires query { IsOf schema.now query }
+    requires query { IsQueryOf schema.now query }
     requires file { KeepsRules schema.now file }
     requires budget { terms.now.budget ≤ most_budget_of terms.now.shape }
     ensures plan { IfOk result IsPlanned }
@@ -163,7 +167,7 @@ pub fn prepare_stats_file<S: Store>(
     accuracy: Accuracy,
 ) -> Result<PreparedStatsFile, Failure>
     requires schema { IsValid schema.now }
-    requires query { IsOf schema.now query }
+    requires query { IsQueryOf schema.now query }
     ensures rules { IfOk result (λ made_stats. KeepsRules schema.now made_stats.file) }
     ensures reads { Reads (reading S.files S.faults S.misses store.old store.new) (work_run (works.WriteStats accuracy) schema.now query)
         (IsReached schema.now (tables_of_query query.from)) (mapped (file_from schema.now) result) }
@@ -184,7 +188,7 @@ pub fn prepare_stats_file_plan<S: Store>(
 ) -> Result<PreparedStatsFilePlan, Failure>
     requires schema { IsValid schema.now }
     requires bytes { HasByteColumns schema.now }
-    requires query { IsOf schema.now query }
+    requires query { IsQueryOf schema.now query }
     requires budget { terms.now.budget ≤ most_budget_of terms.now.shape }
     ensures plan { IfOk result IsPlanned }
     ensures reads { Reads (reading S.files S.faults S.misses store.old store.new) (work_run (works.PlanFromStats file.now terms.now) schema.now query)

@@ -3,7 +3,7 @@ use Rattle.std.proofs.Common.{◌≡◌, ℕ, ◌+◌, ◌<◌, suc, List, ◌�
 use Rattle.std.specs.Prelude.{slice_get}
 use Rattle.std.proofs.Math.Seq.{drop-cons}
 use Rattle.query_types.specs.declared.types.Source.{Source}
-use Rattle.tree_plans.specs.declared.bushy.Join.{Join}
+use Rattle.plans.specs.declared.bushy.Join.{Join}
 use Rattle.printed_texts.specs.Plans.{alias_of, level_line, level_lines, scan_line, scan_lines}
 use Rattle.printed_texts.specs.TreePlans.{node_line, node_lines}
 

@@ -24,8 +24,8 @@ use Rattle.outcomes.specs.declared.refusal.TableCause.TheVariants as table
 use Rattle.outcomes.specs.declared.status.Status.{Status}
 use Rattle.outcomes.specs.declared.status.Status.TheVariants as status
 
--- the names that a line may need: the command's words for the schema file, the query file, the statistics file and, if there is one, the file
--- of new rows. If the schema was read, the line may also name the schema's tables
+-- the names that a line may need. The files are named as in the command; `rows_file` is the file of new rows, if the command has one. After the
+-- schema was read, the line may also name its tables
 pub record NamesInLine : Type 0 where
   pub schema_file : List ℕ
   pub query_file : List ℕ
@@ -147,7 +147,7 @@ abbrev pub fault : Status → NamesInLine → List (List ℕ)
 fault status.Done names = []
 fault (status.Refused r) names = refusal_words r names
 fault (status.ReadFault id) names = read_words id names
-fault (status.WriteFault cut) names = codes "write" ∷ (sink_name cut ∷ [])
+fault (status.WriteFault failed) names = codes "write" ∷ (sink_name failed ∷ [])
 fault status.NoMemory names = codes "memory" ∷ []
 
 -- a word with a blank before it

@@ -16,8 +16,8 @@ value_text (Text text) = text
 abbrev pub row_text : Row → List ℕ
 row_text row = record_text (map value_text row)
 
--- the header: the record of the outputs' names after folding (in upper case, unless they are delimited). Two names may be equal. If the first
--- name begins with U+FEFF, it isn't quoted, so a reader that drops a byte order mark, as this program does, reads the name without U+FEFF
+-- the header: the record of the outputs' names after folding (in upper case, unless they are delimited). Two names may be equal. A first name that
+-- begins with U+FEFF isn't quoted. So this program, and other readers that drop a byte order mark, read it without U+FEFF
 abbrev pub header_text : List Out → List ℕ
 header_text outs = record_text (map (λ (out : Out). out.name) outs)
 

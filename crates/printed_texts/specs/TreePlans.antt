@@ -2,8 +2,8 @@
 -- then the inner nodes.
 use Rattle.std.specs.Prelude.{ℕ, ◌+◌, List, [], ◌∷◌, ◌++◌, length, codes, decimal}
 use Rattle.query_types.specs.declared.types.Source.{Source}
-use Rattle.tree_plans.specs.declared.bushy.BushyPlan.{BushyPlan}
-use Rattle.tree_plans.specs.declared.bushy.Join.{Join}
+use Rattle.plans.specs.declared.bushy.BushyPlan.{BushyPlan}
+use Rattle.plans.specs.declared.bushy.Join.{Join}
 use Rattle.printed_texts.specs.Plans.{rows_and_line_end, scan_lines}
 
 -- `node K LEFT RIGHT BOUND`, without a line end
@@ -33,6 +33,6 @@ node_audits k [] counts = []
 node_audits k (join ∷ joins) [] = []
 node_audits k (join ∷ joins) (rows ∷ counts) = node_audit k join rows ++ node_audits (k + 1) joins counts
 
--- the audit text: a line for each inner node, with its number of rows from `counts`. A tree of one entry has no inner node, and so no line
+-- the audit text: a line for each inner node, with its number of rows from `counts`. For one entry the text is empty
 abbrev pub tree_audits : BushyPlan → List ℕ → List ℕ
 tree_audits plan counts = node_audits (length plan.scans) plan.joins counts

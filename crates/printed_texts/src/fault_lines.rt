@@ -10,8 +10,8 @@ use base_io::{Failed, Sink};
 use outcomes::{FileId, QueryCause, Refusal, SchemaCause, SinkId, StatsCause, Status, TableCause};
 use schema_types::{LimitKind, Schema, Table};
 
-/// The names that a line may need: the command's words for the schema file, the query file, the statistics file and, if there is one, the
-/// file of new rows. If the schema was read, the line may also name the schema's tables.
+/// The names that a line may need. The files are named as in the command; `rows_file` is the file of new rows, if the command has one. After the
+/// schema was read, the line may also name its tables.
 #[derive(Clone, Copy)]
 pub struct LineNames<'a> {
     pub schema_file: &'a str,

@@ -1,13 +1,12 @@
 //! Writes the plan text of an order. No function here allocates memory.
 ghost use Rattle.std.specs.Prelude.{ℕ, ◌≡◌, ◌≤◌, ◌<◌, ◌+◌, ◌++◌, length, slice_get};
-ghost use Rattle.std.specs.List.{AllByRecursion};
 ghost use Rattle.base_io.specs.Devices.{growth};
 ghost use Rattle.base_io.specs.Writes.{WroteBuffered, Wrote};
-ghost use Rattle.plans.specs.LeftDeep.{IsPlan};
+ghost use Rattle.plans.specs.Orders.{order_of_tree, IsOrderTree};
 ghost use Rattle.printed_texts.specs.Plans.{alias_of, level_text, level_line, level_lines, plan_lines, scan_line, scan_lines};
 
 use base_io::{Buffer, Failed, Sink};
-use plans::Plan;
+use plans::{BushyPlan, entry_in_order, level_bound};
 use query_types::Source;
 
 const SCAN: &[u8] = b"scan ";
@@ -87,35 +86,32 @@ pub fn alias_at(sources: &[Source], entry: u8) -> &str
     sources[entry as usize].alias.as_str()
 }
 
-// Writes a line for each level, along the order.
+// Writes a line for each level of the order whose tree this is.
 fn write_levels<N: Sink>(
+    plan: &BushyPlan,
     sources: &[Source],
-    order: &[u8],
-    bounds: &[u64],
     buffer: &mut Buffer,
     sink: &mut N,
 ) -> Result<(), Failed>
-    requires entries { AllByRecursion (λ entry. entry < length sources.now) order.now }
-    requires bounds { length bounds.now ≡ length order.now }
-    ensures { WroteBuffered (growth N.taken N.faults sink.old sink.new) buffer.old buffer.new
-        (level_lines 1 sources.now order.now bounds.now) result }
+    requires { IsOrderTree (length sources.now) plan.now }
+    ensures { let order = order_of_tree plan.now in WroteBuffered (growth N.taken N.faults sink.old sink.new) buffer.old buffer.new
+        (level_lines 1 sources.now order.order order.levels) result }
 {
-    'levels: for i in 0..order.len() {
-        let alias = alias_at(sources, order[i]);
-        write_level(i as u64 + 1, alias, bounds[i], buffer, sink)?;
+    'levels: for i in 0..sources.len() {
+        let alias = alias_at(sources, entry_in_order(plan, i));
+        write_level(i as u64 + 1, alias, level_bound(plan, i), buffer, sink)?;
     }
     Ok(())
 }
 
-/// Writes the plan text: a line for each entry's scan in FROM order, and then a line for each level along the plan's order. Each line ends
-/// with a bound in rows.
-pub fn write_plan<N: Sink>(plan: &Plan, sources: &[Source], sink: &mut N) -> Result<(), Failed>
-    requires { IsPlan (length sources.now) plan.now }
-    ensures { Wrote (growth N.taken N.faults sink.old sink.new) (plan_lines sources.now plan.now) result }
+/// Writes the plan text of an order, which is read from its tree: a line for each entry's scan in FROM order, and then a line for each level along
+/// the order. Each line ends with a bound in rows.
+pub fn write_plan<N: Sink>(plan: &BushyPlan, sources: &[Source], sink: &mut N) -> Result<(), Failed>
+    requires { IsOrderTree (length sources.now) plan.now }
+    ensures { Wrote (growth N.taken N.faults sink.old sink.new) (plan_lines sources.now (order_of_tree plan.now)) result }
 {
     let mut buffer = Buffer::new();
     write_scans(sources, plan.scans.as_slice(), &mut buffer, sink)?;
-    let (order, levels) = (plan.order.as_slice(), plan.levels.as_slice());
-    write_levels(sources, order, levels, &mut buffer, sink)?;
+    write_levels(plan, sources, &mut buffer, sink)?;
     buffer.flush(sink)
 }

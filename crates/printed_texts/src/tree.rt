@@ -2,13 +2,13 @@
 ghost use Rattle.std.specs.Prelude.{◌≡◌, ◌<◌, ◌+◌, ◌^◌, length};
 ghost use Rattle.base_io.specs.Devices.{growth};
 ghost use Rattle.base_io.specs.Writes.{WroteBuffered, Wrote};
-ghost use Rattle.tree_plans.specs.TreePlans.{IsTreePlan};
+ghost use Rattle.plans.specs.TreePlans.{IsTreePlan};
 ghost use Rattle.printed_texts.specs.TreePlans.{node_bound, node_line, node_lines, tree_lines};
 
 use crate::plan::write_scans;
 use base_io::{Buffer, Failed, Sink};
+use plans::{BushyPlan, Join};
 use query_types::Source;
-use tree_plans::{BushyPlan, Join};
 
 const NODE: &[u8] = b"node ";
 

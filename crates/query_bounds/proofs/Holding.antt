@@ -1,4 +1,4 @@
--- The code takes row bounds and lists from statistics one after another. They are those of the definitions.
+-- The row bounds and lists that the code takes from statistics, one after another, are those of the definitions.
 use Rattle.std.proofs.Common.{◌≡◌, ◌≢◌, ◌⊎◌, inl, inr, ℕ, zero, suc, ◌+◌, ◌<◌, ◌≤◌, Bool, true, false, ◌||◌, eqb, ltb, List, [], ◌∷◌, ◌++◌, length, take, get_or, Option, Some, None, option_map, find, refl, ap, sym, ◌∙◌, subst, arith}
 use Rattle.std.specs.Prelude.{IsSome, if◌then◌else◌, unwrap_or}
 use Rattle.std.proofs.Math.Path.{fun_ext}
@@ -24,20 +24,20 @@ use Rattle.predicate_bounds.specs.declared.columns.QueryStats.{QueryStats}
 use Rattle.predicate_bounds.specs.StatsLists.{HasLists, HasRowLists, steps_with_lists, column_steps, first_steps, no_columns}
 use Rattle.query_bounds.specs.Adding.{MayAdd}
 use Rattle.query_bounds.specs.Bounds.{HoldsKnown, entry_bounds, is_among, is_at, scan_list, scan_row_bound}
-use Rattle.query_bounds.specs.Statistics.{Statistics, HasStatistics, TellsColumn, TellsRowBound}
+use Rattle.query_bounds.specs.Statistics.{Statistics, HasStatistics, HasColumnLists, HasRowBoundLists}
 
 pub is_some_of : {X : Type 0} (o : Option X) (x : X) → o ≡ Some x → IsSome o
 is_some_of o x e = rw e refl
 
 -- ---- an entry that the statistics have
 
-pub no_more : {X : Type 0} (o : Option X) (x : X) → o ≡ None → o ≡ Some x → ⊥
-no_more o x e f = cc
+pub not_none_and_some : {X : Type 0} (o : Option X) (x : X) → o ≡ None → o ≡ Some x → ⊥
+not_none_and_some o x e f = cc
 
 pub known_entry : (query : Query) (stats : QueryStats) (entry column : ℕ) (lists : ColumnLists) → HasLists query stats entry column lists → entry < length stats.entries
 known_entry query stats entry column lists tells = elim (cases_lt entry (length stats.entries)) [
   | inl below ↦ below
-  | inr above ↦ absurd (no_more (column_steps stats entry column) (steps_with_lists query entry lists) (gone above) tells)
+  | inr above ↦ absurd (not_none_and_some (column_steps stats entry column) (steps_with_lists query entry lists) (gone above) tells)
 ]
   where
     gone : length stats.entries ≤ entry → column_steps stats entry column ≡ None
@@ -49,9 +49,9 @@ known_entry query stats entry column lists tells = elim (cases_lt entry (length 
 choose : {X : Type 0} (a b : Bool) (x : X) → a ≡ b → (if a then Some x else None) ≡ (if b then Some x else None)
 choose a b x e = ap (λ (t : Bool). if t then Some x else None) e
 
-pub none_hold : (query : Query) (known : Statistics) (lists : EntryLists) → ((entry : ℕ) → row_bound_of lists entry ≡ None) → ((entry column : ℕ) → list_of lists entry column ≡ None)
+pub nothing_held : (query : Query) (known : Statistics) (lists : EntryLists) → ((entry : ℕ) → row_bound_of lists entry ≡ None) → ((entry column : ℕ) → list_of lists entry column ≡ None)
     → HoldsKnown query known 0 [] lists
-none_hold query known lists rows none = record {
+nothing_held query known lists rows none = record {
   rows = λ entry. rows entry ∙ choose false (ltb entry 0) (scan_row_bound query known entry) (sym (le-ltb entry 0 (omega arith)));
   columns = λ entry column. none entry column;
 }
@@ -79,16 +79,16 @@ rows_more query known i rows old new held is set others lists = record {
         ap (row_bound_of new) same ∙ set ∙ ap Some (is ∙ ap (scan_row_bound query known) (sym same))
         ∙ choose true (ltb entry (i + 1)) (scan_row_bound query known entry) (sym (lt-ltb entry (i + 1) (omega arith)))
 
-pub rows_told : (query : Query) (stats : QueryStats) (known : Statistics) (entry rows : ℕ) → HasStatistics query stats known → entry < length query.from
+pub row_bound_is_known : (query : Query) (stats : QueryStats) (known : Statistics) (entry rows : ℕ) → HasStatistics query stats known → entry < length query.from
     → ((q : Query) (lists : ColumnLists) (counts : RowCounts) → HasRowLists q stats entry lists → SumTo lists counts → rows ≡ row_bound counts entry q.conjuncts)
     → rows ≡ scan_row_bound query known entry
-rows_told query stats known entry rows tells low told =
-    let here : TellsRowBound query stats known entry = tells.entries entry low in
+row_bound_is_known query stats known entry rows tells low told =
+    let here : HasRowBoundLists query stats known entry = tells.entries entry low in
     told query (known.lists entry here.column) (known.counts entry) here.lists here.sums
 
 pub has_first : (query : Query) (stats : QueryStats) (known : Statistics) (entry : ℕ) → HasStatistics query stats known → entry < length query.from → IsSome (first_steps stats entry)
 has_first query stats known entry tells low =
-    let here : TellsRowBound query stats known entry = tells.entries entry low in
+    let here : HasRowBoundLists query stats known entry = tells.entries entry low in
     is_some_of (first_steps stats entry) (steps_with_lists query entry (known.lists entry here.column)) here.lists
 
 -- ---- the lists after the list of one column is added
@@ -169,18 +169,18 @@ places_more es items i d is low =
     subst (λ (s : List Edge). places_of (take (i + 1) s) ≡ (places_of (take i s) ++ (get_or items i d).left ∷ []) ++ (get_or items i d).right ∷ []) is
     (ap places_of (take_more items i d low) ∙ places_then (take i items) (get_or items i d))
 
-pub pair_told : (query : Query) (stats : QueryStats) (known : Statistics) (items : List Edge) → HasStatistics query stats known → items ≡ equalities_of query → (i : ℕ) (d : Edge) → i < length items
-    → TellsColumn query stats known (get_or items i d).left.entry (get_or items i d).left.column × TellsColumn query stats known (get_or items i d).right.entry (get_or items i d).right.column
-pair_told query stats known items tells is i d low =
-    pair_at (TellsColumn query stats known) items (subst (EachNamedColumn (TellsColumn query stats known)) (sym is) tells.columns) i d low
+pub pair_has_lists : (query : Query) (stats : QueryStats) (known : Statistics) (items : List Edge) → HasStatistics query stats known → items ≡ equalities_of query → (i : ℕ) (d : Edge) → i < length items
+    → HasColumnLists query stats known (get_or items i d).left.entry (get_or items i d).left.column × HasColumnLists query stats known (get_or items i d).right.entry (get_or items i d).right.column
+pair_has_lists query stats known items tells is i d low =
+    pair_at (HasColumnLists query stats known) items (subst (EachNamedColumn (HasColumnLists query stats known)) (sym is) tells.columns) i d low
 
-pub added : (query : Query) (stats : QueryStats) (known : Statistics) (n : ℕ) (places : List Place) (place : Place) (old new : EntryLists) → TellsColumn query stats known place.entry place.column
+pub held_after_list : (query : Query) (stats : QueryStats) (known : Statistics) (n : ℕ) (places : List Place) (place : Place) (old new : EntryLists) → HasColumnLists query stats known place.entry place.column
     → HoldsKnown query known n places old
     → ((q : Query) (lists : ColumnLists) → HasLists q stats place.entry place.column lists
     → list_of new place.entry place.column ≡ Some (unwrap_or (list_of old place.entry place.column) (filtered_list lists place.entry q.conjuncts)))
     → ((entry column : ℕ) → ((entry ≢ place.entry) ⊎ (column ≢ place.column)) → list_of new entry column ≡ list_of old entry column)
     → ((entry : ℕ) → row_bound_of new entry ≡ row_bound_of old entry) → HoldsKnown query known n (places ++ place ∷ []) new
-added query stats known n places place old new told held set others rows =
+held_after_list query stats known n places place old new told held set others rows =
     list_more query known n places place old new held (set query (known.lists place.entry place.column) told.lists) others rows
 
 -- `no_edge` is the default for reading past the last equality
@@ -188,7 +188,7 @@ abbrev pub no_edge : Edge
 no_edge = record { left = record { entry = 0; column = 0 }; right = record { entry = 0; column = 0 } }
 
 pub may_add : (query : Query) (stats : QueryStats) (known : Statistics) (n : ℕ) (places : List Place) (place : Place) (lists : EntryLists) → HasStatistics query stats known → n ≡ length query.from
-    → TellsColumn query stats known place.entry place.column → HoldsKnown query known n places lists → MayAdd stats place lists
+    → HasColumnLists query stats known place.entry place.column → HoldsKnown query known n places lists → MayAdd stats place lists
 may_add query stats known n places place lists tells whole told held = record {
   query = query;
   known = known.lists place.entry place.column;
@@ -204,8 +204,8 @@ may_add query stats known n places place lists tells whole told held = record {
 
 -- ---- the row bounds and lists as one `EntryBounds`
 
-pub bounds_told : (query : Query) (known : Statistics) (lists : EntryLists) → HoldsKnown query known (length query.from) (places_of (equalities_of query)) lists → bounds_of lists ≡ entry_bounds query known
-bounds_told query known lists held =
+pub bounds_are_known : (query : Query) (known : Statistics) (lists : EntryLists) → HoldsKnown query known (length query.from) (places_of (equalities_of query)) lists → bounds_of lists ≡ entry_bounds query known
+bounds_are_known query known lists held =
     ap (λ (rows : ℕ → ℕ). made rows (λ entry column. unwrap_or (list_of lists entry column) [])) (fun_ext same_rows)
     ∙ ap (made (λ entry. if ltb entry (length query.from) then scan_row_bound query known entry else 0)) (fun_ext (λ (entry : ℕ). fun_ext (same_list entry)))
   where

@@ -16,9 +16,9 @@ use Rattle.tree_bounds.proofs.SmallSets.{empty_is}
 use Rattle.bound_fold.specs.declared.lists.EntryLists.{EntryLists}
 use Rattle.bound_fold.specs.Lists.{list_of, row_bound_of}
 use Rattle.bound_fold.specs.Sets.{SetHasBounds}
-use Rattle.bound_fold.proofs.TestedSets.{each_in_set, each_named}
+use Rattle.bound_fold.proofs.TestedSets.{each_in_set, each_named_column}
 use Rattle.set_bounds.specs.AllSets.{bound_in_128_bits, bounds_of_sets}
-use Rattle.set_bounds.proofs.SetBySet.{told_at}
+use Rattle.set_bounds.proofs.SetBySet.{bound_of_sets_at}
 use Rattle.entry_sets.proofs.Listing.{entry_below}
 use Rattle.query_bounds.specs.Bounds.{HoldsKnown, is_among, is_at, scan_list, scan_row_bound}
 use Rattle.query_bounds.specs.Statistics.{Statistics}
@@ -26,12 +26,12 @@ use Rattle.query_bounds.proofs.Holding.{is_some_of}
 
 -- ---- entries and columns that have a row bound and a list
 
-pub row_there : (query : Query) (known : Statistics) (n : ℕ) (places : List Place) (lists : EntryLists) → HoldsKnown query known n places lists → (entry : ℕ) → entry < n → row_bound_of lists entry ≡ Some (scan_row_bound query known entry)
-row_there query known n places lists held entry low = held.rows entry ∙ ap (λ (t : Bool). if t then Some (scan_row_bound query known entry) else None) (lt-ltb entry n low)
+pub row_bound_is_held : (query : Query) (known : Statistics) (n : ℕ) (places : List Place) (lists : EntryLists) → HoldsKnown query known n places lists → (entry : ℕ) → entry < n → row_bound_of lists entry ≡ Some (scan_row_bound query known entry)
+row_bound_is_held query known n places lists held entry low = held.rows entry ∙ ap (λ (t : Bool). if t then Some (scan_row_bound query known entry) else None) (lt-ltb entry n low)
 
-pub list_there : (query : Query) (known : Statistics) (n : ℕ) (places : List Place) (lists : EntryLists) → HoldsKnown query known n places lists → (entry column : ℕ) → is_among places entry column ≡ true
+pub list_is_held : (query : Query) (known : Statistics) (n : ℕ) (places : List Place) (lists : EntryLists) → HoldsKnown query known n places lists → (entry column : ℕ) → is_among places entry column ≡ true
     → list_of lists entry column ≡ Some (scan_list query known entry column)
-list_there query known n places lists held entry column among = held.columns entry column ∙ ap (λ (t : Bool). if t then Some (scan_list query known entry column) else None) among
+list_is_held query known n places lists held entry column among = held.columns entry column ∙ ap (λ (t : Bool). if t then Some (scan_list query known entry column) else None) among
 
 at_itself : (p : Place) → is_at p.entry p.column p ≡ true
 at_itself p = and_from (eqb p.entry p.entry) (eqb p.column p.column) (eq-eqb p.entry p.entry refl) (eq-eqb p.column p.column refl)
@@ -60,16 +60,16 @@ both_among (e ∷ es) (suc k) d low =
       or_more (is_at r.entry r.column e.left) (is_at r.entry r.column e.right) (is_among (places_of es) r.entry r.column) later.1,
     )
 
-pub all_listed : (query : Query) (known : Statistics) (n : ℕ) (es : List Edge) (lists : EntryLists) → HoldsKnown query known n (places_of es) lists → SetHasBounds lists es (2 ^ n - 1)
-all_listed query known n es lists held = record {
+pub all_bounds_are_held : (query : Query) (known : Statistics) (n : ℕ) (es : List Edge) (lists : EntryLists) → HoldsKnown query known n (places_of es) lists → SetHasBounds lists es (2 ^ n - 1)
+all_bounds_are_held query known n es lists held = record {
   rows = each_in_set (λ k. IsSome (row_bound_of lists k)) (2 ^ n - 1) (λ k low has. is_some_of (row_bound_of lists k) (scan_row_bound query known k)
-      (row_there query known n (places_of es) lists held k (entry_below n (2 ^ n - 1) k (omega (arith, pow_pos n)) has)));
-  columns = each_named (λ entry column. IsSome (list_of lists entry column)) (2 ^ n - 1) es (λ k d low joins.
+      (row_bound_is_held query known n (places_of es) lists held k (entry_below n (2 ^ n - 1) k (omega (arith, pow_pos n)) has)));
+  columns = each_named_column (λ entry column. IsSome (list_of lists entry column)) (2 ^ n - 1) es (λ k d low joins.
       let among = both_among es k d low in
       let l : Place = (get_or es k d).left in
       let r : Place = (get_or es k d).right in (
-        is_some_of (list_of lists l.entry l.column) (scan_list query known l.entry l.column) (list_there query known n (places_of es) lists held l.entry l.column among.0),
-        is_some_of (list_of lists r.entry r.column) (scan_list query known r.entry r.column) (list_there query known n (places_of es) lists held r.entry r.column among.1),
+        is_some_of (list_of lists l.entry l.column) (scan_list query known l.entry l.column) (list_is_held query known n (places_of es) lists held l.entry l.column among.0),
+        is_some_of (list_of lists r.entry r.column) (scan_list query known r.entry r.column) (list_is_held query known n (places_of es) lists held r.entry r.column among.1),
       ));
 }
 
@@ -83,7 +83,7 @@ scan_at query known n entry scans is low = ap (λ (s : List ℕ). get_or s entry
 pub set_count : (b : EntryBounds) (es : List Edge) (n : ℕ) → length (bounds_of_sets b es n) ≡ 2 ^ n
 set_count b es n = length-map (range_with_len 0 (2 ^ n)) (bound_in_128_bits b es) ∙ length-range_with_len 0 (2 ^ n)
 
-pub nothing_bound : (b : EntryBounds) (es : List Edge) (n : ℕ) → get_or (bounds_of_sets b es n) 0 0 ≡ 1
-nothing_bound b es n =
-    told_at b es n 0 (bounds_of_sets b es n) refl (pow_pos n)
+pub empty_set_bound : (b : EntryBounds) (es : List Edge) (n : ℕ) → get_or (bounds_of_sets b es n) 0 0 ≡ 1
+empty_set_bound b es n =
+    bound_of_sets_at b es n 0 (bounds_of_sets b es n) refl (pow_pos n)
     ∙ ap saturated (empty_is b es)

@@ -9,8 +9,8 @@ use Rattle.filtered_lists.specs.Lists.{ColumnLists, filtered_list}
 use Rattle.predicate_bounds.specs.declared.columns.QueryStats.{QueryStats}
 use Rattle.predicate_bounds.specs.StatsLists.{HasLists}
 
--- the list of the column `place` may be added: the statistics have the column's lists for some query, and the sum of its filtered list is
--- the row bound of its entry
+-- the list of column `place` may be added. For some query, the statistics have the column's lists, and its filtered list sums to the entry's row
+-- bound
 pub record MayAdd (stats : QueryStats) (place : Place) (lists : EntryLists) : Type 0 where
   pub query : Query
   pub known : ColumnLists

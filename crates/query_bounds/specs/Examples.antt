@@ -7,18 +7,18 @@ use Rattle.join_graph.specs.Conjuncts.{column_operand}
 use Rattle.query_bounds.specs.Statistics.{Statistics}
 
 -- SELECT R.X FROM R, S WHERE R.X = S.X
-abbrev pub pair : Query
-pair = record {
+abbrev pub two_table_query : Query
+two_table_query = record {
   from = record { table = 0; alias = 82 ∷ [] } ∷ record { table = 1; alias = 83 ∷ [] } ∷ [];
   conjuncts = Compare op.Eq (column_operand 0 0) (column_operand 1 0) ∷ [];
   select = record { column = record { from = 0; column = 0 }; name = 88 ∷ [] } ∷ [];
 }
 
--- R(X) has the rows 1, 1, 1, 2, 2, 3, so 6 rows. S(X) has the rows 1, 1, 4, 5, 6, so 5 rows
+-- R(X) has the 6 rows [1, 1, 1, 2, 2, 3], and S(X) has the 5 rows [1, 1, 4, 5, 6]
 abbrev pub pair_rows : ℕ → ℕ
 pair_rows entry = if entry == 0 then 6 else 5
 
--- R(X) has the degree list 3, 2, 1, and S(X) has 2, 1, 1, 1. These are the two lists compressed at accuracy 1
+-- the degree list of R(X) is [3, 2, 1], and the degree list of S(X) is [2, 1, 1, 1]. `pair_list` has both lists, compressed at accuracy 1
 abbrev pub pair_list : ℕ → List ℕ
 pair_list entry = if entry == 0 then 3 ∷ 3 ∷ [] else 2 ∷ 2 ∷ 1 ∷ []
 

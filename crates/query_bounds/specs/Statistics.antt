@@ -1,4 +1,4 @@
--- The known counts and lists of a query's entries (`Statistics`). A `QueryStats` may have them, and they may bound tables.
+-- The known counts and lists of a query's entries (`Statistics`). What it means that a `QueryStats` has them, and that they bound tables.
 use Rattle.std.specs.Prelude.{◌≡◌, ℕ, ◌<◌, ◌≤◌, ◌^◌, [], length}
 use Rattle.degree_sequences.specs.Compression.{compressed}
 use Rattle.degree_sequences.specs.Degrees.{degree_list}
@@ -21,27 +21,27 @@ pub record Statistics : Type 0 where
 
 -- ---- a `QueryStats` that has the known counts and lists
 
--- for the row bound of an entry, `stats` has the lists of one of the entry's columns. The sum of each list is the entry's row count for the same
--- filter. The count of all rows is at most 2^32
-pub record TellsRowBound (query : Query) (stats : QueryStats) (known : Statistics) (entry : ℕ) : Type 0 where
+-- `stats` has the lists of some column of the entry; the entry's row bound is computed from them. The sum of each list is the entry's row count for
+-- the same filter. The count of all rows is at most 2^32
+pub record HasRowBoundLists (query : Query) (stats : QueryStats) (known : Statistics) (entry : ℕ) : Type 0 where
   pub column : ℕ
   pub lists : HasRowLists query stats entry (known.lists entry column)
   pub sums : SumTo (known.lists entry column) (known.counts entry)
   pub small : (known.counts entry).whole ≤ 2 ^ 32
 
 -- `stats` has the lists of a column of an entry, and the sum of each list is the entry's row count for the same filter
-pub record TellsColumn (query : Query) (stats : QueryStats) (known : Statistics) (entry column : ℕ) : Type 0 where
+pub record HasColumnLists (query : Query) (stats : QueryStats) (known : Statistics) (entry column : ℕ) : Type 0 where
   pub lists : HasLists query stats entry column (known.lists entry column)
   pub sums : SumTo (known.lists entry column) (known.counts entry)
 
 -- `stats` has the known counts and lists of all FROM entries, and of all columns that an equality joins
 pub record HasStatistics (query : Query) (stats : QueryStats) (known : Statistics) : Type 0 where
   pub one_each : length stats.entries ≡ length query.from
-  pub entries : (entry : ℕ) → entry < length query.from → TellsRowBound query stats known entry
-  pub columns : EachNamedColumn (TellsColumn query stats known) (equalities_of query)
+  pub entries : (entry : ℕ) → entry < length query.from → HasRowBoundLists query stats known entry
+  pub columns : EachNamedColumn (HasColumnLists query stats known) (equalities_of query)
 
 -- `stats` has the counts and lists of some `Statistics`, the field `known`
-pub record TellsSomeStatistics (query : Query) (stats : QueryStats) : Type 0 where
+pub record HasSomeStatistics (query : Query) (stats : QueryStats) : Type 0 where
   pub known : Statistics
   pub tells : HasStatistics query stats known
 

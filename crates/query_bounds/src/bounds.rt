@@ -7,8 +7,8 @@ use base_io::{NoMemory, Seq};
 use bound_fold::EntryLists;
 use std::alloc::Global;
 
-/// The row bound of each of the first `count` entries, in FROM order. An entry's row bound bounds the rows of its scan (SafeBound, SIGMOD 2023). It
-/// is 0 if it wasn't set.
+/// The row bound of each of the first `count` entries, in FROM order. An entry's scan has at most as many rows as its row bound (SafeBound, SIGMOD
+/// 2023). A row bound that wasn't set is 0.
 pub fn scans_of(alloc: Global, lists: &EntryLists, count: u8) -> Result<Seq<u64>, NoMemory>
     ensures { IfOk result (λ scans. scans ≡ map (bounds_of lists.now).rows (range_with_len 0 count)) }
 {

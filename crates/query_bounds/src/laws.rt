@@ -10,9 +10,9 @@ ghost use Rattle.level_bounds.specs.WholeTables.{uncompressed};
 ghost use Rattle.query_bounds.specs.Bounds.{set_bounds};
 ghost use Rattle.query_bounds.specs.Statistics.{AreOfWholeTables, Statistics};
 
-/// Bounds from compressed lists are near those from degree lists, if no conjunct names just one entry. A set of n entries has a bound from the
+/// Bounds from compressed lists are near bounds from degree lists, if no conjunct names just one entry. A set of n entries has a bound from the
 /// columns' compressed lists at accuracy K, and a bound from the columns' degree lists. K^n times the first bound is at most (K + 1)^n times the
-/// second.
+/// second bound.
 pub fn unfiltered_bounds_are_near()
     ensures { (query : Query) (known : Statistics) (tables : Tables) (key : Keys) (accuracy subset : ℕ)
         → AreOfWholeTables query known tables key accuracy → subset < 2 ^ length query.from

@@ -8,7 +8,7 @@ ghost use Rattle.filtered_lists.specs.Lists.{ColumnLists, filtered_list};
 ghost use Rattle.predicate_bounds.specs.StatsLists.{HasLists};
 ghost use Rattle.query_bounds.specs.Adding.{MayAdd};
 ghost use Rattle.query_bounds.specs.Bounds.{HoldsKnown, entry_bounds, joined_columns};
-ghost use Rattle.query_bounds.specs.Statistics.{TellsSomeStatistics, Statistics, HasStatistics};
+ghost use Rattle.query_bounds.specs.Statistics.{HasSomeStatistics, Statistics, HasStatistics};
 
 use base_io::NoMemory;
 use berge_tree::Place;
@@ -20,8 +20,8 @@ use std::alloc::Global;
 
 // The row bound of each FROM entry.
 fn with_rows(alloc: Global, query: &Query, stats: &QueryStats) -> Result<EntryLists, NoMemory>
-    requires few { length query.now.from ≤ most_entries }
-    requires told { TellsSomeStatistics query.now stats.now }
+    requires within_limit { length query.now.from ≤ most_entries }
+    requires told { HasSomeStatistics query.now stats.now }
     ensures { IfOk result (λ lists. (known : Statistics) → HasStatistics query.now stats.now known
         → HoldsKnown query.now known (length query.now.from) [] lists) }
 {
@@ -63,9 +63,9 @@ pub fn entry_lists(
     parts: &Parts,
     stats: &QueryStats,
 ) -> Result<EntryLists, NoMemory>
-    requires few { length query.now.from ≤ most_entries }
+    requires within_limit { length query.now.from ≤ most_entries }
     requires equalities { parts.now.equalities ≡ equalities_of query.now }
-    requires told { TellsSomeStatistics query.now stats.now }
+    requires told { HasSomeStatistics query.now stats.now }
     ensures holds { IfOk result (λ lists. (known : Statistics) → HasStatistics query.now stats.now known
         → HoldsKnown query.now known (length query.now.from) (joined_columns query.now) lists) }
     ensures bounds { IfOk result (λ lists. (known : Statistics) → HasStatistics query.now stats.now known

@@ -1,5 +1,5 @@
--- Each text of a rule for conditions closes the parentheses that it opens. So parentheses in the tokens after the text are nested no deeper than in
--- the text and these tokens together.
+-- Each text of a rule for conditions closes the parentheses that it opens. So the tokens after a text are, alone, nested at most as deep as the text
+-- followed by them.
 use Rattle.std.proofs.Common.{◌≡◌, ℕ, zero, suc, ◌≤◌, true, Option, Some, None, List, [], ◌∷◌, ◌++◌, inl, inr, refl, sym, subst, append_assoc, arith}
 use Rattle.ll_grammars.specs.declared.lexeme.Lexeme.{Lexeme}
 use Rattle.ll_grammars.specs.declared.terminal.Terminal.{Terminal}

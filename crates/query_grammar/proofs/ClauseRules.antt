@@ -7,7 +7,7 @@ use Rattle.ll_grammars.specs.Parses.{FirstAndFollow, Parses}
 use Rattle.ll_grammars.specs.Rules.{first_and_others, second, word, listed}
 use Rattle.ll_grammars.proofs.Steps.{then_shape, maybe_shape}
 use Rattle.ll_grammars.proofs.Repeats.{many_shape}
-use Rattle.ll_grammars.proofs.Combined.{row, value, option, repeat, a_word, word_shape, next_shape, listed_shape}
+use Rattle.ll_grammars.proofs.Combined.{in_sequence, with_value, option, repeat, a_word, word_shape, next_shape, listed_shape}
 use Rattle.query_grammar.specs.declared.tree.CondNode.{CondNode}
 use Rattle.query_grammar.specs.Values.{source, join, part, query}
 use Rattle.query_grammar.specs.Grammar.{TableReference, QualifiedJoin, FromPart, WhereClause, QueryOf}
@@ -21,7 +21,7 @@ source_shape = then_shape name_shape new_name_shape
 
 pub reads_source : Parses TableReference source_shape read_source
 unfolding read_source
-reads_source = value source (row reads_name reads_new_name refl)
+reads_source = with_value source (in_sequence reads_name reads_new_name refl)
 
 abbrev pub join_shape : FirstAndFollow
 join_shape = then_shape (maybe_shape (word_shape terminal.Inner)) (then_shape (word_shape terminal.Join) (then_shape source_shape (then_shape (word_shape terminal.On) cond_shape)))
@@ -41,7 +41,7 @@ query_shape = then_shape (word_shape terminal.Select) (then_shape outs_shape (th
 module _ {C : Language CondNode} {c : Parser CondNode} (reads : Parses C cond_shape c) where
   pub reads_join : Parses (QualifiedJoin C) join_shape (read_join c)
   unfolding read_join
-  reads_join = value join (row (option (a_word terminal.Inner refl) refl) (row (a_word terminal.Join refl) (row reads_source (row (a_word terminal.On refl) reads refl) refl) refl) refl)
+  reads_join = with_value join (in_sequence (option (a_word terminal.Inner refl) refl) (in_sequence (a_word terminal.Join refl) (in_sequence reads_source (in_sequence (a_word terminal.On refl) reads refl) refl) refl) refl)
 
   pub reads_joins : Parses (many (QualifiedJoin C)) (many_shape join_shape) (read_joins c)
   unfolding read_joins
@@ -49,19 +49,19 @@ module _ {C : Language CondNode} {c : Parser CondNode} (reads : Parses C cond_sh
 
   pub reads_part : Parses (FromPart C) part_shape (read_part c)
   unfolding read_part
-  reads_part = value part (row reads_source reads_joins refl)
+  reads_part = with_value part (in_sequence reads_source reads_joins refl)
 
   pub reads_next_part : Parses (mapped second (word terminal.Comma ▸ FromPart C)) (next_shape terminal.Comma part_shape) (read_next_part c)
   unfolding read_next_part
-  reads_next_part = value second (row (a_word terminal.Comma refl) reads_part refl)
+  reads_next_part = with_value second (in_sequence (a_word terminal.Comma refl) reads_part refl)
 
   pub reads_parts : Parses (listed terminal.Comma (FromPart C)) parts_shape (read_parts c)
   unfolding read_parts
-  reads_parts = value first_and_others (row reads_part (repeat reads_next_part refl refl) refl)
+  reads_parts = with_value first_and_others (in_sequence reads_part (repeat reads_next_part refl refl) refl)
 
   pub reads_where : Parses (mapped second (word terminal.Where ▸ C)) where_shape (read_condition_after_where c)
   unfolding read_condition_after_where
-  reads_where = value second (row (a_word terminal.Where refl) reads refl)
+  reads_where = with_value second (in_sequence (a_word terminal.Where refl) reads refl)
 
   pub reads_filter : Parses (WhereClause C) (maybe_shape where_shape) (read_filter c)
   unfolding read_filter
@@ -69,4 +69,4 @@ module _ {C : Language CondNode} {c : Parser CondNode} (reads : Parses C cond_sh
 
   pub reads_query : Parses (QueryOf C) query_shape (read_query c)
   unfolding read_query
-  reads_query = value query (row (a_word terminal.Select refl) (row reads_outs (row (a_word terminal.From refl) (row reads_parts (row reads_filter (option (a_word terminal.Semicolon refl) refl) refl) refl) refl) refl) refl)
+  reads_query = with_value query (in_sequence (a_word terminal.Select refl) (in_sequence reads_outs (in_sequence (a_word terminal.From refl) (in_sequence reads_parts (in_sequence reads_filter (option (a_word terminal.Semicolon refl) refl) refl) refl) refl) refl) refl)

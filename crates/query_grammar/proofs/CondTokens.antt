@@ -11,10 +11,10 @@ use Rattle.query_grammar.specs.declared.tree.CondNode.TheOpen as layer
 use Rattle.query_grammar.specs.Lexemes.{IsTestWith, IsLayerWith, IsCondWith}
 
 -- a condition with the fact that its tokens have P. The lemmas go over lists of these pairs
-abbrev Held : (Lexeme → Type 0) → Type 0
-Held P = (c : CondNode) × IsCondWith P c
+abbrev CondWithTokens : (Lexeme → Type 0) → Type 0
+CondWithTokens P = (c : CondNode) × IsCondWith P c
 
-paired : (P : Lexeme → Type 0) (cs : List CondNode) → All (IsCondWith P) cs → (held : List (Held P)) × (map (λ (e : Held P). e.0) held ≡ cs)
+paired : (P : Lexeme → Type 0) (cs : List CondNode) → All (IsCondWith P) cs → (held : List (CondWithTokens P)) × (map (λ (e : CondWithTokens P). e.0) held ≡ cs)
 paired P [] h = ([], refl)
 paired P (c ∷ cs) h =
     let others = paired P cs (All-tail (IsCondWith P) c cs h) in
@@ -39,21 +39,21 @@ module _ (P : Lexeme → Type 0) where
 
 -- ---- the conditions in a list of these pairs have tokens with P
 
-unpaired : (P : Lexeme → Type 0) (held : List (Held P)) → All (IsCondWith P) (map (λ (e : Held P). e.0) held)
+unpaired : (P : Lexeme → Type 0) (held : List (CondWithTokens P)) → All (IsCondWith P) (map (λ (e : CondWithTokens P). e.0) held)
 unpaired P [] = All-nil (IsCondWith P)
-unpaired P (e ∷ held) = All-cons (IsCondWith P) e.0 (map (λ (e : Held P). e.0) held) e.1 (unpaired P held)
+unpaired P (e ∷ held) = All-cons (IsCondWith P) e.0 (map (λ (e : CondWithTokens P). e.0) held) e.1 (unpaired P held)
 
 module _ (P : Lexeme → Type 0) where
-  abbrev shown : CondNode-F (Held P) → CondNode-F CondNode
-  shown x = map-CondNode (Held P) CondNode (λ e. e.0) x
+  abbrev shown : CondNode-F (CondWithTokens P) → CondNode-F CondNode
+  shown x = map-CondNode (CondWithTokens P) CondNode (λ e. e.0) x
 
   out_and : (cs : List CondNode) → out-CondNode (cond.And cs) ≡ layer.And cs
   out_and cs = ap out-CondNode (sym (rolls-And cs)) ∙ out-roll-CondNode (layer.And cs)
 
   pub members_of_and : (cs : List CondNode) → IsCondWith P (cond.And cs) → All (IsCondWith P) cs
   members_of_and cs h = let k = every_held-CondNode (IsLayerWith P) (cond.And cs) h in at k.0 (k.1 ∙ out_and cs) where
-    at : (x : CondNode-F (Held P)) → shown x ≡ layer.And cs → All (IsCondWith P) cs
-    at (layer.And held) e = subst (All (IsCondWith P)) (let k : map (λ (e : Held P). e.0) held ≡ cs = cc in k) (unpaired P held)
+    at : (x : CondNode-F (CondWithTokens P)) → shown x ≡ layer.And cs → All (IsCondWith P) cs
+    at (layer.And held) e = subst (All (IsCondWith P)) (let k : map (λ (e : CondWithTokens P). e.0) held ≡ cs = cc in k) (unpaired P held)
     at (layer.Or held) e = absurd cc
     at (layer.Not c) e = absurd cc
     at (layer.Test t) e = absurd cc
@@ -63,9 +63,9 @@ module _ (P : Lexeme → Type 0) where
 
   pub members_of_or : (cs : List CondNode) → IsCondWith P (cond.Or cs) → All (IsCondWith P) cs
   members_of_or cs h = let k = every_held-CondNode (IsLayerWith P) (cond.Or cs) h in at k.0 (k.1 ∙ out_or cs) where
-    at : (x : CondNode-F (Held P)) → shown x ≡ layer.Or cs → All (IsCondWith P) cs
+    at : (x : CondNode-F (CondWithTokens P)) → shown x ≡ layer.Or cs → All (IsCondWith P) cs
     at (layer.And held) e = absurd cc
-    at (layer.Or held) e = subst (All (IsCondWith P)) (let k : map (λ (e : Held P). e.0) held ≡ cs = cc in k) (unpaired P held)
+    at (layer.Or held) e = subst (All (IsCondWith P)) (let k : map (λ (e : CondWithTokens P). e.0) held ≡ cs = cc in k) (unpaired P held)
     at (layer.Not c) e = absurd cc
     at (layer.Test t) e = absurd cc
 
@@ -74,7 +74,7 @@ module _ (P : Lexeme → Type 0) where
 
   pub inner_of_not : (c : CondNode) → IsCondWith P (cond.Not c) → IsCondWith P c
   inner_of_not c h = let k = every_held-CondNode (IsLayerWith P) (cond.Not c) h in at k.0 (k.1 ∙ out_not c) where
-    at : (x : CondNode-F (Held P)) → shown x ≡ layer.Not c → IsCondWith P c
+    at : (x : CondNode-F (CondWithTokens P)) → shown x ≡ layer.Not c → IsCondWith P c
     at (layer.And held) e = absurd cc
     at (layer.Or held) e = absurd cc
     at (layer.Not held) e = subst (IsCondWith P) (let k : held.0 ≡ c = cc in k) held.1

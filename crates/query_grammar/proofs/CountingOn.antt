@@ -25,8 +25,8 @@ larger_is a b larger e = e ∙ same where
   same : ord_max nat_cmp a b ≡ max a b
   same = search rules
 
-pub count_few : (tokens : List Lexeme) (i n next : ℕ) (d : Lexeme) → next ≡ open_after n (get_or tokens i d) → n ≤ i → next ≤ i + 1
-count_few tokens i n next d e le = let step = behind_le n (get_or tokens i d) in omega arith
+pub open_count_within_index : (tokens : List Lexeme) (i n next : ℕ) (d : Lexeme) → next ≡ open_after n (get_or tokens i d) → n ≤ i → next ≤ i + 1
+open_count_within_index tokens i n next d e le = let step = behind_le n (get_or tokens i d) in omega arith
 
 pub count_on : (tokens : List Lexeme) (i n m next more total : ℕ) (d : Lexeme) → i < length tokens → next ≡ open_after n (get_or tokens i d) → more ≡ max m next → n ≤ m
     → max m (nesting_from n (drop i tokens)) ≡ total → max more (nesting_from next (drop (i + 1) tokens)) ≡ total

@@ -38,17 +38,17 @@ opened : (n : ℕ) (x : Lexeme) (rest : List Lexeme) → among (terminal.Open �
 unfolding read_test read_inside
 opened n x rest h = rw h refl
 
--- ---- parsers on token lists whose nesting, with n open parentheses before them, is at most `limit`
+-- ---- parsers on tokens that follow n open parentheses and are nested at most `limit` deep, counting these
 
-abbrev pub Within : ℕ → ℕ → List Lexeme → Type 0
-Within n limit text = nesting_from n text ≤ limit
+abbrev pub IsNestedWithin : ℕ → ℕ → List Lexeme → Type 0
+IsNestedWithin n limit text = nesting_from n text ≤ limit
 
-stays_within : {A : Type 0} {L : Language A} {s : FirstAndFollow} {p : Parser A} (n limit : ℕ) → Parses L s p → IsBalanced L → StaysIn (Within n limit) p
-stays_within n limit reads balanced = stays (Within n limit) reads (λ front rest value l h. let less = balanced.closes front value l n rest in omega arith)
+stays_within : {A : Type 0} {L : Language A} {s : FirstAndFollow} {p : Parser A} (n limit : ℕ) → Parses L s p → IsBalanced L → StaysIn (IsNestedWithin n limit) p
+stays_within n limit reads balanced = stays (IsNestedWithin n limit) reads (λ front rest value l h. let less = balanced.closes front value l n rest in omega arith)
 
-module _ {T : Language CondNode} {t : Parser CondNode} (t' : Parser CondNode) (reads : Parses T test_shape t) (balanced : IsBalanced T) (n limit : ℕ) (same : AreAlikeOn (Within n limit) t t') where
+module _ {T : Language CondNode} {t : Parser CondNode} (t' : Parser CondNode) (reads : Parses T test_shape t) (balanced : IsBalanced T) (n limit : ℕ) (same : AreAlikeOn (IsNestedWithin n limit) t t') where
   abbrev P : List Lexeme → Type 0
-  P = Within n limit
+  P = IsNestedWithin n limit
 
   factor_alike : AreAlikeOn P (read_factor t) (read_factor t')
   unfolding read_factor
@@ -80,16 +80,16 @@ module _ {T : Language CondNode} {t : Parser CondNode} (t' : Parser CondNode) (r
   unfolding read_cond
   cond_alike = made_alike P any_of _ _ terms_alike
 
-inside_alike : (n limit : ℕ) (c c' : Parser CondNode) → StaysIn (Within (suc n) limit) c → AreAlikeOn (Within (suc n) limit) c c' → (x : Lexeme) (rest : List Lexeme) → among (terminal.Open ∷ []) x.terminal ≡ true → Within n limit (x ∷ rest)
+inside_alike : (n limit : ℕ) (c c' : Parser CondNode) → StaysIn (IsNestedWithin (suc n) limit) c → AreAlikeOn (IsNestedWithin (suc n) limit) c c' → (x : Lexeme) (rest : List Lexeme) → among (terminal.Open ∷ []) x.terminal ≡ true → IsNestedWithin n limit (x ∷ rest)
     → read_in_parentheses c (x ∷ rest) ≡ read_in_parentheses c' (x ∷ rest)
 inside_alike n limit c c' stay same x rest h within =
     let behind : nesting_from (suc n) rest ≤ nesting_from n (x ∷ rest) = subst (λ k. nesting_from k rest ≤ nesting_from n (x ∷ rest)) (opens_one n x h) (nesting-open_after n x rest) in
-    let deeper : Within (suc n) limit rest = omega arith in
+    let deeper : IsNestedWithin (suc n) limit rest = omega arith in
     let e : read_then c (read_word terminal.Close) rest ≡ read_then c' (read_word terminal.Close) rest =
-    then_alike (Within (suc n) limit) c c' (read_word terminal.Close) (read_word terminal.Close) stay same (itself_alike (Within (suc n) limit) (read_word terminal.Close)) rest deeper in
+    then_alike (IsNestedWithin (suc n) limit) c c' (read_word terminal.Close) (read_word terminal.Close) stay same (itself_alike (IsNestedWithin (suc n) limit) (read_word terminal.Close)) rest deeper in
     rw h (ap (λ (y : Answer (CondNode × Lexeme)). (y >>= λ b. give (x, b)) >>= λ parts. give (middle parts)) e)
 
-deeper_alike : (a b n limit : ℕ) → AreAlikeOn (Within (suc n) limit) (read_test a) (read_test b) → (text : List Lexeme) → Within n limit text → (opens : Bool) → starts (terminal.Open ∷ []) text ≡ opens → read_test (suc a) text ≡ read_test (suc b) text
+deeper_alike : (a b n limit : ℕ) → AreAlikeOn (IsNestedWithin (suc n) limit) (read_test a) (read_test b) → (text : List Lexeme) → IsNestedWithin n limit text → (opens : Bool) → starts (terminal.Open ∷ []) text ≡ opens → read_test (suc a) text ≡ read_test (suc b) text
 deeper_alike a b n limit same text within false e = test_flat (suc a) text e ∙ sym (test_flat (suc b) text e)
 deeper_alike a b n limit same [] within true e = absurd cc
 deeper_alike a b n limit same (x ∷ rest) within true e =
@@ -97,7 +97,7 @@ deeper_alike a b n limit same (x ∷ rest) within true e =
     let stay = stays_within (suc n) limit (reads_cond (reads_test a)) (conds_balanced (tests_balanced a)) in
     opened a x rest e ∙ inside_alike n limit (read_cond (read_test a)) (read_cond (read_test b)) stay alike x rest e within ∙ sym (opened b x rest e)
 
-pub test_alike : (a b n limit : ℕ) → limit ≤ n + a → limit ≤ n + b → AreAlikeOn (Within n limit) (read_test a) (read_test b)
+pub test_alike : (a b n limit : ℕ) → limit ≤ n + a → limit ≤ n + b → AreAlikeOn (IsNestedWithin n limit) (read_test a) (read_test b)
 test_alike zero b n limit le le' text within = let h = none_opens n limit text (omega arith) within in test_flat zero text h ∙ sym (test_flat b text h)
 test_alike (suc a) zero n limit le le' text within = let h = none_opens n limit text (omega arith) within in test_flat (suc a) text h ∙ sym (test_flat zero text h)
 test_alike (suc a) (suc b) n limit le le' text within = deeper_alike a b n limit (test_alike a b (suc n) limit (omega arith) (omega arith)) text within (starts (terminal.Open ∷ []) text) refl

@@ -6,7 +6,7 @@ use Rattle.ll_grammars.specs.declared.terminal.Terminal.TheVariants as terminal
 use Rattle.ll_grammars.specs.Language.{Language}
 use Rattle.ll_grammars.specs.Preserving.{Preserves}
 use Rattle.ll_grammars.proofs.Preserving.{preserves_one, preserves_then, preserves_mapped, preserves_union, preserves_maybe, preserves_many, kept_of_text}
-use Rattle.ll_grammars.proofs.PreservingRules.{preserves_any, preserves_word, preserves_behind, preserves_listed, preserves_inside}
+use Rattle.ll_grammars.proofs.PreservingRules.{preserves_any, preserves_word, preserves_after_word, preserves_listed, preserves_inside}
 use Rattle.query_grammar.specs.declared.tree.CondNode.{CondNode}
 use Rattle.query_grammar.specs.declared.tree.QueryNode.{QueryNode}
 use Rattle.query_grammar.specs.Values.{column, number, text, of_column, of_literal, comparison, between, among_values, tested, negate, all_of, any_of, source, join, part, all_columns, one_column, everything, these_outs, query}
@@ -26,7 +26,7 @@ module _ (P : Lexeme → Type 0) where
   column_made first (Some other) h k = (h, k)
 
   column_of : Preserves P ColumnReference (IsColumnWith P)
-  column_of = preserves_mapped column (IsColumnWith P) (preserves_then name (preserves_maybe (preserves_behind terminal.Dot name))) (λ parts q. column_made parts.0 parts.1 q.0 q.1)
+  column_of = preserves_mapped column (IsColumnWith P) (preserves_then name (preserves_maybe (preserves_after_word terminal.Dot name))) (λ parts q. column_made parts.0 parts.1 q.0 q.1)
 
   literal_of : Preserves P Literal (IsLiteralWith P)
   literal_of =
@@ -109,11 +109,11 @@ module _ (P : Lexeme → Type 0) where
       (preserves_then outs_of
       (preserves_then (preserves_word P terminal.From)
       (preserves_then (preserves_listed terminal.Comma part_of)
-      (preserves_then (preserves_maybe (preserves_behind terminal.Where search_condition)) (preserves_maybe (preserves_word P terminal.Semicolon)))))))
+      (preserves_then (preserves_maybe (preserves_after_word terminal.Where search_condition)) (preserves_maybe (preserves_word P terminal.Semicolon)))))))
       (λ parts q. (q.1.0, q.1.1.1.0, q.1.1.1.1.0))
 
-pub from_text : (tokens : List Lexeme) (tree : QueryNode) → QuerySpecification tokens tree → IsQueryWith (Contains tokens) tree
-from_text tokens tree l = kept_of_text IsQueryWith query_of tokens tree l
+pub query_has_text_tokens : (tokens : List Lexeme) (tree : QueryNode) → QuerySpecification tokens tree → IsQueryWith (Contains tokens) tree
+query_has_text_tokens tokens tree l = kept_of_text IsQueryWith query_of tokens tree l
 
-pub is_query_of : (P : Lexeme → Type 0) (tokens : List Lexeme) (tree : QueryNode) → QuerySpecification tokens tree → All P tokens → IsQueryWith P tree
-is_query_of P tokens tree l h = (query_of P).kept tokens tree l h
+pub query_with_tokens : (P : Lexeme → Type 0) (tokens : List Lexeme) (tree : QueryNode) → QuerySpecification tokens tree → All P tokens → IsQueryWith P tree
+query_with_tokens P tokens tree l h = (query_of P).kept tokens tree l h

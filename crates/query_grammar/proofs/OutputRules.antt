@@ -8,7 +8,7 @@ use Rattle.ll_grammars.specs.Parses.{FirstAndFollow, Parses}
 use Rattle.ll_grammars.specs.Rules.{first_and_others, second, word, listed}
 use Rattle.ll_grammars.proofs.Steps.{then_shape, either_shape}
 use Rattle.ll_grammars.proofs.Otherwise.{otherwise_shape, otherwise}
-use Rattle.ll_grammars.proofs.Combined.{row, value, choice, repeat, a_word, word_shape, next_shape, listed_shape, reads_same}
+use Rattle.ll_grammars.proofs.Combined.{in_sequence, with_value, choice, repeat, a_word, word_shape, next_shape, listed_shape, reads_same}
 use Rattle.query_grammar.specs.declared.tree.ColumnNode.{ColumnNode}
 use Rattle.query_grammar.specs.declared.tree.OutNode.{OutNode}
 use Rattle.query_grammar.specs.declared.tree.OutNode.TheVariants as out
@@ -126,26 +126,26 @@ dotted_out_shape = then_shape (word_shape terminal.Dot) (either_shape (word_shap
 
 pub reads_dotted_out : Parses Dotted dotted_out_shape read_dotted_out
 unfolding read_dotted_out
-reads_dotted_out = value second (row (a_word terminal.Dot refl) (choice (value star_of (a_word terminal.Star refl)) (value qualified (row reads_name reads_new_name refl)) refl refl refl) refl)
+reads_dotted_out = with_value second (in_sequence (a_word terminal.Dot refl) (choice (with_value star_of (a_word terminal.Star refl)) (with_value qualified (in_sequence reads_name reads_new_name refl)) refl refl refl) refl)
 
 abbrev pub out_shape : FirstAndFollow
 out_shape = then_shape name_shape (otherwise_shape dotted_out_shape new_name_shape)
 
 pub reads_out : Parses SelectSublist out_shape read_out
 unfolding read_out
-reads_out = reads_same to_outs from_outs (value apply_to_beginning (row reads_name (otherwise reads_dotted_out (value plain reads_new_name) refl refl) refl))
+reads_out = reads_same to_outs from_outs (with_value apply_to_beginning (in_sequence reads_name (otherwise reads_dotted_out (with_value plain reads_new_name) refl refl) refl))
 
 pub reads_next_out : Parses (mapped second (word terminal.Comma ▸ SelectSublist)) (next_shape terminal.Comma out_shape) read_next_out
 unfolding read_next_out
-reads_next_out = value second (row (a_word terminal.Comma refl) reads_out refl)
+reads_next_out = with_value second (in_sequence (a_word terminal.Comma refl) reads_out refl)
 
 pub reads_listed_outs : Parses (listed terminal.Comma SelectSublist) (listed_shape terminal.Comma out_shape) read_listed_outs
 unfolding read_listed_outs
-reads_listed_outs = value first_and_others (row reads_out (repeat reads_next_out refl refl) refl)
+reads_listed_outs = with_value first_and_others (in_sequence reads_out (repeat reads_next_out refl refl) refl)
 
 abbrev pub outs_shape : FirstAndFollow
 outs_shape = either_shape (word_shape terminal.Star) (listed_shape terminal.Comma out_shape)
 
 pub reads_outs : Parses SelectList outs_shape read_outs
 unfolding read_outs
-reads_outs = choice (value everything (a_word terminal.Star refl)) (value these_outs reads_listed_outs) refl refl refl
+reads_outs = choice (with_value everything (a_word terminal.Star refl)) (with_value these_outs reads_listed_outs) refl refl refl

@@ -1,5 +1,5 @@
 -- The parser of predicates reads its rule. The left operand is read before it is known which predicate follows. So the parser follows a rule in which
--- this operand is a common beginning (`Factored`). The rule has the same texts as the grammar's.
+-- this operand is a common beginning (`Factored`). This rule has the same texts as the grammar's rule.
 use Rattle.std.proofs.Common.{◌≡◌, Bool, List, inl, inr, refl, ap, ◌∙◌}
 use Rattle.ll_grammars.specs.declared.lexeme.Lexeme.{Lexeme}
 use Rattle.ll_grammars.specs.declared.terminal.Terminal.TheVariants as terminal
@@ -7,7 +7,7 @@ use Rattle.ll_grammars.specs.Language.{Language, Then, ◌▸◌, mapped, ◌∪
 use Rattle.ll_grammars.specs.Parses.{FirstAndFollow, Parses}
 use Rattle.ll_grammars.specs.Rules.{word}
 use Rattle.ll_grammars.proofs.Steps.{then_shape, either_shape}
-use Rattle.ll_grammars.proofs.Combined.{row, value, choice, a_word, word_shape, reads_same}
+use Rattle.ll_grammars.proofs.Combined.{in_sequence, with_value, choice, a_word, word_shape, reads_same}
 use Rattle.query_grammar.specs.declared.tree.OperandNode.{OperandNode}
 use Rattle.query_grammar.specs.declared.tree.TestNode.{TestNode}
 use Rattle.query_grammar.specs.Values.{tested}
@@ -85,12 +85,12 @@ predicate_shape = then_shape operand_shape (either_shape (then_shape operator_sh
 pub reads_predicate : Parses Predicate predicate_shape read_predicate
 unfolding read_predicate
 reads_predicate =
-    let between_ = row (a_word terminal.Between refl) (row reads_operand (row (a_word terminal.And refl) reads_operand refl) refl) refl in
-    let in_ = row (a_word terminal.In refl) reads_value_list refl in
-    let behind_not_ = choice (value ranged between_) (value listed_in in_) refl refl refl in
-    let compared_ = row reads_operator reads_operand refl in
-    reads_same to_predicates from_predicates (value apply_to_beginning (row reads_operand (choice (value compare compared_) (value apply_to_beginning (row reads_negation behind_not_ refl)) refl refl refl) refl))
+    let between_ = in_sequence (a_word terminal.Between refl) (in_sequence reads_operand (in_sequence (a_word terminal.And refl) reads_operand refl) refl) refl in
+    let in_ = in_sequence (a_word terminal.In refl) reads_value_list refl in
+    let behind_not_ = choice (with_value ranged between_) (with_value listed_in in_) refl refl refl in
+    let compared_ = in_sequence reads_operator reads_operand refl in
+    reads_same to_predicates from_predicates (with_value apply_to_beginning (in_sequence reads_operand (choice (with_value compare compared_) (with_value apply_to_beginning (in_sequence reads_negation behind_not_ refl)) refl refl refl) refl))
 
 pub reads_flat : Parses (mapped tested Predicate) predicate_shape read_flat
 unfolding read_flat
-reads_flat = value tested reads_predicate
+reads_flat = with_value tested reads_predicate

@@ -29,16 +29,16 @@ reads_queries = reads_query reads_condition
 
 -- ---- a parser with enough depth for the tokens reads the same as the parser without a limit
 
-abbrev Shallow : ℕ → List Lexeme → Type 0
-Shallow n text = nesting text ≤ n
+abbrev IsNestedWithin : ℕ → List Lexeme → Type 0
+IsNestedWithin n text = nesting text ≤ n
 
-stays_shallow : {A : Type 0} {L : Language A} {s : FirstAndFollow} {p : Parser A} (n : ℕ) → Parses L s p → StaysIn (Shallow n) p
+stays_nested_within : {A : Type 0} {L : Language A} {s : FirstAndFollow} {p : Parser A} (n : ℕ) → Parses L s p → StaysIn (IsNestedWithin n) p
 unfolding nesting
-stays_shallow n reads = stays (Shallow n) reads (λ front rest value l h. let less = nesting-rest front rest in omega arith)
+stays_nested_within n reads = stays (IsNestedWithin n) reads (λ front rest value l h. let less = nesting-rest front rest in omega arith)
 
 module _ (n : ℕ) where
   abbrev P : List Lexeme → Type 0
-  P = Shallow n
+  P = IsNestedWithin n
 
   abbrev c : Parser CondNode
   c = read_within n
@@ -53,30 +53,30 @@ module _ (n : ℕ) where
   join_alike : AreAlikeOn P (read_join c) (read_join d)
   unfolding read_join
   join_alike =
-      made_alike P join _ _ (then_alike P _ _ _ _ (stays_shallow n (option (a_word terminal.Inner refl) refl)) (itself_alike P _)
-      (then_alike P _ _ _ _ (stays_shallow n (a_word terminal.Join refl)) (itself_alike P _)
-      (then_alike P _ _ _ _ (stays_shallow n reads_source) (itself_alike P _)
-      (then_alike P _ _ _ _ (stays_shallow n (a_word terminal.On refl)) (itself_alike P _) condition_alike))))
+      made_alike P join _ _ (then_alike P _ _ _ _ (stays_nested_within n (option (a_word terminal.Inner refl) refl)) (itself_alike P _)
+      (then_alike P _ _ _ _ (stays_nested_within n (a_word terminal.Join refl)) (itself_alike P _)
+      (then_alike P _ _ _ _ (stays_nested_within n reads_source) (itself_alike P _)
+      (then_alike P _ _ _ _ (stays_nested_within n (a_word terminal.On refl)) (itself_alike P _) condition_alike))))
 
   joins_alike : AreAlikeOn P (read_joins c) (read_joins d)
   unfolding read_joins
-  joins_alike = many_alike P _ _ _ (stays_shallow n (reads_join (reads_within n))) join_alike
+  joins_alike = many_alike P _ _ _ (stays_nested_within n (reads_join (reads_within n))) join_alike
 
   part_alike : AreAlikeOn P (read_part c) (read_part d)
   unfolding read_part
-  part_alike = made_alike P part _ _ (then_alike P _ _ _ _ (stays_shallow n reads_source) (itself_alike P _) joins_alike)
+  part_alike = made_alike P part _ _ (then_alike P _ _ _ _ (stays_nested_within n reads_source) (itself_alike P _) joins_alike)
 
   next_part_alike : AreAlikeOn P (read_next_part c) (read_next_part d)
   unfolding read_next_part
-  next_part_alike = made_alike P second _ _ (then_alike P _ _ _ _ (stays_shallow n (a_word terminal.Comma refl)) (itself_alike P _) part_alike)
+  next_part_alike = made_alike P second _ _ (then_alike P _ _ _ _ (stays_nested_within n (a_word terminal.Comma refl)) (itself_alike P _) part_alike)
 
   parts_alike : AreAlikeOn P (read_parts c) (read_parts d)
   unfolding read_parts
-  parts_alike = made_alike P first_and_others _ _ (then_alike P _ _ _ _ (stays_shallow n (reads_part (reads_within n))) part_alike (many_alike P _ _ _ (stays_shallow n (reads_next_part (reads_within n))) next_part_alike))
+  parts_alike = made_alike P first_and_others _ _ (then_alike P _ _ _ _ (stays_nested_within n (reads_part (reads_within n))) part_alike (many_alike P _ _ _ (stays_nested_within n (reads_next_part (reads_within n))) next_part_alike))
 
   where_alike : AreAlikeOn P (read_condition_after_where c) (read_condition_after_where d)
   unfolding read_condition_after_where
-  where_alike = made_alike P second _ _ (then_alike P _ _ _ _ (stays_shallow n (a_word terminal.Where refl)) (itself_alike P _) condition_alike)
+  where_alike = made_alike P second _ _ (then_alike P _ _ _ _ (stays_nested_within n (a_word terminal.Where refl)) (itself_alike P _) condition_alike)
 
   filter_alike : AreAlikeOn P (read_filter c) (read_filter d)
   unfolding read_filter
@@ -85,11 +85,11 @@ module _ (n : ℕ) where
   pub query_alike : AreAlikeOn P (read_query c) (read_query d)
   unfolding read_query
   query_alike =
-      made_alike P query _ _ (then_alike P _ _ _ _ (stays_shallow n (a_word terminal.Select refl)) (itself_alike P _)
-      (then_alike P _ _ _ _ (stays_shallow n reads_outs) (itself_alike P _)
-      (then_alike P _ _ _ _ (stays_shallow n (a_word terminal.From refl)) (itself_alike P _)
-      (then_alike P _ _ _ _ (stays_shallow n (reads_parts (reads_within n))) parts_alike
-      (then_alike P _ _ _ _ (stays_shallow n (reads_filter (reads_within n))) filter_alike (itself_alike P _))))))
+      made_alike P query _ _ (then_alike P _ _ _ _ (stays_nested_within n (a_word terminal.Select refl)) (itself_alike P _)
+      (then_alike P _ _ _ _ (stays_nested_within n reads_outs) (itself_alike P _)
+      (then_alike P _ _ _ _ (stays_nested_within n (a_word terminal.From refl)) (itself_alike P _)
+      (then_alike P _ _ _ _ (stays_nested_within n (reads_parts (reads_within n))) parts_alike
+      (then_alike P _ _ _ _ (stays_nested_within n (reads_filter (reads_within n))) filter_alike (itself_alike P _))))))
 
 -- ---- the results of the parser
 

@@ -33,7 +33,7 @@ precedence =
     ∷ token terminal.Name 29 30 ∷ token terminal.Equal 30 31 ∷ token terminal.Number 31 32 ∷ token terminal.And 33 36
     ∷ token terminal.Not 37 40 ∷ token terminal.Name 41 42 ∷ token terminal.Equal 42 43 ∷ token terminal.Number 43 44 ∷ []
 
--- AND binds tighter than OR, and NOT applies to the one test that follows it
+-- AND binds tighter than OR, and NOT applies only to the next test
 abbrev pub precedence_tree : QueryNode
 precedence_tree =
     all_where (token terminal.Name 14 15) (cond.Or (equals (token terminal.Name 22 23) (token terminal.Number 24 25)

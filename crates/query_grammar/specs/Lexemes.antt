@@ -43,7 +43,7 @@ IsTestWith P (test.Compare left op right) = IsOperandWith P left × IsOperandWit
 IsTestWith P (test.Between left negated low high) = IsOperandWith P left × IsOperandWith P low × IsOperandWith P high
 IsTestWith P (test.In left negated values) = IsOperandWith P left × All (IsLiteralWith P) values
 
--- a condition without its members: a test's tokens have P, and AND, OR and NOT have no tokens of their own
+-- one node of a condition, without its members: the tokens of a test have P, and AND, OR and NOT keep no tokens
 abbrev pub IsLayerWith : (Lexeme → Type 0) → CondNode-F CondNode → Type 0
 IsLayerWith P (layer.And members) = ⊤
 IsLayerWith P (layer.Or members) = ⊤

@@ -1,5 +1,5 @@
--- A parser for each rule of the grammar, with one token of look-ahead. If the alternatives of a rule have a common beginning, it is read first. Each
--- alternative then gives a function, which is applied to the beginning's value.
+-- A parser for each rule of the grammar, with one token of look-ahead. If the alternatives of a rule begin with the same part, this part is read
+-- first. Each alternative then gives a function, which is applied to the value of this part.
 use Rattle.std.specs.Prelude.{ℕ, zero, suc, Bool, Option, Some, None, List, [], ◌∷◌}
 use Rattle.ll_grammars.specs.declared.lexeme.Lexeme.{Lexeme}
 use Rattle.ll_grammars.specs.declared.terminal.Terminal.{Terminal}
@@ -25,7 +25,7 @@ use Rattle.query_grammar.specs.Values.{is_written, constant, column, number, tex
 use Rattle.query_grammar.specs.Nesting.{nesting}
 use Rattle.query_grammar.specs.Grammar.{name_terminals, sign_terminals, digit_terminals}
 
--- ---- the value of an alternative, as a function of the beginning's value
+-- ---- the value of an alternative, as a function of the value of the common beginning
 
 abbrev pub apply_to_beginning : {A B : Type 0} → A × (A → B) → B
 apply_to_beginning parts = parts.1 parts.0
@@ -97,16 +97,16 @@ read_literal = read_either number_first read_number (read_mapped text (read_word
 unfoldable pub read_operand : Parser OperandNode
 read_operand = read_either name_terminals (read_mapped of_column read_column) (read_mapped of_literal read_literal)
 
-abbrev pub read_meaning : Terminal → Op → Parser Op
-read_meaning t value = read_mapped (constant value) (read_word t)
+abbrev pub read_constant : Terminal → Op → Parser Op
+read_constant t value = read_mapped (constant value) (read_word t)
 
 unfoldable pub read_operator : Parser Op
-read_operator = read_either (terminal.Equal ∷ []) (read_meaning terminal.Equal op.Eq)
-    (read_either (terminal.NotEqual ∷ []) (read_meaning terminal.NotEqual op.Ne)
-    (read_either (terminal.Less ∷ []) (read_meaning terminal.Less op.Lt)
-    (read_either (terminal.LessOrEqual ∷ []) (read_meaning terminal.LessOrEqual op.Le)
-    (read_either (terminal.Greater ∷ []) (read_meaning terminal.Greater op.Gt)
-    (read_meaning terminal.GreaterOrEqual op.Ge)))))
+read_operator = read_either (terminal.Equal ∷ []) (read_constant terminal.Equal op.Eq)
+    (read_either (terminal.NotEqual ∷ []) (read_constant terminal.NotEqual op.Ne)
+    (read_either (terminal.Less ∷ []) (read_constant terminal.Less op.Lt)
+    (read_either (terminal.LessOrEqual ∷ []) (read_constant terminal.LessOrEqual op.Le)
+    (read_either (terminal.Greater ∷ []) (read_constant terminal.Greater op.Gt)
+    (read_constant terminal.GreaterOrEqual op.Ge)))))
 
 unfoldable pub read_negation : Parser Bool
 read_negation = read_mapped is_written (read_maybe (terminal.Not ∷ []) (read_word terminal.Not))

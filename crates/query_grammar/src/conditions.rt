@@ -1,4 +1,4 @@
-//! Reads conditions: OR, AND, NOT and parentheses. `depth` is how deep parentheses may still be nested, which bounds the recursion.
+//! Reads conditions: OR, AND, NOT and parentheses. `depth` is how deep parentheses may still be nested. It limits the recursion.
 ghost use Rattle.std.specs.Prelude.{◌≡◌, List, IfOk, IfErr};
 ghost use Rattle.ll_grammars.specs.Rules.{IsReadAs};
 ghost use Rattle.query_grammar.specs.Values.{negate, all_of, any_of};

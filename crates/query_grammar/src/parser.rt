@@ -13,9 +13,9 @@ use crate::tree::QueryNode;
 use ll_grammars::{Lexeme, Reader, Stop, SyntaxError};
 use std::alloc::Global;
 
-/// Reads the query that the tokens spell, in one pass, or finds the byte of the syntax error. This is the start of the first token that can't follow
-/// the tokens before it in any query. If the tokens end too early, it is `text_len`, the length of the text in bytes. The recursion is as deep as the
-/// parentheses are nested.
+/// Reads the query that the tokens spell, in one pass, or finds the byte of the syntax error. The error is at the start of the first token that can't
+/// follow the tokens before it in any query. If the tokens end too early, it is at `text_len`, the length of the text in bytes. The recursion is as
+/// deep as the parentheses are nested.
 #[tactic(auto, using(crate::proofs::Whole::spelled, crate::proofs::Whole::wrong_after, crate::proofs::Whole::wrong_at, crate::proofs::Whole::all_found))]
 pub fn read_query_text(
     alloc: Global,

@@ -107,7 +107,7 @@ pub enum OutsNode {
     Listed(Seq<OutNode>),
 }
 
-/// A query (SQL-92 7.9): its outputs, the parts of FROM, and the condition of WHERE (7.6).
+/// A query (SQL-92 7.9): its outputs, the items between the commas of FROM (`parts`), and the condition of WHERE (7.6).
 #[derive(Debug, Drop)]
 pub struct QueryNode {
     pub outs: OutsNode,

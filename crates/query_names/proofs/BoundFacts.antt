@@ -1,4 +1,4 @@
--- A test is checked operand by operand: facts about its bound operands give facts about the test.
+-- A test is checked operand by operand. Facts about its operands, with names resolved, give facts about the test.
 use Rattle.std.proofs.Common.{◌≡◌, ℕ, ◌+◌, ◌<◌, ◌≤◌, Bool, List, [], ◌∷◌, ◌++◌, length, map, take, get_or, Option, Some, ap, subst, sym, ◌∙◌, refl}
 use Rattle.std.specs.Prelude.{is_none}
 use Rattle.std.specs.List.{flat_map}
@@ -21,40 +21,40 @@ use Rattle.query_types.specs.Validity.{is_text}
 use Rattle.query_names.specs.declared.binder.Binder.{Binder}
 use Rattle.query_names.specs.declared.checks.LateOffences.{LateOffences}
 use Rattle.query_names.specs.declared.errors.QueryError.{QueryError}
-use Rattle.query_names.specs.declared.operands.BoundOperand.{BoundOperand}
+use Rattle.query_names.specs.declared.operands.ResolvedOperand.{ResolvedOperand}
 use Rattle.query_names.specs.declared.scope.EntryColumn.{EntryColumn}
 use Rattle.query_names.specs.declared.scope.Scope.{Scope}
-use Rattle.query_names.specs.Names.{place_if}
+use Rattle.query_names.specs.Names.{offset_if}
 use Rattle.query_names.specs.Scopes.{head_of}
-use Rattle.query_names.specs.Offences.{left_of, others_of, of_literal, differ, is_text_column, too_long}
+use Rattle.query_names.specs.Offences.{left_of, others_of, of_literal, differ, is_text_column, long_list_length}
 use Rattle.query_names.specs.Values.{resolved_column}
 use Rattle.query_names.specs.Answers.{IsNameError, or_first}
 use Rattle.query_names.specs.Binding.{schema_of, from_of, resolved_by, name_offences_of, is_text_by, kind_offence_of, test_offences_of, operand_by, compared_by}
-use Rattle.query_names.specs.Checking.{bound_literal, IsBound, Checked, CheckedTest, comparisons_by, wrong_literal, equal_to}
+use Rattle.query_names.specs.Checking.{resolved_literal, IsResolvedOperand, IsStateAfterChecks, IsStateAfterTest, comparisons_by, wrong_literal, equal_to}
 use Rattle.query_names.proofs.Walk.{error_after, name_error_append, or_first-nil}
 use Rattle.query_names.proofs.CheckFacts.{error_at_left, error_at_others, no_error, kinds_of_test}
-use Rattle.query_names.proofs.Meanings.{found_small}
+use Rattle.query_names.proofs.Meanings.{found_entry_in_8_bits}
 use Rattle.query_names.proofs.CheckSteps.{checked_of_equal, then_checked, flat_map_step}
 
 -- ---- one operand
 
 module _ (binder : Binder) (scope : Scope) where
-  pub bound_column : (reference : ColumnNode) (column : EntryColumn) (to : ColumnRef) {o : OperandNode} {text : Bool} {begins : Lexeme}
+  pub resolved_column_operand : (reference : ColumnNode) (column : EntryColumn) (to : ColumnRef) {o : OperandNode} {text : Bool} {begins : Lexeme}
       → o ≡ operand.Column reference → Some column ≡ resolved_by binder scope reference → (column.from < 256 → to ≡ resolved_column (Some column))
       → text ≡ is_text column.kind → begins ≡ head_of reference
-      → IsBound binder scope o (record { value = value.Column to; is_text = text; first = begins })
+      → IsResolvedOperand binder scope o (record { value = value.Column to; is_text = text; first = begins })
   unfolding name_offences_of is_text_by operand_by
-  bound_column reference column to {o} {text} {begins} is found fits kind here =
-      subst (λ o. IsBound binder scope o (record { value = value.Column to; is_text = text; first = begins })) (sym is) (record {
-        none = ap (λ (f : Option EntryColumn). place_if (is_none f) (head_of reference)) (sym found);
+  resolved_column_operand reference column to {o} {text} {begins} is found fits kind here =
+      subst (λ o. IsResolvedOperand binder scope o (record { value = value.Column to; is_text = text; first = begins })) (sym is) (record {
+        none = ap (λ (f : Option EntryColumn). offset_if (is_none f) (head_of reference)) (sym found);
         text = kind ∙ ap (λ (f : Option EntryColumn). is_text_column (schema_of binder) binder.text.now (from_of binder) scope f) found;
         first = here;
-        value = λ few. ap (λ (r : ColumnRef). value.Column r) (fits (found_small binder scope reference column found few) ∙ ap (λ (f : Option EntryColumn). resolved_column f) found);
+        value = λ few. ap (λ (r : ColumnRef). value.Column r) (fits (found_entry_in_8_bits binder scope reference column found few) ∙ ap (λ (f : Option EntryColumn). resolved_column f) found);
       })
 
-  pub bound_value : (l : LiteralNode) {o : OperandNode} {bound : BoundOperand} → o ≡ operand.Literal l → bound ≡ bound_literal binder.text.now l → IsBound binder scope o bound
+  pub resolved_literal_operand : (l : LiteralNode) {o : OperandNode} {bound : ResolvedOperand} → o ≡ operand.Literal l → bound ≡ resolved_literal binder.text.now l → IsResolvedOperand binder scope o bound
   unfolding name_offences_of is_text_by operand_by
-  bound_value l {o} {bound} is same = subst (λ o. IsBound binder scope o bound) (sym is) (record {
+  resolved_literal_operand l {o} {bound} is same = subst (λ o. IsResolvedOperand binder scope o bound) (sym is) (record {
     none = refl;
     text = ap (λ b. b.is_text) same;
     first = ap (λ b. b.first) same;
@@ -86,30 +86,30 @@ module _ (binder : Binder) (scope : Scope) (t : TestNode) where
 -- ---- the state after a comparison was added
 
 module _ {binder : Binder} {scope : Scope} where
-  kind_is : {left right : OperandNode} {l r : BoundOperand} → IsBound binder scope left l → IsBound binder scope right r
-      → place_if (differ l.is_text r.is_text) r.first ≡ kind_offence_of binder scope (is_text_by binder scope left) right
+  kind_is : {left right : OperandNode} {l r : ResolvedOperand} → IsResolvedOperand binder scope left l → IsResolvedOperand binder scope right r
+      → offset_if (differ l.is_text r.is_text) r.first ≡ kind_offence_of binder scope (is_text_by binder scope left) right
   unfolding kind_offence_of is_text_by
   kind_is {left} {right} {l} {r} lb rb =
-      ap (λ b. place_if (differ b r.is_text) r.first) lb.text
-      ∙ ap (λ b. place_if (differ (is_text_by binder scope left) b) r.first) rb.text
-      ∙ ap (λ token. place_if (differ (is_text_by binder scope left) (is_text_by binder scope right)) token) rb.first
+      ap (λ b. offset_if (differ b r.is_text) r.first) lb.text
+      ∙ ap (λ b. offset_if (differ (is_text_by binder scope left) b) r.first) rb.text
+      ∙ ap (λ token. offset_if (differ (is_text_by binder scope left) (is_text_by binder scope right)) token) rb.first
 
-  value_is : {left right : OperandNode} {l r : BoundOperand} (how : Op) → IsBound binder scope left l → IsBound binder scope right r → length (from_of binder) ≤ 12
+  value_is : {left right : OperandNode} {l r : ResolvedOperand} (how : Op) → IsResolvedOperand binder scope left l → IsResolvedOperand binder scope right r → length (from_of binder) ≤ 12
       → cond.Compare how l.value r.value ≡ compared_by binder scope how left right
   unfolding compared_by operand_by
   value_is {left} {right} {l} {r} how lb rb few = ap (λ v. cond.Compare how v r.value) (lb.value few) ∙ ap (λ v. cond.Compare how (operand_by binder scope left) v) (rb.value few)
 
-  bound_left : (t : TestNode) {o left : OperandNode} {l : BoundOperand} → o ≡ left_of t → left_of t ≡ left → IsBound binder scope o l → IsBound binder scope left l
-  bound_left t {l = l} from is bound = subst (λ o. IsBound binder scope o l) (from ∙ is) bound
+  bound_left : (t : TestNode) {o left : OperandNode} {l : ResolvedOperand} → o ≡ left_of t → left_of t ≡ left → IsResolvedOperand binder scope o l → IsResolvedOperand binder scope left l
+  bound_left t {l = l} from is bound = subst (λ o. IsResolvedOperand binder scope o l) (from ∙ is) bound
 
-  pub compare_checked : {t : TestNode} {o left right : OperandNode} (how : Op) {l r : BoundOperand} {held held' : LateOffences} {found found' : List Cond}
-      → t ≡ test.Compare left how right → o ≡ left_of t → IsBound binder scope o l → IsBound binder scope right r
-      → Checked binder [] (place_if (differ l.is_text r.is_text) r.first) [] held held' found found' (cond.Compare how l.value r.value ∷ [])
-      → CheckedTest binder scope t held held' found found' (comparisons_by binder scope t)
+  pub compare_checked : {t : TestNode} {o left right : OperandNode} (how : Op) {l r : ResolvedOperand} {held held' : LateOffences} {found found' : List Cond}
+      → t ≡ test.Compare left how right → o ≡ left_of t → IsResolvedOperand binder scope o l → IsResolvedOperand binder scope right r
+      → IsStateAfterChecks binder [] (offset_if (differ l.is_text r.is_text) r.first) [] held held' found found' (cond.Compare how l.value r.value ∷ [])
+      → IsStateAfterTest binder scope t held held' found found' (comparisons_by binder scope t)
   unfolding comparisons_by
   compare_checked {t} {o} {left} {right} how {l} {r} {held} {held'} {found} {found'} is from ob rb looked =
-      let lb : IsBound binder scope left l = bound_left t from (ap left_of is) ob in
-      subst (λ t. CheckedTest binder scope t held held' found found' (comparisons_by binder scope t)) (sym is)
+      let lb : IsResolvedOperand binder scope left l = bound_left t from (ap left_of is) ob in
+      subst (λ t. IsStateAfterTest binder scope t held held' found found' (comparisons_by binder scope t)) (sym is)
       (checked_of_equal
       (sym (no_error binder scope (test.Compare left how right) lb.none (ap (λ n. n ++ []) rb.none)))
       (kind_is lb rb ∙ sym (append-nil (kind_offence_of binder scope (is_text_by binder scope left) right)) ∙ sym (kinds_of_test binder scope (test.Compare left how right)))
@@ -117,20 +117,20 @@ module _ {binder : Binder} {scope : Scope} where
       (λ few. ap (λ c. c ∷ []) (value_is how lb rb few))
       looked)
 
-  pub between_checked : {t : TestNode} {o left low high : OperandNode} (negated : Bool) {l a b : BoundOperand} {held mid held' : LateOffences} {found between found' : List Cond}
-      → t ≡ test.Between left negated low high → o ≡ left_of t → IsBound binder scope o l → IsBound binder scope low a → IsBound binder scope high b
-      → Checked binder [] (place_if (differ l.is_text a.is_text) a.first) [] held mid found between (cond.Compare op.Ge l.value a.value ∷ [])
-      → Checked binder [] (place_if (differ l.is_text b.is_text) b.first) [] mid held' between found' (cond.Compare op.Le l.value b.value ∷ [])
-      → CheckedTest binder scope t held held' found found' (comparisons_by binder scope t)
+  pub between_checked : {t : TestNode} {o left low high : OperandNode} (negated : Bool) {l a b : ResolvedOperand} {held mid held' : LateOffences} {found between found' : List Cond}
+      → t ≡ test.Between left negated low high → o ≡ left_of t → IsResolvedOperand binder scope o l → IsResolvedOperand binder scope low a → IsResolvedOperand binder scope high b
+      → IsStateAfterChecks binder [] (offset_if (differ l.is_text a.is_text) a.first) [] held mid found between (cond.Compare op.Ge l.value a.value ∷ [])
+      → IsStateAfterChecks binder [] (offset_if (differ l.is_text b.is_text) b.first) [] mid held' between found' (cond.Compare op.Le l.value b.value ∷ [])
+      → IsStateAfterTest binder scope t held held' found found' (comparisons_by binder scope t)
   unfolding comparisons_by
   between_checked {t} {o} {left} {low} {high} negated {l} {a} {b} {held} {mid} {held'} {found} {between} {found'} is from ob ab bb first second =
-      let lb : IsBound binder scope left l = bound_left t from (ap left_of is) ob in
+      let lb : IsResolvedOperand binder scope left l = bound_left t from (ap left_of is) ob in
       let range : TestNode = test.Between left negated low high in
       let kind : OperandNode → List ℕ = kind_offence_of binder scope (is_text_by binder scope left) in
-      subst (λ t. CheckedTest binder scope t held held' found found' (comparisons_by binder scope t)) (sym is)
+      subst (λ t. IsStateAfterTest binder scope t held held' found found' (comparisons_by binder scope t)) (sym is)
       (checked_of_equal
       (sym (no_error binder scope range lb.none (ap (λ n. n ++ (name_offences_of binder scope high ++ [])) ab.none ∙ ap (λ n. n ++ []) bb.none)))
-      (ap (λ k. k ++ place_if (differ l.is_text b.is_text) b.first) (kind_is lb ab)
+      (ap (λ k. k ++ offset_if (differ l.is_text b.is_text) b.first) (kind_is lb ab)
       ∙ ap (λ k. kind low ++ k) (kind_is lb bb ∙ sym (append-nil (kind high)))
       ∙ sym (kinds_of_test binder scope range))
       refl
@@ -154,43 +154,43 @@ equal_values : (binder : Binder) (scope : Scope) (left : OperandNode) (values : 
 unfolding compared_by operand_by
 equal_values binder scope left values = refl
 
-pub in_checked : {binder : Binder} {scope : Scope} {t : TestNode} {o left : OperandNode} (negated : Bool) {values items : List LiteralNode} {l : BoundOperand}
+pub in_checked : {binder : Binder} {scope : Scope} {t : TestNode} {o left : OperandNode} (negated : Bool) {values items : List LiteralNode} {l : ResolvedOperand}
     {held mid held' : LateOffences} {found found' : List Cond}
-    → t ≡ test.In left negated values → items ≡ values → o ≡ left_of t → IsBound binder scope o l
-    → mid.list ≡ or_first held.list (too_long t) → mid.kind ≡ held.kind
-    → Checked binder [] (flat_map (wrong_literal l.is_text) items) [] mid held' found found' (map (equal_to binder.text.now l.value) items)
-    → CheckedTest binder scope t held held' found found' (comparisons_by binder scope t)
+    → t ≡ test.In left negated values → items ≡ values → o ≡ left_of t → IsResolvedOperand binder scope o l
+    → mid.list ≡ or_first held.list (long_list_length t) → mid.kind ≡ held.kind
+    → IsStateAfterChecks binder [] (flat_map (wrong_literal l.is_text) items) [] mid held' found found' (map (equal_to binder.text.now l.value) items)
+    → IsStateAfterTest binder scope t held held' found found' (comparisons_by binder scope t)
 unfolding comparisons_by
 in_checked {binder} {scope} {t} {o} {left} negated {values} {items} {l} {held} {mid} {held'} {found} {found'} is same from ob list kind looked =
-    subst (λ t. mid.list ≡ or_first held.list (too_long t) → CheckedTest binder scope t held held' found found' (comparisons_by binder scope t)) (sym is) whole list where
-      lb : IsBound binder scope left l
+    subst (λ t. mid.list ≡ or_first held.list (long_list_length t) → IsStateAfterTest binder scope t held held' found found' (comparisons_by binder scope t)) (sym is) whole list where
+      lb : IsResolvedOperand binder scope left l
       lb = bound_left t from (ap left_of is) ob
 
-      noted : mid.list ≡ or_first held.list (too_long (test.In left negated values)) → Checked binder [] [] (too_long (test.In left negated values)) held mid found found []
+      noted : mid.list ≡ or_first held.list (long_list_length (test.In left negated values)) → IsStateAfterChecks binder [] [] (long_list_length (test.In left negated values)) held mid found found []
       noted list = record { none = refl; kind = kind ∙ sym (or_first-nil held.kind); list = list; built = λ _ _. sym (append-nil found) }
 
-      whole : mid.list ≡ or_first held.list (too_long (test.In left negated values))
-          → CheckedTest binder scope (test.In left negated values) held held' found found' (comparisons_by binder scope (test.In left negated values))
+      whole : mid.list ≡ or_first held.list (long_list_length (test.In left negated values))
+          → IsStateAfterTest binder scope (test.In left negated values) held held' found found' (comparisons_by binder scope (test.In left negated values))
       whole list =
           checked_of_equal
           (sym (no_error binder scope (test.In left negated values) lb.none (no_names binder scope values)))
           (ap (λ b. flat_map (wrong_literal b) items) lb.text ∙ ap (flat_map (wrong_literal (is_text_by binder scope left))) same
           ∙ wrong_values binder scope (is_text_by binder scope left) values ∙ sym (kinds_of_test binder scope (test.In left negated values)))
-          (append-nil (too_long (test.In left negated values)))
+          (append-nil (long_list_length (test.In left negated values)))
           (λ few. ap (λ v. map (equal_to binder.text.now v) items) (lb.value few) ∙ ap (map (equal_to binder.text.now (operand_by binder scope left))) same
           ∙ equal_values binder scope left values)
           (then_checked (noted list) looked)
 
-pub equality_more : {binder : Binder} (l : BoundOperand) (values : List LiteralNode) {i : ℕ} (d : LiteralNode) {other : BoundOperand} {held mid held' : LateOffences} {found between found' : List Cond}
+pub equality_more : {binder : Binder} (l : ResolvedOperand) (values : List LiteralNode) {i : ℕ} (d : LiteralNode) {other : ResolvedOperand} {held mid held' : LateOffences} {found between found' : List Cond}
     → i < length values
-    → Checked binder [] (flat_map (wrong_literal l.is_text) (take i values)) [] held mid found between (map (equal_to binder.text.now l.value) (take i values))
-    → other ≡ bound_literal binder.text.now (get_or values i d)
-    → Checked binder [] (place_if (differ l.is_text other.is_text) other.first) [] mid held' between found' (cond.Compare op.Eq l.value other.value ∷ [])
-    → Checked binder [] (flat_map (wrong_literal l.is_text) (take (i + 1) values)) [] held held' found found' (map (equal_to binder.text.now l.value) (take (i + 1) values))
+    → IsStateAfterChecks binder [] (flat_map (wrong_literal l.is_text) (take i values)) [] held mid found between (map (equal_to binder.text.now l.value) (take i values))
+    → other ≡ resolved_literal binder.text.now (get_or values i d)
+    → IsStateAfterChecks binder [] (offset_if (differ l.is_text other.is_text) other.first) [] mid held' between found' (cond.Compare op.Eq l.value other.value ∷ [])
+    → IsStateAfterChecks binder [] (flat_map (wrong_literal l.is_text) (take (i + 1) values)) [] held held' found found' (map (equal_to binder.text.now l.value) (take (i + 1) values))
 equality_more {binder} l values {i} d {other} below one is next =
     let equal : LiteralNode → Cond = equal_to binder.text.now l.value in
     checked_of_equal refl
-    (ap (λ o. flat_map (wrong_literal l.is_text) (take i values) ++ place_if (differ l.is_text o.is_text) o.first) is ∙ flat_map_step (wrong_literal l.is_text) values i d below)
+    (ap (λ o. flat_map (wrong_literal l.is_text) (take i values) ++ offset_if (differ l.is_text o.is_text) o.first) is ∙ flat_map_step (wrong_literal l.is_text) values i d below)
     refl
     (λ _. ap (λ o. map equal (take i values) ++ cond.Compare op.Eq l.value o.value ∷ []) is ∙ sym (map-append equal (take i values) (get_or values i d ∷ [])) ∙ ap (map equal) (sym (take_more values i d below)))
     (then_checked one next)

@@ -1,5 +1,5 @@
--- `Checked` is the state after some tests were checked. These lemmas combine the states of two parts of a condition, one after the other, into one
--- state.
+-- `IsStateAfterChecks` is the state after some tests were checked. These lemmas combine the states of two parts of a condition, one after the other,
+-- into one state.
 use Rattle.std.proofs.Common.{◌≡◌, ℕ, ◌+◌, ◌<◌, ◌≤◌, List, [], ◌∷◌, ◌++◌, length, take, drop, get_or, None, ap, subst, sym, ◌∙◌, refl}
 use Rattle.std.proofs.lemmas.List.{append_assoc, append-nil, take_more, take_all, take-append-drop, flat_map_more}
 use Rattle.std.proofs.lemmas.Grind.{flat_map-append}
@@ -14,12 +14,12 @@ use Rattle.query_names.specs.declared.scope.Scope.{Scope}
 use Rattle.query_names.specs.Scopes.{tests}
 use Rattle.query_names.specs.Answers.{IsNameError, or_first}
 use Rattle.query_names.specs.Binding.{from_of, test_offences_of}
-use Rattle.query_names.specs.Checking.{Checked, CheckedTests}
+use Rattle.query_names.specs.Checking.{IsStateAfterChecks, IsStateAfterTests}
 use Rattle.query_names.proofs.Walk.{rest_at, or_first_append, or_first-nil, none_before, error_after, name_error_append}
 
 pub checked_of_equal : {binder : Binder} {names names' kinds kinds' lists lists' : List ℕ} {held held' : LateOffences} {found found' more more' : List Cond}
     → names ≡ names' → kinds ≡ kinds' → lists ≡ lists' → (length (from_of binder) ≤ 12 → more ≡ more')
-    → Checked binder names kinds lists held held' found found' more → Checked binder names' kinds' lists' held held' found found' more'
+    → IsStateAfterChecks binder names kinds lists held held' found found' more → IsStateAfterChecks binder names' kinds' lists' held held' found found' more'
 checked_of_equal {held = held} {found = found} same_names same_kinds same_lists same_more l = record {
   none = sym same_names ∙ l.none;
   kind = l.kind ∙ ap (or_first held.kind) same_kinds;
@@ -27,7 +27,7 @@ checked_of_equal {held = held} {found = found} same_names same_kinds same_lists 
   built = λ few none. l.built few none ∙ ap (λ m. found ++ m) (same_more few);
 }
 
-pub nothing_checked : {binder : Binder} (held : LateOffences) (found : List Cond) → Checked binder [] [] [] held held found found []
+pub nothing_checked : {binder : Binder} (held : LateOffences) (found : List Cond) → IsStateAfterChecks binder [] [] [] held held found found []
 nothing_checked held found = record {
   none = refl;
   kind = sym (or_first-nil held.kind);
@@ -36,8 +36,8 @@ nothing_checked held found = record {
 }
 
 pub then_checked : {binder : Binder} {names kinds lists names' kinds' lists' : List ℕ} {held mid held' : LateOffences} {found between found' more more' : List Cond}
-    → Checked binder names kinds lists held mid found between more → Checked binder names' kinds' lists' mid held' between found' more'
-    → Checked binder (names ++ names') (kinds ++ kinds') (lists ++ lists') held held' found found' (more ++ more')
+    → IsStateAfterChecks binder names kinds lists held mid found between more → IsStateAfterChecks binder names' kinds' lists' mid held' between found' more'
+    → IsStateAfterChecks binder (names ++ names') (kinds ++ kinds') (lists ++ lists') held held' found found' (more ++ more')
 then_checked {kinds = kinds} {lists = lists} {names' = names'} {kinds' = kinds'} {lists' = lists'} {held = held} {mid = mid} {found = found} {more = more} {more' = more'} one next = record {
   none = ap (λ l. l ++ names') one.none ∙ next.none;
   kind = next.kind ∙ ap (λ k. or_first k kinds') one.kind ∙ sym (or_first_append held.kind kinds kinds');
@@ -49,8 +49,8 @@ then_checked {kinds = kinds} {lists = lists} {names' = names'} {kinds' = kinds'}
 
 -- the parts were built in a list of their own, and then one condition made of these parts was added to `found`
 pub checked_wrapped : {binder : Binder} {names kinds lists : List ℕ} {held held' : LateOffences} {found found' start parts more : List Cond} {whole : Cond} (wrap : List Cond → Cond)
-    → wrap more ≡ whole → start ≡ [] → Checked binder names kinds lists held held' start parts more → (length (from_of binder) ≤ 12 → held'.list ≡ None → found' ≡ found ++ wrap parts ∷ [])
-    → Checked binder names kinds lists held held' found found' (whole ∷ [])
+    → wrap more ≡ whole → start ≡ [] → IsStateAfterChecks binder names kinds lists held held' start parts more → (length (from_of binder) ≤ 12 → held'.list ≡ None → found' ≡ found ++ wrap parts ∷ [])
+    → IsStateAfterChecks binder names kinds lists held held' found found' (whole ∷ [])
 checked_wrapped {found = found} {more = more} wrap is empty l added = record {
   none = l.none;
   kind = l.kind;
@@ -65,9 +65,9 @@ flat_map_step f xs i d below = flat_map_more f [] (take i xs) (get_or xs i d) �
 
 module _ (binder : Binder) (scope : Scope) where
   pub checked_all : (cs : List CondNode) {i : ℕ} {held held' : LateOffences} {found found' : List Cond} (more : List CondNode → List Cond)
-      → length cs ≤ i → CheckedTests binder scope (flat_map tests (take i cs)) held held' found found' (more (take i cs))
-      → CheckedTests binder scope (flat_map tests cs) held held' found found' (more cs)
-  checked_all cs {i} {held} {held'} {found} {found'} more done l = subst (λ taken. CheckedTests binder scope (flat_map tests taken) held held' found found' (more taken)) (take_all i cs done) l
+      → length cs ≤ i → IsStateAfterTests binder scope (flat_map tests (take i cs)) held held' found found' (more (take i cs))
+      → IsStateAfterTests binder scope (flat_map tests cs) held held' found found' (more cs)
+  checked_all cs {i} {held} {held'} {found} {found'} more done l = subst (λ taken. IsStateAfterTests binder scope (flat_map tests taken) held held' found found' (more taken)) (take_all i cs done) l
 
   pub wrong_in : (cs : List CondNode) {i : ℕ} (d : CondNode) (e : QueryError)
       → i < length cs → flat_map (test_offences_of binder scope) (flat_map tests (take i cs)) ≡ []

@@ -20,7 +20,7 @@ use Rattle.query_grammar.specs.declared.tree.CondNode.TheVariants as text
 use Rattle.query_grammar.specs.declared.tree.CondNode.TheVariants.{rolls-And, rolls-Or, rolls-Not, rolls-Test}
 use Rattle.query_grammar.specs.declared.tree.CondNode.TheOpen.{CondNode-F}
 use Rattle.query_grammar.specs.declared.tree.CondNode.TheFolds.{fold-roll-CondNode}
-use Rattle.query_names.specs.Values.{any_of, all_of, equality, alone, wholes, Meaning, meaning, meaning_step, test_meaning}
+use Rattle.query_names.specs.Values.{any_of, all_of, equality, meaning_of_one, conditions_of_meanings, Meaning, meaning, meaning_step, test_meaning}
 use Rattle.query_names.specs.Binding.{schema_of, from_of, resolved_by, compared_by, test_value_by, test_members_by, value_by, members_by}
 use Rattle.query_names.specs.Checking.{comparisons_by, test_condition, is_range}
 use Rattle.query_names.proofs.Resolved.{ColumnExists, resolved_exists}
@@ -30,25 +30,25 @@ within [] n source is = absurd cc
 within (x ∷ from) zero source is = omega arith
 within (x ∷ from) (suc n) source is = let more : n < length from = within from n source is in omega arith
 
-pub found_small : (binder : Binder) (scope : Scope) (reference : ColumnNode) (column : EntryColumn) → Some column ≡ resolved_by binder scope reference → length (from_of binder) ≤ 12 → column.from < 256
-found_small binder scope reference column is few =
+pub found_entry_in_8_bits : (binder : Binder) (scope : Scope) (reference : ColumnNode) (column : EntryColumn) → Some column ≡ resolved_by binder scope reference → length (from_of binder) ≤ 12 → column.from < 256
+found_entry_in_8_bits binder scope reference column is few =
     let stands : ColumnExists (schema_of binder) (from_of binder) column = resolved_exists (schema_of binder) binder.text.now (from_of binder) scope reference column (sym is) in
     let below : column.from < length (from_of binder) = within (from_of binder) column.from stands.source stands.entry in
     omega arith
 
-pub one_of : (parts rest : List Cond) (one : Cond) → length parts ≡ 1 → parts ≡ rest ++ one ∷ [] → one ≡ (any_of parts).whole
-one_of [] rest one few is = absurd (omega arith)
-one_of (x ∷ []) [] one few is = cc
-one_of (x ∷ []) (y ∷ rest) one few is = absurd (let e : [] ≡ rest ++ one ∷ [] = cc in nothing rest e) where
+pub only_part_is_or : (parts rest : List Cond) (one : Cond) → length parts ≡ 1 → parts ≡ rest ++ one ∷ [] → one ≡ (any_of parts).whole
+only_part_is_or [] rest one few is = absurd (omega arith)
+only_part_is_or (x ∷ []) [] one few is = cc
+only_part_is_or (x ∷ []) (y ∷ rest) one few is = absurd (let e : [] ≡ rest ++ one ∷ [] = cc in nothing rest e) where
   nothing : (rest : List Cond) → [] ≡ rest ++ one ∷ [] → ⊥
   nothing [] e = cc
   nothing (z ∷ rest) e = cc
-one_of (x ∷ y ∷ parts) rest one few is = absurd (omega arith)
+only_part_is_or (x ∷ y ∷ parts) rest one few is = absurd (omega arith)
 
-pub several_of : (parts : List Cond) → (length parts ≡ 1 → ⊥) → cond.Or parts ≡ (any_of parts).whole
-several_of [] many = refl
-several_of (x ∷ []) many = absurd (many refl)
-several_of (x ∷ y ∷ parts) many = refl
+pub several_parts_are_or : (parts : List Cond) → (length parts ≡ 1 → ⊥) → cond.Or parts ≡ (any_of parts).whole
+several_parts_are_or [] many = refl
+several_parts_are_or (x ∷ []) many = absurd (many refl)
+several_parts_are_or (x ∷ y ∷ parts) many = refl
 
 -- ---- `test_condition` of a test's comparisons is the condition that the test means
 
@@ -87,7 +87,7 @@ module _ (binder : Binder) (scope : Scope) where
   abbrev step : CondNode-F Meaning → Meaning
   step = meaning_step (schema_of binder) binder.text.now (from_of binder) scope
 
-  wholes_map : (cs : List CondNode) → wholes (map (meaning (schema_of binder) binder.text.now (from_of binder) scope) cs) ≡ map (value_by binder scope) cs
+  wholes_map : (cs : List CondNode) → conditions_of_meanings (map (meaning (schema_of binder) binder.text.now (from_of binder) scope) cs) ≡ map (value_by binder scope) cs
   unfolding value_by
   wholes_map [] = refl
   wholes_map (c ∷ cs) = ap (λ rest. value_by binder scope c ∷ rest) (wholes_map cs)
@@ -100,10 +100,10 @@ module _ (binder : Binder) (scope : Scope) where
   meaning_and : (cs : List CondNode) → meaning (schema_of binder) binder.text.now (from_of binder) scope (text.And cs) ≡ all_of (map (meaning (schema_of binder) binder.text.now (from_of binder) scope) cs)
   meaning_and cs = ap (meaning (schema_of binder) binder.text.now (from_of binder) scope) (sym (rolls-And cs)) ∙ fold-roll-CondNode Meaning step (CondNode-F.And cs)
 
-  meaning_or : (cs : List CondNode) → meaning (schema_of binder) binder.text.now (from_of binder) scope (text.Or cs) ≡ alone (cond.Or (wholes (map (meaning (schema_of binder) binder.text.now (from_of binder) scope) cs)))
+  meaning_or : (cs : List CondNode) → meaning (schema_of binder) binder.text.now (from_of binder) scope (text.Or cs) ≡ meaning_of_one (cond.Or (conditions_of_meanings (map (meaning (schema_of binder) binder.text.now (from_of binder) scope) cs)))
   meaning_or cs = ap (meaning (schema_of binder) binder.text.now (from_of binder) scope) (sym (rolls-Or cs)) ∙ fold-roll-CondNode Meaning step (CondNode-F.Or cs)
 
-  meaning_not : (c : CondNode) → meaning (schema_of binder) binder.text.now (from_of binder) scope (text.Not c) ≡ alone (cond.Not (meaning (schema_of binder) binder.text.now (from_of binder) scope c).whole)
+  meaning_not : (c : CondNode) → meaning (schema_of binder) binder.text.now (from_of binder) scope (text.Not c) ≡ meaning_of_one (cond.Not (meaning (schema_of binder) binder.text.now (from_of binder) scope c).whole)
   meaning_not c = ap (meaning (schema_of binder) binder.text.now (from_of binder) scope) (sym (rolls-Not c)) ∙ fold-roll-CondNode Meaning step (CondNode-F.Not c)
 
   meaning_test : (t : TestNode) → meaning (schema_of binder) binder.text.now (from_of binder) scope (text.Test t) ≡ test_meaning (schema_of binder) binder.text.now (from_of binder) scope t

@@ -14,7 +14,7 @@ use Rattle.query_names.specs.declared.scope.Scope.{Scope}
 use Rattle.query_types.specs.declared.types.Source.{Source}
 use Rattle.schema_types.specs.Names.{index_of_name}
 use Rattle.query_names.specs.Names.{column_in, column_named, column_at, column_names, aliases}
-use Rattle.query_names.specs.Scopes.{only, in_scope, numbered, is_in, entry_at, entry_named, column_without_alias, resolved, resolve}
+use Rattle.query_names.specs.Scopes.{single_member, in_scope, numbered, is_in, entry_at, entry_named, column_without_alias, resolved, resolve}
 
 pub record IsEntry (from : List Source) (entry : Entry) : Type 0 where
   pub source : Source
@@ -93,14 +93,14 @@ in_scope_are from scope =
 
 -- ---- the column that a reference names exists
 
-only_exists : (schema : Schema) (from : List Source) (name : List ℕ) (entries : List Entry) (found : EntryColumn) → AllEntries from entries → only (filter_map (column_in schema name) entries) ≡ Some found → ColumnExists schema from found
+only_exists : (schema : Schema) (from : List Source) (name : List ℕ) (entries : List Entry) (found : EntryColumn) → AllEntries from entries → single_member (filter_map (column_in schema name) entries) ≡ Some found → ColumnExists schema from found
 only_exists schema from name [] found all same = absurd cc
 only_exists schema from name (e ∷ rest) found all same = at (column_in schema name e) refl (λ later. only_exists schema from name rest found all.1 later) same where
-  at : (here : Option EntryColumn) → column_in schema name e ≡ here → (only (filter_map (column_in schema name) rest) ≡ Some found → ColumnExists schema from found)
-      → only (cons_option here (filter_map (column_in schema name) rest)) ≡ Some found → ColumnExists schema from found
+  at : (here : Option EntryColumn) → column_in schema name e ≡ here → (single_member (filter_map (column_in schema name) rest) ≡ Some found → ColumnExists schema from found)
+      → single_member (cons_option here (filter_map (column_in schema name) rest)) ≡ Some found → ColumnExists schema from found
   at None is more same = more same
   at (Some column) is more same = just (filter_map (column_in schema name) rest) same where
-    just : (others : List EntryColumn) → only (column ∷ others) ≡ Some found → ColumnExists schema from found
+    just : (others : List EntryColumn) → single_member (column ∷ others) ≡ Some found → ColumnExists schema from found
     just [] same = column_exists schema from name e found all.0 (is ∙ same)
     just (other ∷ others) same = absurd cc
 

@@ -1,5 +1,4 @@
--- The first two columns of a name show whether exactly one column has the name. So it is enough to look at the first two entries in
--- scope of each table.
+-- Two columns with the same name show that the name is ambiguous. So the first two entries in scope of each table are enough.
 use Rattle.std.proofs.Common.{◌≡◌, ℕ, suc, ◌+◌, ◌-◌, ◌<◌, ◌≤◌, Bool, true, false, cond, nat_eq, List, [], ◌∷◌, ◌++◌, length, take, drop, get_or, Option, Some, None, ap, subst, sym, ◌∙◌, refl, arith}
 use Rattle.std.specs.Prelude.{◌==◌, is_some, count_by, option_map, option_and_then, slice_get}
 use Rattle.std.specs.List.{cons_option}
@@ -123,8 +122,8 @@ one_more_in_scope from first end d begins below =
 
 -- ---- `FirstTwoAreEnough` for the empty scope, and when one more entry comes into scope
 
-pub none_shown : (binder : Binder) (visible : Visible) (first : ℕ) → visible.scope ≡ record { first = first; end = first } → visible.first_two ≡ [] → FirstTwoAreEnough binder visible
-none_shown binder visible first none empty = record {
+pub first_two_enough_in_empty_scope : (binder : Binder) (visible : Visible) (first : ℕ) → visible.scope ≡ record { first = first; end = first } → visible.first_two ≡ [] → FirstTwoAreEnough binder visible
+first_two_enough_in_empty_scope binder visible first none empty = record {
   same = λ name. ap (λ l. take 2 (columns_in (schema_of binder) name l)) (empty ∙ sym (ap (in_scope (from_of binder)) none ∙ none_in_scope (from_of binder) first));
 }
 
@@ -132,54 +131,54 @@ shown_more : (binder : Binder) (old new : Visible) (d : Source) (name : List ℕ
     → new.scope ≡ record { first = old.scope.first; end = old.scope.end + 1 }
     → take 2 (columns_in (schema_of binder) name old.first_two ++ columns_in (schema_of binder) name (record { number = old.scope.end; table = (get_or (from_of binder) old.scope.end d).table } ∷ []))
     ≡ take 2 (columns_in (schema_of binder) name (in_scope (from_of binder) new.scope))
-shown_more binder old new d name shows begins ends next =
+shown_more binder old new d name first_two_enough begins ends next =
     let entry : Entry = record { number = old.scope.end; table = (get_or (from_of binder) old.scope.end d).table } in
     let held : List Entry = in_scope (from_of binder) old.scope in
     let more : in_scope (from_of binder) new.scope ≡ held ++ entry ∷ [] = ap (in_scope (from_of binder)) next ∙ one_more_in_scope (from_of binder) old.scope.first old.scope.end d begins ends in
-    two_push (columns_in (schema_of binder) name old.first_two) (columns_in (schema_of binder) name held) (columns_in (schema_of binder) name (entry ∷ [])) (shows.same name)
+    two_push (columns_in (schema_of binder) name old.first_two) (columns_in (schema_of binder) name held) (columns_in (schema_of binder) name (entry ∷ [])) (first_two_enough.same name)
     ∙ ap (take 2) (sym (filter_map-append (column_in (schema_of binder) name) held (entry ∷ [])) ∙ ap (columns_in (schema_of binder) name) (sym more))
 
-pub one_more_shown : (binder : Binder) (old new : Visible) (d : Source) → FirstTwoAreEnough binder old → old.scope.first ≤ old.scope.end → old.scope.end < length (from_of binder)
+pub first_two_enough_with_one_more : (binder : Binder) (old new : Visible) (d : Source) → FirstTwoAreEnough binder old → old.scope.first ≤ old.scope.end → old.scope.end < length (from_of binder)
     → new.scope ≡ record { first = old.scope.first; end = old.scope.end + 1 }
     → new.first_two ≡ old.first_two ++ record { number = old.scope.end; table = (get_or (from_of binder) old.scope.end d).table } ∷ [] → FirstTwoAreEnough binder new
-one_more_shown binder old new d shows begins ends next pushed = record {
+first_two_enough_with_one_more binder old new d first_two_enough begins ends next pushed = record {
   same = λ name.
       let entry : Entry = record { number = old.scope.end; table = (get_or (from_of binder) old.scope.end d).table } in
       ap (λ l. take 2 (columns_in (schema_of binder) name l)) pushed
       ∙ ap (take 2) (filter_map-append (column_in (schema_of binder) name) old.first_two (entry ∷ []))
-      ∙ shown_more binder old new d name shows begins ends next;
+      ∙ shown_more binder old new d name first_two_enough begins ends next;
 }
 
-pub third_not_shown : (binder : Binder) (old new : Visible) (d : Source) → FirstTwoAreEnough binder old → old.scope.first ≤ old.scope.end → old.scope.end < length (from_of binder)
+pub first_two_enough_without_third : (binder : Binder) (old new : Visible) (d : Source) → FirstTwoAreEnough binder old → old.scope.first ≤ old.scope.end → old.scope.end < length (from_of binder)
     → new.scope ≡ record { first = old.scope.first; end = old.scope.end + 1 }
     → 2 ≤ count_by (λ e. e.table == (get_or (from_of binder) old.scope.end d).table) old.first_two
     → new.first_two ≡ old.first_two → FirstTwoAreEnough binder new
-third_not_shown binder old new d shows begins ends next two kept = record {
+first_two_enough_without_third binder old new d first_two_enough begins ends next two kept = record {
   same = λ name.
       let entry : Entry = record { number = old.scope.end; table = (get_or (from_of binder) old.scope.end d).table } in
       ap (λ l. take 2 (columns_in (schema_of binder) name l)) kept
       ∙ third_shows_nothing (schema_of binder) name entry old.first_two two
-      ∙ shown_more binder old new d name shows begins ends next;
+      ∙ shown_more binder old new d name first_two_enough begins ends next;
 }
 
 abbrev next_of : Visible → Visible → Visible
 next_of old v = record { scope = record { first = v.scope.first; end = old.scope.end + 1 }; first_two = v.first_two }
 
-pub pushed_shows : (binder : Binder) (old : Visible) (d : Source) {items : List Source} {v : Visible} {first_two : List Entry} → items ≡ from_of binder
+pub first_two_enough_after_push : (binder : Binder) (old : Visible) (d : Source) {items : List Source} {v : Visible} {first_two : List Entry} → items ≡ from_of binder
     → FirstTwoAreEnough binder old → old.scope.first ≤ old.scope.end → old.scope.end < length (from_of binder)
     → v ≡ record { scope = old.scope; first_two = first_two }
     → first_two ≡ old.first_two ++ record { number = old.scope.end; table = (get_or items old.scope.end d).table } ∷ [] → FirstTwoAreEnough binder (next_of old v)
-pushed_shows binder old d {items} {v} {first_two} all shows begins ends is pushed =
-    one_more_shown binder old (next_of old v) d shows begins ends
+first_two_enough_after_push binder old d {items} {v} {first_two} all first_two_enough begins ends is pushed =
+    first_two_enough_with_one_more binder old (next_of old v) d first_two_enough begins ends
     (ap (λ (w : Visible). record { first = w.scope.first; end = old.scope.end + 1 }) is)
     (ap (λ w. w.first_two) is ∙ pushed ∙ ap (λ l. old.first_two ++ record { number = old.scope.end; table = (get_or l old.scope.end d).table } ∷ []) all)
 
-pub kept_shows : (binder : Binder) (old : Visible) (d : Source) {items : List Source} {v : Visible} {first_two : List Entry} (count : ℕ) → items ≡ from_of binder
+pub first_two_enough_if_kept : (binder : Binder) (old : Visible) (d : Source) {items : List Source} {v : Visible} {first_two : List Entry} (count : ℕ) → items ≡ from_of binder
     → FirstTwoAreEnough binder old → old.scope.first ≤ old.scope.end → old.scope.end < length (from_of binder)
     → v ≡ record { scope = old.scope; first_two = old.first_two }
     → 2 ≤ count → first_two ≡ old.first_two → count ≡ count_by (λ e. e.table == (get_or items old.scope.end d).table) first_two → FirstTwoAreEnough binder (next_of old v)
-kept_shows binder old d {items} {v} {first_two} count all shows begins ends is two same counted =
-    third_not_shown binder old (next_of old v) d shows begins ends
+first_two_enough_if_kept binder old d {items} {v} {first_two} count all first_two_enough begins ends is two same counted =
+    first_two_enough_without_third binder old (next_of old v) d first_two_enough begins ends
     (ap (λ (w : Visible). record { first = w.scope.first; end = old.scope.end + 1 }) is)
     (subst (λ n. 2 ≤ n) (counted ∙ ap (count_by (λ e. e.table == (get_or items old.scope.end d).table)) same ∙ ap (λ l. count_by (λ e. e.table == (get_or l old.scope.end d).table) old.first_two) all) two)
     (ap (λ w. w.first_two) is)

@@ -7,7 +7,7 @@ use Rattle.query_grammar.specs.declared.tree.OutNode.{OutNode}
 use Rattle.query_grammar.specs.declared.tree.OutsNode.{OutsNode}
 use Rattle.query_types.specs.declared.types.Operand.{Operand}
 use Rattle.query_types.specs.declared.types.Cond.{Cond}
-use Rattle.query_names.specs.Offences.{too_long}
+use Rattle.query_names.specs.Offences.{long_list_length}
 use Rattle.query_names.specs.Values.{operand_value, comparison, test_meaning, meaning}
 use Rattle.query_grammar.specs.declared.tree.ColumnNode.{ColumnNode}
 use Rattle.query_grammar.specs.declared.tree.OperandNode.{OperandNode}
@@ -20,7 +20,7 @@ use Rattle.query_names.specs.declared.scope.Scope.{Scope}
 use Rattle.query_names.specs.declared.scope.Visible.{Visible}
 use Rattle.query_types.specs.declared.types.Source.{Source}
 use Rattle.query_names.specs.Names.{column_in}
-use Rattle.query_names.specs.Scopes.{in_scope, resolve, Scoped, tests}
+use Rattle.query_names.specs.Scopes.{in_scope, resolve, ConditionInScope, tests}
 use Rattle.query_names.specs.Offences.{operand_offences, is_text_operand, kind_offence, test_offences, kind_offences, out_offences, outs_offences}
 
 abbrev pub schema_of : Binder → Schema
@@ -33,7 +33,7 @@ from_of binder = binder.entries.now.sources
 abbrev pub columns_in : Schema → List ℕ → List Entry → List EntryColumn
 columns_in schema name entries = filter_map (column_in schema name) entries
 
--- the first two columns of any name are the same in the entries `first_two` as in all entries in scope
+-- for each name, the first two columns with it are the same in `first_two` as in all entries in scope
 pub record FirstTwoAreEnough (binder : Binder) (visible : Visible) : Type 0 where
   pub same : (name : List ℕ)
       → take 2 (columns_in (schema_of binder) name visible.first_two)
@@ -59,14 +59,14 @@ kind_offences_of binder scope test = kind_offences (schema_of binder) binder.tex
 
 -- ---- conditions, each with the entries in its scope
 
-unfoldable pub names_in : Binder → Scoped → List ℕ
+unfoldable pub names_in : Binder → ConditionInScope → List ℕ
 names_in binder c = flat_map (test_offences_of binder c.scope) (tests c.condition)
 
-unfoldable pub kinds_in : Binder → Scoped → List ℕ
+unfoldable pub kinds_in : Binder → ConditionInScope → List ℕ
 kinds_in binder c = flat_map (kind_offences_of binder c.scope) (tests c.condition)
 
-unfoldable pub long_lists_in : Scoped → List ℕ
-long_lists_in c = flat_map too_long (tests c.condition)
+unfoldable pub long_lists_in : ConditionInScope → List ℕ
+long_lists_in c = flat_map long_list_length (tests c.condition)
 
 -- ---- values
 
@@ -83,14 +83,14 @@ test_value_by binder scope test = (test_meaning (schema_of binder) binder.text.n
 unfoldable pub test_members_by : Binder → Scope → TestNode → List Cond
 test_members_by binder scope test = (test_meaning (schema_of binder) binder.text.now (from_of binder) scope test).members
 
--- the condition that a condition of the query text means, and its members
+-- what a condition of the query text means: a condition, and its members
 unfoldable pub value_by : Binder → Scope → CondNode → Cond
 value_by binder scope condition = (meaning (schema_of binder) binder.text.now (from_of binder) scope condition).whole
 
 unfoldable pub members_by : Binder → Scope → CondNode → List Cond
 members_by binder scope condition = (meaning (schema_of binder) binder.text.now (from_of binder) scope condition).members
 
-unfoldable pub members_in : Binder → Scoped → List Cond
+unfoldable pub members_in : Binder → ConditionInScope → List Cond
 members_in binder c = members_by binder c.scope c.condition
 
 -- ---- outputs

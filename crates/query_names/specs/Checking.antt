@@ -12,10 +12,10 @@ use Rattle.query_types.specs.declared.types.Cond.{Cond}
 use Rattle.query_types.specs.declared.types.Cond.TheVariants as cond
 use Rattle.query_names.specs.declared.binder.Binder.{Binder}
 use Rattle.query_names.specs.declared.checks.LateOffences.{LateOffences}
-use Rattle.query_names.specs.declared.operands.BoundOperand.{BoundOperand}
+use Rattle.query_names.specs.declared.operands.ResolvedOperand.{ResolvedOperand}
 use Rattle.query_names.specs.declared.scope.Scope.{Scope}
-use Rattle.query_names.specs.Names.{place_if}
-use Rattle.query_names.specs.Offences.{first_of, first_of_literal, is_text_literal, differ, of_literal, too_long}
+use Rattle.query_names.specs.Names.{offset_if}
+use Rattle.query_names.specs.Offences.{first_of, first_of_literal, is_text_literal, differ, of_literal, long_list_length}
 use Rattle.query_names.specs.Values.{literal_value, any_of}
 use Rattle.query_names.specs.Answers.{or_first}
 use Rattle.query_names.specs.Binding.{from_of, name_offences_of, is_text_by, test_offences_of, kind_offences_of, operand_by, compared_by}
@@ -23,21 +23,21 @@ use Rattle.query_names.specs.Binding.{from_of, name_offences_of, is_text_by, tes
 -- ---- operands
 
 -- the value, the kind and the first token of a literal
-abbrev pub bound_literal : List ℕ → LiteralNode → BoundOperand
-bound_literal text l = record { value = literal_value text l; is_text = is_text_literal l; first = first_of_literal l }
+abbrev pub resolved_literal : List ℕ → LiteralNode → ResolvedOperand
+resolved_literal text l = record { value = literal_value text l; is_text = is_text_literal l; first = first_of_literal l }
 
--- the operand has no wrong name, and `bound` has its kind and its first token. If FROM has at most 12 entries, `bound` also has its value
-pub record IsBound (binder : Binder) (scope : Scope) (operand : OperandNode) (bound : BoundOperand) : Type 0 where
+-- the operand has no wrong name, and `resolved` has its kind and its first token. If FROM has at most 12 entries, `resolved` also has its value
+pub record IsResolvedOperand (binder : Binder) (scope : Scope) (operand : OperandNode) (resolved : ResolvedOperand) : Type 0 where
   pub none : name_offences_of binder scope operand ≡ []
-  pub text : bound.is_text ≡ is_text_by binder scope operand
-  pub first : bound.first ≡ first_of operand
-  pub value : length (from_of binder) ≤ most_entries → bound.value ≡ operand_by binder scope operand
+  pub text : resolved.is_text ≡ is_text_by binder scope operand
+  pub first : resolved.first ≡ first_of operand
+  pub value : length (from_of binder) ≤ most_entries → resolved.value ≡ operand_by binder scope operand
 
 -- ---- tests
 
 -- the offset of an IN value whose kind isn't that of the left operand. `equal_to` is the equality with an IN value
 abbrev pub wrong_literal : Bool → LiteralNode → List ℕ
-wrong_literal left l = place_if (differ left (is_text_literal l)) (first_of_literal l)
+wrong_literal left l = offset_if (differ left (is_text_literal l)) (first_of_literal l)
 
 abbrev pub equal_to : List ℕ → Operand → LiteralNode → Cond
 equal_to text left l = cond.Compare op.Eq left (literal_value text l)
@@ -63,19 +63,20 @@ is_range (test.In left negated values) = false
 
 -- ---- the state after some tests were checked
 
--- No name is wrong. If no offset of a wrong kind was kept before, the first of `kinds` is kept. If no length of a list was kept before, the
--- first of `lists` is kept. The conditions `more` are added to `found`, if FROM has at most 12 entries and no length of a list is kept.
-pub record Checked (binder : Binder) (names kinds lists : List ℕ) (held held' : LateOffences) (found found' more : List Cond) : Type 0 where
+-- No name is wrong. `held'` keeps the first offset of a wrong kind, from earlier tests or else from `kinds`. Likewise it keeps the first length of a
+-- list, from earlier tests or else from `lists`. The conditions `more` are added to `found`, if FROM has at most 12 entries and no length of a list
+-- is kept.
+pub record IsStateAfterChecks (binder : Binder) (names kinds lists : List ℕ) (held held' : LateOffences) (found found' more : List Cond) : Type 0 where
   pub none : names ≡ []
   pub kind : held'.kind ≡ or_first held.kind kinds
   pub list : held'.list ≡ or_first held.list lists
   pub built : length (from_of binder) ≤ most_entries → held'.list ≡ None → found' ≡ found ++ more
 
-abbrev pub CheckedTest : Binder → Scope → TestNode → LateOffences → LateOffences → List Cond → List Cond → List Cond → Type 0
-CheckedTest binder scope t held held' found found' more =
-    Checked binder (test_offences_of binder scope t) (kind_offences_of binder scope t) (too_long t) held held' found found' more
+abbrev pub IsStateAfterTest : Binder → Scope → TestNode → LateOffences → LateOffences → List Cond → List Cond → List Cond → Type 0
+IsStateAfterTest binder scope t held held' found found' more =
+    IsStateAfterChecks binder (test_offences_of binder scope t) (kind_offences_of binder scope t) (long_list_length t) held held' found found' more
 
-abbrev pub CheckedTests : Binder → Scope → List TestNode → LateOffences → LateOffences → List Cond → List Cond → List Cond → Type 0
-CheckedTests binder scope ts held held' found found' more =
-    Checked binder (flat_map (test_offences_of binder scope) ts) (flat_map (kind_offences_of binder scope) ts) (flat_map too_long ts)
+abbrev pub IsStateAfterTests : Binder → Scope → List TestNode → LateOffences → LateOffences → List Cond → List Cond → List Cond → Type 0
+IsStateAfterTests binder scope ts held held' found found' more =
+    IsStateAfterChecks binder (flat_map (test_offences_of binder scope) ts) (flat_map (kind_offences_of binder scope) ts) (flat_map long_list_length ts)
     held held' found found' more

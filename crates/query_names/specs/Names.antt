@@ -67,14 +67,14 @@ aliases from = map (λ source. source.alias) from
 -- ---- offences in FROM
 
 -- the offset of a token, if it is wrong
-abbrev pub place_if : Bool → Lexeme → List ℕ
-place_if wrong token = if wrong then token.start ∷ [] else []
+abbrev pub offset_if : Bool → Lexeme → List ℕ
+offset_if wrong token = if wrong then token.start ∷ [] else []
 
 module _ (schema : Schema) (text : List ℕ) where
   -- an unknown table, at its name, and then an alias that is equal to an earlier alias
   abbrev pub source_offences : List (List ℕ) → SourceNode → List ℕ
   source_offences earlier source =
-      place_if (is_none (table_of schema text source)) source.table ++ place_if (is_among earlier (alias_of schema text source)) (alias_token source)
+      offset_if (is_none (table_of schema text source)) source.table ++ offset_if (is_among earlier (alias_of schema text source)) (alias_token source)
 
   abbrev pub offences_of_later_sources : List (List ℕ) → List SourceNode → List ℕ
   offences_of_later_sources earlier [] = []

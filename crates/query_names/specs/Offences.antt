@@ -21,8 +21,8 @@ use Rattle.query_names.specs.declared.scope.EntryColumn.{EntryColumn}
 use Rattle.query_names.specs.declared.scope.Scope.{Scope}
 use Rattle.query_types.specs.declared.types.Source.{Source}
 use Rattle.query_types.specs.Validity.{is_text}
-use Rattle.query_names.specs.Names.{place_if, from_offences}
-use Rattle.query_names.specs.Scopes.{resolve, head_of, entry_named, whole_scope, Scoped, conditions, tests}
+use Rattle.query_names.specs.Names.{offset_if, from_offences}
+use Rattle.query_names.specs.Scopes.{resolve, head_of, entry_named, whole_scope, ConditionInScope, conditions, tests}
 
 -- ---- the operands that a test compares
 
@@ -61,7 +61,7 @@ module _ (schema : Schema) (text : List ℕ) (from : List Source) (scope : Scope
   -- ---- wrong names
 
   abbrev pub reference_offences : ColumnNode → List ℕ
-  reference_offences reference = place_if (is_none (resolve schema text from scope reference)) (head_of reference)
+  reference_offences reference = offset_if (is_none (resolve schema text from scope reference)) (head_of reference)
 
   abbrev pub operand_offences : OperandNode → List ℕ
   operand_offences (operand.Column reference) = reference_offences reference
@@ -71,7 +71,7 @@ module _ (schema : Schema) (text : List ℕ) (from : List Source) (scope : Scope
   test_offences t = flat_map operand_offences (left_of t ∷ others_of t)
 
   abbrev pub out_offences : OutNode → List ℕ
-  out_offences (out.All alias) = place_if (is_none (entry_named from scope (name_of text alias))) alias
+  out_offences (out.All alias) = offset_if (is_none (entry_named from scope (name_of text alias))) alias
   out_offences (out.Column reference name) = reference_offences reference
 
   abbrev pub outs_offences : OutsNode → List ℕ
@@ -90,16 +90,16 @@ module _ (schema : Schema) (text : List ℕ) (from : List Source) (scope : Scope
 
   -- the offset of `other`, if it isn't of the left operand's kind
   abbrev pub kind_offence : Bool → OperandNode → List ℕ
-  kind_offence left other = place_if (differ left (is_text_operand other)) (first_of other)
+  kind_offence left other = offset_if (differ left (is_text_operand other)) (first_of other)
 
   abbrev pub kind_offences : TestNode → List ℕ
   kind_offences t = flat_map (kind_offence (is_text_operand (left_of t))) (others_of t)
 
 module _ (schema : Schema) (text : List ℕ) (from : List Source) where
-  abbrev pub name_offences_in : Scoped → List ℕ
+  abbrev pub name_offences_in : ConditionInScope → List ℕ
   name_offences_in c = flat_map (test_offences schema text from c.scope) (tests c.condition)
 
-  abbrev pub kind_offences_in : Scoped → List ℕ
+  abbrev pub kind_offences_in : ConditionInScope → List ℕ
   kind_offences_in c = flat_map (kind_offences schema text from c.scope) (tests c.condition)
 
   -- the offsets of wrong names: first those in FROM, then those in the SELECT list, then those in the ON conditions and in WHERE
@@ -115,7 +115,7 @@ module _ (schema : Schema) (text : List ℕ) (from : List Source) where
 -- ---- IN lists that are too long
 
 -- the length of a test's IN list, if the list has more than 1,000 values; for any other test the empty list
-abbrev pub too_long : TestNode → List ℕ
-too_long (test.Compare left op right) = []
-too_long (test.Between left negated low high) = []
-too_long (test.In left negated values) = if nat_lt most_values (length values) then length values ∷ [] else []
+abbrev pub long_list_length : TestNode → List ℕ
+long_list_length (test.Compare left op right) = []
+long_list_length (test.Between left negated low high) = []
+long_list_length (test.In left negated values) = if nat_lt most_values (length values) then length values ∷ [] else []

@@ -29,10 +29,10 @@ unfoldable pub in_scope : List Source → Scope → List Entry
 in_scope from scope = numbered scope.first (slice_range from scope.first scope.end)
 
 -- the member of a list with exactly one member
-abbrev pub only : {A : Type 0} → List A → Option A
-only [] = None
-only (one ∷ []) = Some one
-only (one ∷ other ∷ rest) = None
+abbrev pub single_member : {A : Type 0} → List A → Option A
+single_member [] = None
+single_member (one ∷ []) = Some one
+single_member (one ∷ other ∷ rest) = None
 
 abbrev pub is_in : Scope → ℕ → Bool
 is_in scope number = nat_le scope.first number && nat_lt number scope.end
@@ -49,7 +49,7 @@ entry_named from scope alias = option_and_then (entry_at from scope) (index_of_n
 module _ (schema : Schema) (text : List ℕ) (from : List Source) (scope : Scope) where
   -- a column that is named without an alias: exactly one entry in scope has a table with this column
   unfoldable pub column_without_alias : List ℕ → Option EntryColumn
-  column_without_alias name = only (filter_map (column_in schema name) (in_scope from scope))
+  column_without_alias name = single_member (filter_map (column_in schema name) (in_scope from scope))
 
   -- a column that is named with an alias: the column of the alias's entry, if the entry's table has it
   abbrev pub column_of : List ℕ → List ℕ → Option EntryColumn
@@ -69,17 +69,17 @@ head_of reference = unwrap_or reference.table reference.column
 
 -- ---- conditions, each with the entries in its scope, and their tests
 
-pub record Scoped : Type 0 where
+pub record ConditionInScope : Type 0 where
   pub scope : Scope
   pub condition : CondNode
 
--- the ON conditions of a FROM part. The entries from the part's first one up to the joined one are in scope
-abbrev pub conditions_of_joins : ℕ → ℕ → List JoinedNode → List Scoped
+-- the ON conditions of one item of FROM. The entries from the item's first entry up to the joined entry are in scope
+abbrev pub conditions_of_joins : ℕ → ℕ → List JoinedNode → List ConditionInScope
 conditions_of_joins first end [] = []
 conditions_of_joins first end (join ∷ rest) =
     record { scope = record { first = first; end = end + 1 }; condition = join.on } ∷ conditions_of_joins first (end + 1) rest
 
-abbrev pub on_conditions : ℕ → List FromItemNode → List Scoped
+abbrev pub on_conditions : ℕ → List FromItemNode → List ConditionInScope
 on_conditions first [] = []
 on_conditions first (part ∷ rest) = conditions_of_joins first (first + 1) part.joins ++ on_conditions (first + 1 + length part.joins) rest
 
@@ -87,20 +87,20 @@ on_conditions first (part ∷ rest) = conditions_of_joins first (first + 1) part
 abbrev pub whole_scope : List Source → Scope
 whole_scope from = record { first = 0; end = length from }
 
-abbrev pub where_condition : List Source → Option CondNode → List Scoped
+abbrev pub where_condition : List Source → Option CondNode → List ConditionInScope
 where_condition from None = []
 where_condition from (Some condition) = record { scope = whole_scope from; condition = condition } ∷ []
 
 -- the ON conditions in text order, and then the condition of WHERE
-unfoldable pub conditions : List Source → QueryNode → List Scoped
+unfoldable pub conditions : List Source → QueryNode → List ConditionInScope
 conditions from query = on_conditions 0 query.parts ++ where_condition from query.filter
 
-abbrev pub one_by_one : List (List TestNode) → List TestNode
-one_by_one lists = flat_map (λ list. list) lists
+abbrev pub flattened : List (List TestNode) → List TestNode
+flattened lists = flat_map (λ list. list) lists
 
 abbrev pub tests_step : CondNode-F (List TestNode) → List TestNode
-tests_step (CondNode-F.And members) = one_by_one members
-tests_step (CondNode-F.Or members) = one_by_one members
+tests_step (CondNode-F.And members) = flattened members
+tests_step (CondNode-F.Or members) = flattened members
 tests_step (CondNode-F.Not member) = member
 tests_step (CondNode-F.Test test) = test ∷ []
 

@@ -32,7 +32,7 @@ use Rattle.query_types.specs.declared.types.Source.{Source}
 use Rattle.query_types.specs.declared.types.Out.{Out}
 use Rattle.query_types.specs.declared.types.Query.{Query}
 use Rattle.query_names.specs.Names.{entries}
-use Rattle.query_names.specs.Scopes.{resolve, entry_named, in_scope, whole_scope, Scoped, conditions}
+use Rattle.query_names.specs.Scopes.{resolve, entry_named, in_scope, whole_scope, ConditionInScope, conditions}
 use Rattle.query_names.specs.Numbers.{number_value}
 use Rattle.query_names.specs.Offences.{of_literal}
 
@@ -41,26 +41,26 @@ pub record Meaning : Type 0 where
   pub whole : Cond
   pub members : List Cond
 
-abbrev pub alone : Cond → Meaning
-alone c = record { whole = c; members = c ∷ [] }
+abbrev pub meaning_of_one : Cond → Meaning
+meaning_of_one c = record { whole = c; members = c ∷ [] }
 
-abbrev pub wholes : List Meaning → List Cond
-wholes parts = map (λ part. part.whole) parts
+abbrev pub conditions_of_meanings : List Meaning → List Cond
+conditions_of_meanings parts = map (λ part. part.whole) parts
 
 abbrev pub all_of : List Meaning → Meaning
-all_of parts = record { whole = cond.And (wholes parts); members = flat_map (λ part. part.members) parts }
+all_of parts = record { whole = cond.And (conditions_of_meanings parts); members = flat_map (λ part. part.members) parts }
 
 abbrev pub negated_where : Bool → Meaning → Meaning
-negated_where true m = alone (cond.Not m.whole)
+negated_where true m = meaning_of_one (cond.Not m.whole)
 negated_where false m = m
 
 -- the OR of these conditions. A single condition stays as it is
 abbrev pub any_of : List Cond → Meaning
-any_of [] = alone (cond.Or [])
-any_of (one ∷ []) = alone one
-any_of (one ∷ other ∷ rest) = alone (cond.Or (one ∷ other ∷ rest))
+any_of [] = meaning_of_one (cond.Or [])
+any_of (one ∷ []) = meaning_of_one one
+any_of (one ∷ other ∷ rest) = meaning_of_one (cond.Or (one ∷ other ∷ rest))
 
--- the reference to a column that was found. If no column is found, the name is wrong and the query is refused, so this column is never used
+-- the reference to a column that was found. If no column was found, the name is wrong and the query is refused, so the reference is never used
 abbrev pub resolved_column : Option EntryColumn → ColumnRef
 resolved_column None = record { from = 0; column = 0 }
 resolved_column (Some column) = record { from = column.from; column = column.column }
@@ -82,15 +82,15 @@ module _ (schema : Schema) (text : List ℕ) (from : List Source) (scope : Scope
 
   -- BETWEEN means the AND of >= and <=, and IN means the OR of equalities. NOT BETWEEN and NOT IN mean the NOT of that AND or OR
   abbrev pub test_meaning : TestNode → Meaning
-  test_meaning (test.Compare left how right) = alone (comparison how left right)
+  test_meaning (test.Compare left how right) = meaning_of_one (comparison how left right)
   test_meaning (test.Between left negated low high) =
-      negated_where negated (all_of (alone (comparison op.Ge left low) ∷ alone (comparison op.Le left high) ∷ []))
+      negated_where negated (all_of (meaning_of_one (comparison op.Ge left low) ∷ meaning_of_one (comparison op.Le left high) ∷ []))
   test_meaning (test.In left negated values) = negated_where negated (any_of (map (equality left) values))
 
   abbrev pub meaning_step : CondNode-F Meaning → Meaning
   meaning_step (CondNode-F.And members) = all_of members
-  meaning_step (CondNode-F.Or members) = alone (cond.Or (wholes members))
-  meaning_step (CondNode-F.Not member) = alone (cond.Not member.whole)
+  meaning_step (CondNode-F.Or members) = meaning_of_one (cond.Or (conditions_of_meanings members))
+  meaning_step (CondNode-F.Not member) = meaning_of_one (cond.Not member.whole)
   meaning_step (CondNode-F.Test t) = test_meaning t
 
   -- the meaning of a condition of a query text
@@ -98,7 +98,7 @@ module _ (schema : Schema) (text : List ℕ) (from : List Source) (scope : Scope
   meaning = fold-CondNode Meaning meaning_step
 
 module _ (schema : Schema) (text : List ℕ) (from : List Source) where
-  abbrev pub members_in : Scoped → List Cond
+  abbrev pub members_in : ConditionInScope → List Cond
   members_in c = (meaning schema text from c.scope c.condition).members
 
   -- the members of the ON conditions in text order, and then the members of WHERE's condition

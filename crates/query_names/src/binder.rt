@@ -1,7 +1,7 @@
 //! Resolves references to columns.
 ghost use Rattle.std.specs.Prelude.{◌≡◌, ◌≤◌, ◌<◌, ◌+◌, IfOk, length, ◌==◌, count_by, option_map, slice_get};
 ghost use Rattle.sql_tokens.specs.Words.{IsLexemeOf};
-ghost use Rattle.query_names.specs.Scopes.{only, entry_named, whole_scope, column_of};
+ghost use Rattle.query_names.specs.Scopes.{single_member, entry_named, whole_scope, column_of};
 ghost use Rattle.query_grammar.specs.Lexemes.{IsColumnWith};
 ghost use Rattle.query_names.specs.Binding.{schema_of, from_of, columns_in, FirstTwoAreEnough, resolved_by};
 
@@ -31,9 +31,9 @@ fn count_of(entries: &[Entry], table: u32) -> usize
 }
 
 impl<'a> Binder<'a> {
-    /// The column `name` in the tables of the entries `first_two`, if exactly one of them has it.
+    /// The column `name` in the tables of the entries `first_two`, if exactly one of these entries has it.
     fn column_without_alias(&self, first_two: &[Entry], name: &str) -> Option<EntryColumn>
-        ensures { result ≡ only (columns_in (schema_of self.now) name.now first_two.now) }
+        ensures { result ≡ single_member (columns_in (schema_of self.now) name.now first_two.now) }
     {
         let mut found = None;
         'all: for entry in first_two {
@@ -78,7 +78,7 @@ impl<'a> Binder<'a> {
         visible: &Visible,
         reference: &ColumnNode,
     ) -> Result<Option<EntryColumn>, NoMemory>
-        requires shows { FirstTwoAreEnough self.now visible.now }
+        requires first_two_enough { FirstTwoAreEnough self.now visible.now }
         requires tokens { IsColumnWith (IsLexemeOf self.now.text.now) reference.now }
         ensures { IfOk result (λ found. found ≡ resolved_by self.now visible.now.scope reference.now) }
     {
@@ -93,9 +93,9 @@ impl<'a> Binder<'a> {
     }
 
     /// An empty scope that begins at entry `first`.
-    #[tactic(auto, using(crate::proofs::ScopeFacts::none_shown))]
+    #[tactic(auto, using(crate::proofs::ScopeFacts::first_two_enough_in_empty_scope))]
     pub fn none_visible(&self, first: usize) -> Visible
-        ensures shows { FirstTwoAreEnough self.now result }
+        ensures first_two_enough { FirstTwoAreEnough self.now result }
         ensures scope { result.scope ≡ record { first = first; end = first } }
     {
         Visible {
@@ -105,12 +105,12 @@ impl<'a> Binder<'a> {
     }
 
     /// Brings the next entry into scope.
-    #[tactic(auto, using(crate::proofs::ScopeFacts::one_more_shown, crate::proofs::ScopeFacts::third_not_shown))]
+    #[tactic(auto, using(crate::proofs::ScopeFacts::first_two_enough_with_one_more, crate::proofs::ScopeFacts::first_two_enough_without_third))]
     pub fn bring_into_scope(&self, visible: &mut Visible) -> Result<(), NoMemory>
-        requires shows { FirstTwoAreEnough self.now visible.old }
+        requires first_two_enough { FirstTwoAreEnough self.now visible.old }
         requires begins { visible.old.scope.first ≤ visible.old.scope.end }
         requires ends { visible.old.scope.end < length (from_of self.now) }
-        ensures shows { IfOk result (λ _. FirstTwoAreEnough self.now visible.new) }
+        ensures first_two_enough { IfOk result (λ _. FirstTwoAreEnough self.now visible.new) }
         ensures scope { IfOk result (λ _. visible.new.scope ≡ record { first = visible.old.scope.first; end = visible.old.scope.end + 1 }) }
     {
         let number = visible.scope.end;
@@ -135,7 +135,7 @@ impl<'a> Binder<'a> {
 
     /// The scope of all entries.
     pub fn all_visible(&self) -> Result<Visible, NoMemory>
-        ensures shows { IfOk result (λ visible. FirstTwoAreEnough self.now visible) }
+        ensures first_two_enough { IfOk result (λ visible. FirstTwoAreEnough self.now visible) }
         ensures scope { IfOk result (λ visible. visible.scope ≡ whole_scope (from_of self.now)) }
     {
         let mut visible = self.none_visible(0);

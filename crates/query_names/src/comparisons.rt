@@ -5,16 +5,16 @@ ghost use Rattle.limits.specs.Profile.{most_entries};
 ghost use Rattle.sql_tokens.specs.Words.{IsLexemeOf};
 ghost use Rattle.query_grammar.specs.Lexemes.{IsLiteralWith, IsTestWith};
 ghost use Rattle.query_types.specs.declared.types.Cond.TheVariants as cond;
-ghost use Rattle.query_names.specs.Names.{place_if};
+ghost use Rattle.query_names.specs.Names.{offset_if};
 ghost use Rattle.query_names.specs.Offences.{left_of, differ};
 ghost use Rattle.query_names.specs.Answers.{IsNameError};
 ghost use Rattle.query_names.specs.Binding.{FirstTwoAreEnough, from_of, test_offences_of, test_value_by, test_members_by};
-ghost use Rattle.query_names.specs.Checking.{Checked, CheckedTest, comparisons_by, is_range, wrong_literal, equal_to};
+ghost use Rattle.query_names.specs.Checking.{IsStateAfterChecks, IsStateAfterTest, comparisons_by, is_range, wrong_literal, equal_to};
 
 use crate::QueryError;
 use crate::binder::Binder;
 use crate::checks::LateOffences;
-use crate::operands::{BoundOperand, bind_literal, copied};
+use crate::operands::{ResolvedOperand, bind_literal, copied};
 use crate::scope::Visible;
 use crate::values::test_condition;
 use base_io::{NoMemory, Seq};
@@ -53,16 +53,16 @@ impl<'a> Binder<'a> {
         self.entries.sources.len() <= MOST_ENTRIES && held.list.is_none()
     }
 
-    /// Adds the comparison of two operands. If the kind of `other` is wrong, its offset is kept.
+    /// Adds the comparison of two operands. If `other` is of the wrong kind, the offset of `other` is kept.
     fn compare(
         &self,
-        left: &BoundOperand,
+        left: &ResolvedOperand,
         op: Op,
-        other: BoundOperand,
+        other: ResolvedOperand,
         held: &mut LateOffences,
         found: &mut Seq<Cond>,
     ) -> Result<(), NoMemory>
-        ensures { IfOk result (λ _. Checked self.now [] (place_if (differ left.now.is_text other.is_text) other.first) []
+        ensures { IfOk result (λ _. IsStateAfterChecks self.now [] (offset_if (differ left.now.is_text other.is_text) other.first) []
             held.old held.new found.old found.new (cond.Compare op left.now.value other.value ∷ [])) }
     {
         held.note_kind(other.is_text != left.is_text, other.first);
@@ -80,13 +80,13 @@ impl<'a> Binder<'a> {
     /// Adds the equality of `left` with each value of an IN list.
     fn add_equalities(
         &self,
-        left: &BoundOperand,
+        left: &ResolvedOperand,
         values: &[LiteralNode],
         held: &mut LateOffences,
         found: &mut Seq<Cond>,
     ) -> Result<(), NoMemory>
         requires { All (IsLiteralWith (IsLexemeOf self.now.text.now)) values.now }
-        ensures { IfOk result (λ _. Checked self.now [] (flat_map (wrong_literal left.now.is_text) values.now) []
+        ensures { IfOk result (λ _. IsStateAfterChecks self.now [] (flat_map (wrong_literal left.now.is_text) values.now) []
             held.old held.new found.old found.new (map (equal_to self.now.text.now left.now.value) values.now)) }
     {
         'all: for value in values {
@@ -104,9 +104,9 @@ impl<'a> Binder<'a> {
         held: &mut LateOffences,
         found: &mut Seq<Cond>,
     ) -> Result<(), QueryError>
-        requires shows { FirstTwoAreEnough self.now visible.now }
+        requires first_two_enough { FirstTwoAreEnough self.now visible.now }
         requires tokens { IsTestWith (IsLexemeOf self.now.text.now) test.now }
-        ensures ok { IfOk result (λ _. CheckedTest self.now visible.now.scope test.now held.old held.new found.old found.new
+        ensures ok { IfOk result (λ _. IsStateAfterTest self.now visible.now.scope test.now held.old held.new found.old found.new
             (comparisons_by self.now visible.now.scope test.now)) }
         ensures err { IfErr result (IsNameError (test_offences_of self.now visible.now.scope test.now)) }
     {
@@ -137,9 +137,9 @@ impl<'a> Binder<'a> {
         held: &mut LateOffences,
         found: &mut Seq<Cond>,
     ) -> Result<(), QueryError>
-        requires shows { FirstTwoAreEnough self.now visible.now }
+        requires first_two_enough { FirstTwoAreEnough self.now visible.now }
         requires tokens { IsTestWith (IsLexemeOf self.now.text.now) test.now }
-        ensures ok { IfOk result (λ _. CheckedTest self.now visible.now.scope test.now held.old held.new found.old found.new
+        ensures ok { IfOk result (λ _. IsStateAfterTest self.now visible.now.scope test.now held.old held.new found.old found.new
             (test_value_by self.now visible.now.scope test.now ∷ [])) }
         ensures err { IfErr result (IsNameError (test_offences_of self.now visible.now.scope test.now)) }
     {
@@ -159,9 +159,9 @@ impl<'a> Binder<'a> {
         held: &mut LateOffences,
         found: &mut Seq<Cond>,
     ) -> Result<(), QueryError>
-        requires shows { FirstTwoAreEnough self.now visible.now }
+        requires first_two_enough { FirstTwoAreEnough self.now visible.now }
         requires tokens { IsTestWith (IsLexemeOf self.now.text.now) test.now }
-        ensures ok { IfOk result (λ _. CheckedTest self.now visible.now.scope test.now held.old held.new found.old found.new
+        ensures ok { IfOk result (λ _. IsStateAfterTest self.now visible.now.scope test.now held.old held.new found.old found.new
             (test_members_by self.now visible.now.scope test.now)) }
         ensures err { IfErr result (IsNameError (test_offences_of self.now visible.now.scope test.now)) }
     {

@@ -7,7 +7,7 @@ ghost use Rattle.query_grammar.specs.Lexemes.{IsCondWith};
 ghost use Rattle.query_names.specs.Scopes.{tests};
 ghost use Rattle.query_names.specs.Answers.{IsNameError};
 ghost use Rattle.query_names.specs.Binding.{FirstTwoAreEnough, test_offences_of, value_by, members_by};
-ghost use Rattle.query_names.specs.Checking.{CheckedTests};
+ghost use Rattle.query_names.specs.Checking.{IsStateAfterTests};
 
 use crate::QueryError;
 use crate::binder::Binder;
@@ -26,9 +26,9 @@ impl<'a> Binder<'a> {
         conditions: &[CondNode],
         held: &mut LateOffences,
     ) -> Result<Seq<Cond>, QueryError>
-        requires shows { FirstTwoAreEnough self.now visible.now }
+        requires first_two_enough { FirstTwoAreEnough self.now visible.now }
         requires tokens { All (IsCondWith (IsLexemeOf self.now.text.now)) conditions.now }
-        ensures ok { IfOk result (λ found. CheckedTests self.now visible.now.scope (flat_map tests conditions.now) held.old held.new [] found
+        ensures ok { IfOk result (λ found. IsStateAfterTests self.now visible.now.scope (flat_map tests conditions.now) held.old held.new [] found
             (map (value_by self.now visible.now.scope) conditions.now)) }
         ensures err { IfErr result (IsNameError (flat_map (test_offences_of self.now visible.now.scope) (flat_map tests conditions.now))) }
     {
@@ -48,9 +48,9 @@ impl<'a> Binder<'a> {
         held: &mut LateOffences,
         found: &mut Seq<Cond>,
     ) -> Result<(), QueryError>
-        requires shows { FirstTwoAreEnough self.now visible.now }
+        requires first_two_enough { FirstTwoAreEnough self.now visible.now }
         requires tokens { IsCondWith (IsLexemeOf self.now.text.now) condition.now }
-        ensures ok { IfOk result (λ _. CheckedTests self.now visible.now.scope (tests condition.now) held.old held.new found.old found.new
+        ensures ok { IfOk result (λ _. IsStateAfterTests self.now visible.now.scope (tests condition.now) held.old held.new found.old found.new
             (value_by self.now visible.now.scope condition.now ∷ [])) }
         ensures err { IfErr result (IsNameError (flat_map (test_offences_of self.now visible.now.scope) (tests condition.now))) }
     {
@@ -90,9 +90,9 @@ impl<'a> Binder<'a> {
         held: &mut LateOffences,
         found: &mut Seq<Cond>,
     ) -> Result<(), QueryError>
-        requires shows { FirstTwoAreEnough self.now visible.now }
+        requires first_two_enough { FirstTwoAreEnough self.now visible.now }
         requires tokens { IsCondWith (IsLexemeOf self.now.text.now) condition.now }
-        ensures ok { IfOk result (λ _. CheckedTests self.now visible.now.scope (tests condition.now) held.old held.new found.old found.new
+        ensures ok { IfOk result (λ _. IsStateAfterTests self.now visible.now.scope (tests condition.now) held.old held.new found.old found.new
             (members_by self.now visible.now.scope condition.now)) }
         ensures err { IfErr result (IsNameError (flat_map (test_offences_of self.now visible.now.scope) (tests condition.now))) }
     {

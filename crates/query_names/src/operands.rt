@@ -6,7 +6,7 @@ ghost use Rattle.query_types.specs.Validity.{is_text};
 ghost use Rattle.query_names.specs.Values.{resolved_column};
 ghost use Rattle.query_names.specs.Answers.{IsNameError};
 ghost use Rattle.query_names.specs.Binding.{FirstTwoAreEnough, name_offences_of};
-ghost use Rattle.query_names.specs.Checking.{bound_literal, IsBound};
+ghost use Rattle.query_names.specs.Checking.{resolved_literal, IsResolvedOperand};
 
 use crate::QueryError;
 use crate::binder::Binder;
@@ -22,7 +22,7 @@ use std::alloc::Global;
 
 /// An operand without a wrong name: its value, whether it is a text, and its first token.
 #[derive(Drop)]
-pub struct BoundOperand {
+pub struct ResolvedOperand {
     pub value: Operand,
     pub is_text: bool,
     pub first: Lexeme,
@@ -75,17 +75,17 @@ pub fn bind_literal(
     alloc: Global,
     text: &[u8],
     value: &LiteralNode,
-) -> Result<BoundOperand, NoMemory>
+) -> Result<ResolvedOperand, NoMemory>
     requires { IsLiteralWith (IsLexemeOf text.now) value.now }
-    ensures { IfOk result (λ found. found ≡ bound_literal text.now value.now) }
+    ensures { IfOk result (λ found. found ≡ resolved_literal text.now value.now) }
 {
     match value {
-        LiteralNode::Number { sign, digits } => Ok(BoundOperand {
+        LiteralNode::Number { sign, digits } => Ok(ResolvedOperand {
             value: Operand::Int(number_value(text, sign, digits)),
             is_text: false,
             first: sign.unwrap_or(*digits),
         }),
-        LiteralNode::Text(token) => Ok(BoundOperand {
+        LiteralNode::Text(token) => Ok(ResolvedOperand {
             value: Operand::Text(literal(alloc, text, token)?),
             is_text: true,
             first: *token,
@@ -100,17 +100,17 @@ impl<'a> Binder<'a> {
         &self,
         visible: &Visible,
         operand: &OperandNode,
-    ) -> Result<BoundOperand, QueryError>
-        requires shows { FirstTwoAreEnough self.now visible.now }
+    ) -> Result<ResolvedOperand, QueryError>
+        requires first_two_enough { FirstTwoAreEnough self.now visible.now }
         requires tokens { IsOperandWith (IsLexemeOf self.now.text.now) operand.now }
-        ensures ok { IfOk result (λ found. IsBound self.now visible.now.scope operand.now found) }
+        ensures ok { IfOk result (λ found. IsResolvedOperand self.now visible.now.scope operand.now found) }
         ensures err { IfErr result (IsNameError (name_offences_of self.now visible.now.scope operand.now)) }
     {
         match operand {
             OperandNode::Column(reference) => {
                 let first = reference.table.unwrap_or(reference.column);
                 match self.resolve(visible, reference)? {
-                    Some(column) => Ok(BoundOperand {
+                    Some(column) => Ok(ResolvedOperand {
                         value: Operand::Column(capped_reference(column)),
                         is_text: is_text(column.kind),
                         first,

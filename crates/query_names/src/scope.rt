@@ -24,7 +24,8 @@ pub struct EntryColumn {
     pub kind: Kind,
 }
 
-/// The entries in scope. `first_two` has the first two of them for each table. These are enough to resolve a reference without an alias.
+/// The entries in scope. `first_two` has the first two entries in scope of each table. These entries are enough to resolve a reference without an
+/// alias.
 #[derive(Drop)]
 pub struct Visible {
     pub scope: Scope,

@@ -52,7 +52,7 @@ pub fn number_value(text: &[u8], sign: &Option<Lexeme>, digits: &Lexeme) -> i64
 }
 
 /// The OR of these conditions. A single condition stays as it is.
-#[tactic(auto, using(crate::proofs::Meanings::one_of, crate::proofs::Meanings::several_of))]
+#[tactic(auto, using(crate::proofs::Meanings::only_part_is_or, crate::proofs::Meanings::several_parts_are_or))]
 fn any_of(mut parts: Seq<Cond>) -> Cond
     ensures { result ≡ (any_of parts).whole }
 {
@@ -77,8 +77,8 @@ fn negated_if(alloc: Global, negated: bool, condition: Cond) -> Result<Cond, NoM
     }
 }
 
-/// The condition of a test, from its comparisons. BETWEEN is the AND of its comparisons, and IN the OR. NOT BETWEEN and NOT IN are the NOT of
-/// this AND or OR. The condition of a test with a comparison operator is its only comparison.
+/// The condition of a test, from its comparisons. BETWEEN is the AND of its comparisons, and IN is the OR of its comparisons. NOT BETWEEN
+/// is the NOT of this AND, and NOT IN the NOT of this OR. The condition of a test with a comparison operator is its only comparison.
 pub fn test_condition(alloc: Global, test: &TestNode, parts: Seq<Cond>) -> Result<Cond, NoMemory>
     ensures { IfOk result (λ found. found ≡ test_condition test.now parts) }
 {

@@ -1,5 +1,5 @@
 -- When a condition compares numbers with numbers and texts with texts. The relation `IsColumn` says which columns exist, and whether a column has
--- texts. The crates use two relations of this form: that of a schema, and that of a database.
+-- texts. Two relations are used for `IsColumn`: one for the columns of a schema, and one for the columns of a database.
 use Rattle.std.specs.Prelude.{◌≡◌, Bool, true, false, ⊤}
 use Rattle.query_types.specs.declared.types.ColumnRef.{ColumnRef}
 use Rattle.query_types.specs.declared.types.Operand.{Operand}

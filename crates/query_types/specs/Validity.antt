@@ -47,10 +47,10 @@ pub record IsOutOf (schema : Schema) (from : List Source) (out : Out) : Type 0 w
 
 -- a query of a schema: it has 1 to 12 FROM entries and at most 256 conjuncts. Every table, entry and column in it exists, and each comparison
 -- has two operands of one kind
-pub record IsOf (schema : Schema) (query : Query) : Type 0 where
-  pub some : 0 < length query.from
-  pub few : length query.from ≤ most_entries
-  pub conjuncts_few : length query.conjuncts ≤ most_conjuncts
+pub record IsQueryOf (schema : Schema) (query : Query) : Type 0 where
+  pub has_entries : 0 < length query.from
+  pub entries_within_limit : length query.from ≤ most_entries
+  pub conjuncts_within_limit : length query.conjuncts ≤ most_conjuncts
   pub sources : All (IsSourceOf schema) query.from
   pub conjuncts : All (IsCondOf schema query.from) query.conjuncts
   pub outs : All (IsOutOf schema query.from) query.select

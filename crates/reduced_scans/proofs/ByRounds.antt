@@ -1,4 +1,4 @@
--- Rounds end in the reduced scans. Every round keeps the rows of all consistent families, and after enough rounds nothing changes any more.
+-- Repeated rounds reach the reduced scans. Every round keeps the rows of all consistent families, and after enough rounds nothing changes any more.
 use Rattle.std.proofs.Common.{◌≡◌, ℕ, zero, suc, ◌+◌, ◌<◌, ◌≤◌, Bool, true, not, ◌||◌, List, [], ◌∷◌, length, refl, ap, sym, ◌∙◌, subst, arith, inl, inr}
 use Rattle.std.specs.Prelude.{◌==◌}
 use Rattle.std.specs.List.{Contains, filter, list_any}
@@ -15,24 +15,24 @@ use Rattle.reduced_scans.specs.Families.{AreAscending, HasPartner, IsConsistent,
 use Rattle.reduced_scans.specs.Rounds.{after_rounds, has_all_partners, finds_partners, reduced_of, round_from, rows_in_all}
 use Rattle.reduced_scans.specs.Scans.{AreReducedScans}
 use Rattle.reduced_scans.proofs.Members.{behind, in_cases, in_front, not_in_none}
-use Rattle.join_steps.proofs.WholeScans.{ascending, filter_ascends}
+use Rattle.join_steps.proofs.WholeScans.{scan_ascends, filter_ascends}
 use Rattle.level_bounds.proofs.Scanning.{implied, implies}
 
 -- ---- `list_any` is true exactly if some member passes the test
 
-some_of : (p : ℕ → Bool) (xs : List ℕ) → list_any p xs ≡ true → (x : ℕ) × Contains xs x × (p x ≡ true)
-some_of p [] h = absurd (false≢true h)
-some_of p (x ∷ xs) h = elim (cases_Bool (p x)) [
+any_exists : (p : ℕ → Bool) (xs : List ℕ) → list_any p xs ≡ true → (x : ℕ) × Contains xs x × (p x ≡ true)
+any_exists p [] h = absurd (false≢true h)
+any_exists p (x ∷ xs) h = elim (cases_Bool (p x)) [
   | inl here ↦ (x, in_front x x xs refl, here)
   | inr not_here ↦ (let rest : list_any p xs ≡ true = rw not_here at h in
-      let found : (y : ℕ) × Contains xs y × (p y ≡ true) = some_of p xs rest in (found.0, behind found.0 x xs found.1, found.2))
+      let found : (y : ℕ) × Contains xs y × (p y ≡ true) = any_exists p xs rest in (found.0, behind found.0 x xs found.1, found.2))
 ]
 
-any_of : (p : ℕ → Bool) (xs : List ℕ) (x : ℕ) → Contains xs x → p x ≡ true → list_any p xs ≡ true
-any_of p [] x has is = absurd (not_in_none x has)
-any_of p (y ∷ xs) x has is = elim (in_cases x y xs has) [
+exists_any : (p : ℕ → Bool) (xs : List ℕ) (x : ℕ) → Contains xs x → p x ≡ true → list_any p xs ≡ true
+exists_any p [] x has is = absurd (not_in_none x has)
+exists_any p (y ∷ xs) x has is = elim (in_cases x y xs has) [
   | inl here ↦ (let first : p y ≡ true = ap p here ∙ is in rw first refl)
-  | inr there ↦ rw (any_of p xs x there is) (or-true (p y))
+  | inr there ↦ rw (exists_any p xs x there is) (or-true (p y))
 ]
 
 -- ---- the partners of a row in a family
@@ -50,12 +50,12 @@ module _ (equal : Edge → ℕ → ℕ → Bool) (family : List (List ℕ)) (ent
   abbrev on_right : Edge → Bool
   on_right e = not (e.right.entry == entry) || list_any (λ left. equal e left row) (list_at family e.left.entry)
 
-  finds : (e : Edge) → finds_partners equal family entry row e ≡ true → FromLeft e × FromRight e
-  finds e h =
+  has_partners_on_both_sides : (e : Edge) → finds_partners equal family entry row e ≡ true → FromLeft e × FromRight e
+  has_partners_on_both_sides e h =
       let parts : (on_left e ≡ true) × (on_right e ≡ true) = and_parts (on_left e) (on_right e) h in (
-        (λ at. some_of (equal e row) (list_at family e.right.entry)
+        (λ at. any_exists (equal e row) (list_at family e.right.entry)
             (implied (e.left.entry == entry) (list_any (equal e row) (list_at family e.right.entry)) parts.0 (eq-eqb e.left.entry entry at))),
-        (λ at. some_of (λ left. equal e left row) (list_at family e.left.entry)
+        (λ at. any_exists (λ left. equal e left row) (list_at family e.left.entry)
             (implied (e.right.entry == entry) (list_any (λ left. equal e left row) (list_at family e.left.entry)) parts.1 (eq-eqb e.right.entry entry at))),
       )
 
@@ -64,10 +64,10 @@ module _ (equal : Edge → ℕ → ℕ → Bool) (family : List (List ℕ)) (ent
       and_from (on_left e) (on_right e)
       (implies (e.left.entry == entry) (list_any (equal e row) (list_at family e.right.entry)) (λ at.
       let partner : HasPartner (equal e) (list_at family e.right.entry) row = left (eqb-true e.left.entry entry at) in
-      any_of (equal e row) (list_at family e.right.entry) partner.0 partner.1 partner.2))
+      exists_any (equal e row) (list_at family e.right.entry) partner.0 partner.1 partner.2))
       (implies (e.right.entry == entry) (list_any (λ left. equal e left row) (list_at family e.left.entry)) (λ at.
       let partner : HasPartner (λ right left. equal e left right) (list_at family e.left.entry) row = right (eqb-true e.right.entry entry at) in
-      any_of (λ left. equal e left row) (list_at family e.left.entry) partner.0 partner.1 partner.2))
+      exists_any (λ left. equal e left row) (list_at family e.left.entry) partner.0 partner.1 partner.2))
 
 -- ---- a filter shortens a list or leaves it unchanged
 
@@ -152,8 +152,8 @@ module _ (scans : List (List ℕ)) (es : List Edge) (equal : Edge → ℕ → �
 
   -- ---- a family that a round doesn't change is reduced
 
-  fixed : (family : List (List ℕ)) → IsFamily scans family → Contained family → round family ≡ family → IsReduced scans es equal family
-  fixed family is all same = record {
+  unchanged_is_reduced : (family : List (List ℕ)) → IsFamily scans family → Contained family → round family ≡ family → IsReduced scans es equal family
+  unchanged_is_reduced family is all same = record {
     consistent = record {
       is_family = is;
       from_left = λ e there row has. (stays e.left.entry row has e there).0 refl;
@@ -164,18 +164,18 @@ module _ (scans : List (List ℕ)) (es : List Edge) (equal : Edge → ℕ → �
     where
       stays : (entry row : ℕ) → Contains (list_at family entry) row → (e : Edge) → Contains es e → FromLeft equal family entry row e × FromRight equal family entry row e
       stays entry row has e there =
-          finds equal family entry row e
+          has_partners_on_both_sides equal family entry row e
           (all_true (finds_partners equal family entry row) es
           (from_filter (has_all_partners es equal family entry) (list_at family entry) row
           (subst (λ (l : List ℕ). Contains l row) (after_at family entry) (subst (λ (f : List (List ℕ)). Contains (list_at f entry) row) (sym same) has))).1
           e there)
 
   rounds_reduce : (count : ℕ) (family : List (List ℕ)) → IsFamily scans family → Contained family → rows_in_all family < count → IsReduced scans es equal (after_rounds es equal count family)
-  rounds_reduce zero family is all few = absurd (omega arith)
-  rounds_reduce (suc count) family is all few = elim (cases_eq (rows_in_all (round family)) (rows_in_all family)) [
+  rounds_reduce zero family is all fewer_rows_than_rounds = absurd (omega arith)
+  rounds_reduce (suc count) family is all fewer_rows_than_rounds = elim (cases_eq (rows_in_all (round family)) (rows_in_all family)) [
     | inl same ↦ (let stays : round family ≡ family = round_stays family family 0 same in
-        subst (IsReduced scans es equal) (sym (settled (suc count) family stays)) (fixed family is all stays))
-    | inr other ↦ rounds_reduce count (round family) (round_family family is) (round_contained family all) (omega (arith, other, few, round_shrinks family family 0))
+        subst (IsReduced scans es equal) (sym (settled (suc count) family stays)) (unchanged_is_reduced family is all stays))
+    | inr other ↦ rounds_reduce count (round family) (round_family family is) (round_contained family all) (omega (arith, other, fewer_rows_than_rounds, round_shrinks family family 0))
   ]
 
   pub by_rounds : AreAscending scans → IsReduced scans es equal (after_rounds es equal (rows_in_all scans + 1) scans)
@@ -185,4 +185,4 @@ module _ (scans : List (List ℕ)) (es : List Edge) (equal : Edge → ℕ → �
 
 pub reduced_scans_by_rounds : (query : Query) (tables : Tables) → AreReducedScans query tables (reduced_of query tables)
 unfolding reduced_of
-reduced_scans_by_rounds query tables = by_rounds (scans_of query tables) (equalities_of query) (are_equal_at tables) (ascending query tables)
+reduced_scans_by_rounds query tables = by_rounds (scans_of query tables) (equalities_of query) (are_equal_at tables) (scan_ascends query tables)

@@ -21,15 +21,15 @@ single_at [] e h = absurd (omega arith)
 single_at (row ∷ rows) zero h = refl
 single_at (row ∷ rows) (suc e) h = single_at rows e (omega arith)
 
-in_one : (x row : ℕ) → Contains (x ∷ []) row → x ≡ row
-in_one x row has = elim (in_cases row x [] has) [
+in_singleton : (x row : ℕ) → Contains (x ∷ []) row → x ≡ row
+in_singleton x row has = elim (in_cases row x [] has) [
   | inl here ↦ here
   | inr there ↦ absurd (not_in_none row there)
 ]
 
 kept_is : (choice : List ℕ) (e row : ℕ) → Contains (list_at (singles choice) e) row → (e < length choice) × (get_or choice e 0 ≡ row)
 kept_is choice e row has = elim (cases_lt e (length choice)) [
-  | inl within ↦ (within, in_one (get_or choice e 0) row (subst (λ l. Contains l row) (single_at choice e within) has))
+  | inl within ↦ (within, in_singleton (get_or choice e 0) row (subst (λ l. Contains l row) (single_at choice e within) has))
   | inr past ↦ absurd (not_in_none row (subst (λ l. Contains l row) (get_or_past (singles choice) e [] (omega (arith, length-singles choice))) has))
 ]
 

@@ -1,4 +1,4 @@
--- A level over the reduced scans is equal to the level over whole tables.
+-- The level of all entries over the reduced scans is equal to their level over whole tables.
 use Rattle.std.proofs.Common.{◌≡◌, ℕ, ◌<◌, Bool, true, List, [], ◌∷◌, length, map, refl, ◌∙◌, subst, arith}
 use Rattle.std.specs.List.{Contains, filter}
 use Rattle.query_types.specs.declared.types.Query.{Query}
@@ -9,9 +9,9 @@ use Rattle.sql_meaning.specs.Tables.{Tables, row_counts}
 use Rattle.sql_meaning.proofs.AskFacts.{depend_on_named}
 use Rattle.level_bounds.specs.Orders.{IsOrderOfSet}
 use Rattle.level_bounds.specs.Scans.{level_over_entries}
-use Rattle.level_bounds.proofs.Choosing.{entry_of}
+use Rattle.level_bounds.proofs.Choosing.{order_entry_in_set}
 use Rattle.level_bounds.proofs.Lists.{range_within}
-use Rattle.level_bounds.proofs.Reordering.{back}
+use Rattle.level_bounds.proofs.Reordering.{reordered_back}
 use Rattle.join_steps.specs.Lists.{list_at}
 use Rattle.reduced_scans.specs.Scans.{AreReducedScans}
 use Rattle.reduced_scans.proofs.Bridge.{contains-has, has}
@@ -35,7 +35,7 @@ module _ (query : Query) (tables : Tables) (reduced : List (List ℕ)) (are : Ar
   same_level named order o =
       family_level query tables reduced are.consistent.is_family order
       ∙ filter_all (all_pass stays order) (level_over_entries query tables order) (λ choice here.
-      subst (λ c. all_pass stays order c ≡ true) (back (conjuncts_of query tables) (row_counts tables) (entries_of query) order order o o choice here)
+      subst (λ c. all_pass stays order c ≡ true) (reordered_back (conjuncts_of query tables) (row_counts tables) (entries_of query) order order o o choice here)
       (all_pass_mapped stays (row_in order choice) order (λ entry placed.
-      let low : entry < length query.from = omega (arith, (range_within 0 (length query.from) entry (entry_of (entries_of query) order o entry placed)).1) in
-      contains-has (row_in order choice entry) (list_at reduced entry) (rows_stay query tables (depend_on_named tables query.conjuncts) named order o choice here reduced are entry low))))
+      let entry_in_range : entry < length query.from = omega (arith, (range_within 0 (length query.from) entry (order_entry_in_set (entries_of query) order o entry placed)).1) in
+      contains-has (row_in order choice entry) (list_at reduced entry) (rows_stay query tables (depend_on_named tables query.conjuncts) named order o choice here reduced are entry entry_in_range))))

@@ -17,7 +17,7 @@ use Rattle.reduced_scans.specs.SemiJoins.{IsJoinedAt, IsSemiJoin}
 use Rattle.reduced_scans.specs.Wiring.{key_on}
 use Rattle.reduced_scans.proofs.ByRounds.{filter_shrinks}
 use Rattle.join_steps.proofs.WholeScans.{length-lists_of}
-use Rattle.level_bounds.proofs.NearWhole.{all_kept}
+use Rattle.level_bounds.proofs.NearWhole.{filter_true_is_list}
 use Rattle.reduced_scans.proofs.OfQuery.{read_list}
 
 pub got_list : (lists : List (Rows ℕ)) (entry : ℕ) (list : Rows ℕ) → slice_get lists entry ≡ Some list → list.items ≡ list_at (lists_of lists) entry
@@ -25,12 +25,12 @@ got_list lists entry list got = read_list lists entry list (slice_get_within lis
 
 module _ (key : Keys) (side other : Place) where
   -- unchanged lists are a semi-join too, in which every row passes
-  pub joined_not : (lists : List (List ℕ)) → IsJoinedAt key side other lists lists
-  joined_not lists = record {
+  pub unchanged_is_joined : (lists : List (List ℕ)) → IsJoinedAt key side other lists lists
+  unchanged_is_joined lists = record {
     count = refl;
     joined = record {
       test = λ row. true;
-      filtered = sym (all_kept (list_at lists side.entry));
+      filtered = sym (filter_true_is_list (list_at lists side.entry));
       passes = λ row partner in_list in_partners same. refl;
     };
     elsewhere = λ entry apart. refl;
@@ -39,7 +39,7 @@ module _ (key : Keys) (side other : Place) where
   pub joined_at : (lists new : List (Rows ℕ)) (kept : Rows ℕ) → side.entry < length lists → new ≡ set lists side.entry kept
       → IsSemiJoin (key_on key side) (key_on key other) (list_at (lists_of lists) side.entry) (list_at (lists_of lists) other.entry) kept.items
       → IsJoinedAt key side other (lists_of lists) (lists_of new)
-  joined_at lists new kept low is join =
+  joined_at lists new kept in_range is join =
       let same : lists_of new ≡ set (lists_of lists) side.entry kept.items = ap lists_of is ∙ map-set (λ (l : Rows ℕ). l.items) lists side.entry kept in
       let here : list_at (lists_of new) side.entry ≡ kept.items =
       ap (λ (l : List (List ℕ)). list_at l side.entry) same ∙ get_or-set_same (lists_of lists) side.entry kept.items [] (omega (arith, length-lists_of lists)) in
@@ -57,13 +57,13 @@ module _ (key : Keys) (side other : Place) where
         tables = are.tables;
         count = count ∙ are.count;
         few = omega (arith, count, are.few);
-        rows = λ entry low. elim (cases_eq entry side.entry) [
+        rows = λ entry entry_in_range. elim (cases_eq entry side.entry) [
           | inl same ↦ (let within : ℕ → Type 0 = λ row. row < (cells_of db entry).rows in
-              let old_rows : All within (list_at (lists_of old) side.entry) = subst (λ (k : ℕ). All within (list_at (lists_of old) k)) same (are.rows entry (omega (arith, count, low))) in
+              let old_rows : All within (list_at (lists_of old) side.entry) = subst (λ (k : ℕ). All within (list_at (lists_of old) k)) same (are.rows entry (omega (arith, count, entry_in_range))) in
               let filtered : All within (list_at (lists_of new) side.entry) =
               subst (All within) (sym joined.joined.filtered) (All-filter joined.joined.test within (list_at (lists_of old) side.entry) old_rows) in
               subst (λ (k : ℕ). All within (list_at (lists_of new) k)) (sym same) filtered)
-          | inr apart ↦ subst (All (λ row. row < (cells_of db entry).rows)) (sym (joined.elsewhere entry apart)) (are.rows entry (omega (arith, count, low)))
+          | inr apart ↦ subst (All (λ row. row < (cells_of db entry).rows)) (sym (joined.elsewhere entry apart)) (are.rows entry (omega (arith, count, entry_in_range)))
         ];
         sizes = λ entry. elim (cases_eq entry side.entry) [
           | inl same ↦ omega (
@@ -86,6 +86,6 @@ lists_alike db scans lists are same =
       tables = are.tables;
       count = count ∙ are.count;
       few = omega (arith, count, are.few);
-      rows = λ entry low. subst (λ (l : List (List ℕ)). All (λ row. row < (cells_of db entry).rows) (list_at l entry)) (sym same) (are.rows entry (omega (arith, count, low)));
+      rows = λ entry entry_in_range. subst (λ (l : List (List ℕ)). All (λ row. row < (cells_of db entry).rows) (list_at l entry)) (sym same) (are.rows entry (omega (arith, count, entry_in_range)));
       sizes = λ entry. subst (λ (l : List (List ℕ)). length (list_at l entry) ≤ most_rows) (sym same) (are.sizes entry);
     }

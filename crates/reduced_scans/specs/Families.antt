@@ -1,4 +1,5 @@
--- Families in which each row has its partners, and the greatest of these families. A family has for each entry a list of some of its scanned rows.
+-- Families in which each row has a match (a partner) across each equality of its entry, and the greatest of these families. A family has for each
+-- entry a list of some of its scanned rows.
 use Rattle.std.specs.Prelude.{◌≡◌, ℕ, ◌<◌, Bool, true, List, length, slice_index}
 use Rattle.std.specs.List.{Contains}
 use Rattle.berge_tree.specs.declared.edges.Edge.{Edge}

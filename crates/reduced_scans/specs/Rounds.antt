@@ -8,7 +8,7 @@ use Rattle.sql_meaning.specs.Tables.{Tables}
 use Rattle.level_bounds.specs.Keys.{are_equal_at}
 use Rattle.join_steps.specs.Lists.{list_at, scans_of}
 
--- whether the row has its partners across the equality: for each side that is a column of this entry, a partner in the list of the other side
+-- whether the row has a match on the other side, for each side of the equality that is a column of this entry
 abbrev pub finds_partners : (Edge → ℕ → ℕ → Bool) → List (List ℕ) → ℕ → ℕ → Edge → Bool
 finds_partners equal family entry row e =
     (not (e.left.entry == entry) || list_any (equal e row) (list_at family e.right.entry))
@@ -18,7 +18,8 @@ finds_partners equal family entry row e =
 abbrev pub has_all_partners : List Edge → (Edge → ℕ → ℕ → Bool) → List (List ℕ) → ℕ → ℕ → Bool
 has_all_partners es equal family entry row = list_all (finds_partners equal family entry row) es
 
--- one round, for lists of which the first is the list of `entry`. Each list keeps the rows that have all their partners in `family`
+-- one round, for lists of which the first is the list of `entry`. Each list keeps the rows that have a match in `family` across each equality of
+-- their entry
 abbrev pub round_from : List Edge → (Edge → ℕ → ℕ → Bool) → List (List ℕ) → ℕ → List (List ℕ) → List (List ℕ)
 round_from es equal family entry [] = []
 round_from es equal family entry (list ∷ lists) =
@@ -34,7 +35,7 @@ abbrev pub rows_in_all : List (List ℕ) → ℕ
 rows_in_all [] = 0
 rows_in_all (list ∷ lists) = length list + rows_in_all lists
 
--- the scans after as many rounds as there are scanned rows, and one more. A further round would change nothing
+-- the scans after n + 1 rounds, where n is the number of scanned rows. A further round would change nothing
 unfoldable pub reduced_of : Query → Tables → List (List ℕ)
 reduced_of query tables =
     after_rounds (equalities_of query) (are_equal_at tables) (rows_in_all (scans_of query tables) + 1) (scans_of query tables)

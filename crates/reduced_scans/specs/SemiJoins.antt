@@ -1,4 +1,5 @@
--- Conditions on the rows that semi-joins remove. Uses are made only for the rows that remain. No public contract uses this file.
+-- Conditions on the rows that semi-joins remove. For the rows that remain, the uses of counted_sets are made afterwards. No public contract uses this
+-- file.
 use Rattle.std.specs.Prelude.{◌≡◌, ◌≢◌, ℕ, ◌-◌, Bool, true, false, ◌&&◌, nat_le, List, length, slice_index_or}
 use Rattle.std.specs.List.{Contains, filter}
 use Rattle.berge_tree.specs.declared.edges.Edge.{Edge}

@@ -44,7 +44,7 @@ pub record ValuesBeginWith (old new : NumberedValues) : Type 0 where
   pub more : NumberedValues
   pub grew : new ≡ old ++ more
 
--- the column on one side of an equality: on the left side if the flag is `true`. The definition after it is for the opposite side
+-- the column on one side of an equality: the left side if the flag is `true`, otherwise the right side. `opposite` gives the flag of the other side
 abbrev pub side_of : Edge → Bool → Place
 side_of e true = e.left
 side_of e false = e.right
@@ -57,17 +57,17 @@ abbrev pub slot_of : ℕ → Bool → ℕ
 slot_of value_number true = 2 * value_number
 slot_of value_number false = 2 * value_number + 1
 
--- `u` is the use of an item whose row has the cell `cell` on the side `on` of an equality. The item gives the slot of this value on this side, and
--- needs the slot of this value on the opposite side
-pub record IsUseFor (known_values : NumberedValues) (equality : ℕ) (on : Bool) (cell item : ℕ) (u : Use) : Type 0 where
+-- `u` is the use of an item whose row has the cell `cell` on the side `is_left` of an equality. The item gives the slot of this value on this side,
+-- and needs the slot of this value on the opposite side
+pub record IsUseFor (known_values : NumberedValues) (equality : ℕ) (is_left : Bool) (cell item : ℕ) (u : Use) : Type 0 where
   pub value_number : ℕ
   pub is_value : slice_get known_values value_number ≡ Some (equality, cell)
   pub is_item : u.item ≡ item
-  pub gives : u.gives ≡ slot_of value_number on
-  pub needs : u.needs ≡ slot_of value_number (opposite on)
+  pub gives : u.gives ≡ slot_of value_number is_left
+  pub needs : u.needs ≡ slot_of value_number (opposite is_left)
 
 -- the uses of the first `count` rows of a list were added, and the values that the uses need were numbered
-pub record AddsUses (equality : ℕ) (on : Bool) (first : ℕ) (cells list : List ℕ) (count : ℕ)
+pub record AddsUses (equality : ℕ) (is_left : Bool) (first : ℕ) (cells list : List ℕ) (count : ℕ)
     (old_values new_values : NumberedValues) (old new : List Use) : Type 0 where
   pub begins : ValuesBeginWith old_values new_values
   pub size : length new ≡ length old + count
@@ -75,9 +75,9 @@ pub record AddsUses (equality : ℕ) (on : Bool) (first : ℕ) (cells list : Lis
   pub kept : (u : Use) → Contains old u → Contains new u
   pub sound : (u : Use) → Contains new u
       → Contains old u ⊎ ((place : ℕ) × (place < count)
-      × IsUseFor new_values equality on (slice_index cells (slice_index list place)) (first + place) u)
+      × IsUseFor new_values equality is_left (slice_index cells (slice_index list place)) (first + place) u)
   pub complete : (place : ℕ) → place < count
-      → (u : Use) × Contains new u × IsUseFor new_values equality on (slice_index cells (slice_index list place)) (first + place) u
+      → (u : Use) × Contains new u × IsUseFor new_values equality is_left (slice_index cells (slice_index list place)) (first + place) u
 
 -- equality `e` has the index m
 abbrev pub IsEqualityAt : List Edge → ℕ → Edge → Type 0
@@ -96,20 +96,20 @@ HoldsByKey scans equalities key equal = (e : Edge) → Contains equalities e →
 pub record IsUseForRow (scans : List (List ℕ)) (equalities : List Edge) (key : Keys) (known_values : NumberedValues) (count : ℕ) (u : Use) : Type 0 where
   pub number : ℕ
   pub edge : Edge
-  pub on : Bool
+  pub is_left : Bool
   pub place : ℕ
   pub below : number < count
   pub numbered : IsEqualityAt equalities number edge
-  pub within : place < length (list_at scans (side_of edge on).entry)
-  pub is_use : IsUseFor known_values number on (key_on key (side_of edge on) (row_at scans (side_of edge on).entry place))
-      (first_item scans (side_of edge on).entry + place) u
+  pub within : place < length (list_at scans (side_of edge is_left).entry)
+  pub is_use : IsUseFor known_values number is_left (key_on key (side_of edge is_left) (row_at scans (side_of edge is_left).entry place))
+      (first_item scans (side_of edge is_left).entry + place) u
 
 -- `uses` are exactly the uses of the rows on both sides of the first `count` equalities
 pub record AreUsesOfRows (scans : List (List ℕ)) (equalities : List Edge) (key : Keys) (known_values : NumberedValues) (count : ℕ)
     (uses : List Use) : Type 0 where
   pub sound : (u : Use) → Contains uses u → IsUseForRow scans equalities key known_values count u
-  pub complete : (number : ℕ) (edge : Edge) (on : Bool) (place : ℕ) → number < count → IsEqualityAt equalities number edge
-      → place < length (list_at scans (side_of edge on).entry)
+  pub complete : (number : ℕ) (edge : Edge) (is_left : Bool) (place : ℕ) → number < count → IsEqualityAt equalities number edge
+      → place < length (list_at scans (side_of edge is_left).entry)
       → (u : Use) × Contains uses u
-      × IsUseFor known_values number on (key_on key (side_of edge on) (row_at scans (side_of edge on).entry place))
-      (first_item scans (side_of edge on).entry + place) u
+      × IsUseFor known_values number is_left (key_on key (side_of edge is_left) (row_at scans (side_of edge is_left).entry place))
+      (first_item scans (side_of edge is_left).entry + place) u

@@ -19,9 +19,9 @@ pub fn one_reduction()
         → AreReducedScans query tables a → AreReducedScans query tables b → a ≡ b }
 {}
 
-/// Repeated rounds reach the reduced scans. A round removes all rows that lack a partner. After as many rounds as there are scanned rows, and one
-/// more, no row lacks a partner. A removed row is in no family in which each row has its partners. So the reduced scans are exactly the result of
-/// these rounds.
+/// Repeated rounds reach the reduced scans. A round removes all rows that lack a match. After n + 1 rounds, where n is the number of scanned rows, no
+/// row lacks a match. A removed row is in no family in which each row has a match across each equality of its entry. So the reduced scans are exactly
+/// the result of these rounds.
 pub fn reduced_scans_are_by_rounds()
     ensures are { (query : Query) (tables : Tables) → AreReducedScans query tables (reduced_of query tables) }
     ensures no_others { (query : Query) (tables : Tables) (reduced : List (List ℕ)) → AreReducedScans query tables reduced

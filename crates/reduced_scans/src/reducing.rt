@@ -142,8 +142,8 @@ pub fn reduce_scans(
 {
     texts_are_different(&db.pool);
     let lists = semi_join_all(alloc, db, scans, equalities)?;
-    let left = lists.as_slice();
-    let marks = marks_of(alloc, db, left, equalities)?;
-    let reduced = marked_lists(alloc, left, &marks)?;
+    let remaining = lists.as_slice();
+    let marks = marks_of(alloc, db, remaining, equalities)?;
+    let reduced = marked_lists(alloc, remaining, &marks)?;
     Ok(reduced)
 }

@@ -7,7 +7,7 @@ use base_io::NoMemory;
 use std::alloc::Global;
 
 // A range with at most this many numbers is always short.
-const FEW: u64 = 64;
+const ALWAYS_SHORT: u64 = 64;
 
 /// A set of values: the least value of their range, and for each number in the range whether it is in the set.
 #[derive(Drop)]
@@ -30,7 +30,7 @@ impl ValueSet {
 }
 
 // The least and the greatest cell in the rows of `list`. If `list` is empty, they are `u64::MAX` and 0.
-fn ends_of(cells: &[u64], list: &[u32]) -> (u64, u64)
+fn least_and_greatest(cells: &[u64], list: &[u32]) -> (u64, u64)
     requires { All (λ row. row < length cells.now) list.now }
     ensures { All (λ row. (result.0 ≤ slice_index cells.now row) × (slice_index cells.now row ≤ result.1)) list.now }
 {
@@ -75,12 +75,12 @@ pub(crate) fn values_of(
             marks: Vec::new(alloc),
         }));
     }
-    let (least, greatest) = ends_of(cells, list);
-    let beyond = greatest - least;
-    if beyond >= FEW + 8 * rows {
+    let (least, greatest) = least_and_greatest(cells, list);
+    let width = greatest - least;
+    if width >= ALWAYS_SHORT + 8 * rows {
         return Ok(None);
     }
-    let mut marks = vec![in alloc; false; beyond as usize + 1]?;
+    let mut marks = vec![in alloc; false; width as usize + 1]?;
     mark(cells, list, least, &mut marks);
     Ok(Some(ValueSet { least, marks }))
 }

@@ -24,30 +24,30 @@ length-in_order le (v ∷ s) = omega (arith, length-put_in_order le v (in_order 
 abbrev pub Compares : (ℕ → Type 0) → (ℕ → ℕ → Bool) → (ℕ → ℕ → Bool) → (ℕ → ℕ) → Type 0
 Compares P le other f = (a b : ℕ) → P a → P b → other (f a) (f b) ≡ le a b
 
-module _ (P : ℕ → Type 0) (le other : ℕ → ℕ → Bool) (f : ℕ → ℕ) (alike : Compares P le other f) where
-  put_in_order-mapped : (v : ℕ) (s : List ℕ) → P v → AllByRecursion P s → put_in_order other (f v) (map f s) ≡ map f (put_in_order le v s)
+module _ (P : ℕ → Type 0) (le other_le : ℕ → ℕ → Bool) (f : ℕ → ℕ) (compare_alike : Compares P le other_le f) where
+  put_in_order-mapped : (v : ℕ) (s : List ℕ) → P v → AllByRecursion P s → put_in_order other_le (f v) (map f s) ≡ map f (put_in_order le v s)
   put_in_order-mapped v [] hv all = refl
   put_in_order-mapped v (w ∷ s) hv all = elim (cases_Bool (le v w)) [
-    | inl e ↦ rw (alike v w hv all.0, e) refl
-    | inr e ↦ rw (alike v w hv all.0, e, put_in_order-mapped v s hv all.1) refl
+    | inl e ↦ rw (compare_alike v w hv all.0, e) refl
+    | inr e ↦ rw (compare_alike v w hv all.0, e, put_in_order-mapped v s hv all.1) refl
   ]
 
-  pub in_order-mapped : (s : List ℕ) → AllByRecursion P s → in_order other (map f s) ≡ map f (in_order le s)
+  pub in_order-mapped : (s : List ℕ) → AllByRecursion P s → in_order other_le (map f s) ≡ map f (in_order le s)
   in_order-mapped [] all = refl
-  in_order-mapped (v ∷ s) all = ap (put_in_order other (f v)) (in_order-mapped s all.1)
+  in_order-mapped (v ∷ s) all = ap (put_in_order other_le (f v)) (in_order-mapped s all.1)
       ∙ put_in_order-mapped v (in_order le s) all.0 (all-in_order P le s all.1)
 
-  pub cuts-mapped : (s : List ℕ) → AllByRecursion P s → cuts other (map f s) ≡ map f (cuts le s)
-  cuts-mapped [] all = no_cuts other [] (omega arith) ∙ ap (map f) (sym (no_cuts le [] (omega arith)))
+  pub cuts-mapped : (s : List ℕ) → AllByRecursion P s → cuts other_le (map f s) ≡ map f (cuts le s)
+  cuts-mapped [] all = no_cuts other_le [] (omega arith) ∙ ap (map f) (sym (no_cuts le [] (omega arith)))
   cuts-mapped (v ∷ s) all =
       let column : List ℕ = v ∷ s in
       let values : List ℕ = in_order le column in
       let n : ℕ = length column in
       let many : length (map f column) ≡ n = length-map column f in
       let at : (i : ℕ) → i < 32 → f (get_or values (cut_place n i) 0) ≡ get_or (map f values) (cut_place (length (map f column)) i) 0 =
-      λ i low. sym (ap (λ (k : ℕ). get_or (map f values) (cut_place k i) 0) many
-      ∙ get_or-map f values (cut_place n i) 0 0 (omega (arith, length-in_order le column, cut_place-within n i (omega arith) low))) in
-      cuts-from other (map f column) (map f values) (omega (arith, many)) (sym (in_order-mapped column all))
+      λ i is_below. sym (ap (λ (k : ℕ). get_or (map f values) (cut_place k i) 0) many
+      ∙ get_or-map f values (cut_place n i) 0 0 (omega (arith, length-in_order le column, cut_place-within n i (omega arith) is_below))) in
+      cuts-from other_le (map f column) (map f values) (omega (arith, many)) (sym (in_order-mapped column all))
       ∙ sym (map-mapped (λ i. i < 32) (λ i. get_or values (cut_place n i) 0) (λ i. get_or (map f values) (cut_place (length (map f column)) i) 0) f at
       (range_with_len 0 32) (All-range 0 32 32 (omega arith)))
       ∙ ap (map f) (sym (cuts-from le column values (omega arith) refl))
@@ -64,20 +64,20 @@ module _ (P : ℕ → Type 0) (le other : ℕ → ℕ → Bool) (f : ℕ → ℕ
       let values : List ℕ = in_order le column in
       rw (cuts-from le column values (omega arith) refl)
       (All-mapped (λ i. get_or values (cut_place (length column) i) 0) (range_with_len 0 32) (All-range 0 32 32 (omega arith))
-      (λ i low. All-get_or P values (cut_place (length column) i) 0
-      (omega (arith, length-in_order le column, cut_place-within (length column) i (omega arith) low))
+      (λ i is_below. All-get_or P values (cut_place (length column) i) 0
+      (omega (arith, length-in_order le column, cut_place-within (length column) i (omega arith) is_below))
       (All-from_recursion P values (all-in_order P le column all))))
     where
       All-mapped : (h : ℕ → ℕ) (is : List ℕ) → AllByRecursion (λ i. i < 32) is → ((i : ℕ) → i < 32 → P (h i)) → AllByRecursion P (map h is)
-      All-mapped h [] low each = tt
-      All-mapped h (i ∷ is) low each = (each i low.0, All-mapped h is low.1 each)
+      All-mapped h [] is_below each = tt
+      All-mapped h (i ∷ is) is_below each = (each i is_below.0, All-mapped h is is_below.1 each)
 
   pub leaf-mapped : (p q : ℕ → Bool) → ((a : ℕ) → P a → q (f a) ≡ p a) → (s : List ℕ) → AllByRecursion P s
-      → last_leaf_where other (map f s) q ≡ last_leaf_where le s p
+      → last_leaf_where other_le (map f s) q ≡ last_leaf_where le s p
   leaf-mapped p q same s all = ap (last_place q) (cuts-mapped s all) ∙ last_place-mapped p q same (cuts le s) (All-cuts s all)
 
-  pub leaf_of-mapped : (s : List ℕ) → AllByRecursion P s → (v : ℕ) → P v → leaf_of other (map f s) (f v) ≡ leaf_of le s v
-  leaf_of-mapped s all v hv = leaf-mapped (λ cut. le cut v) (λ cut. other cut (f v)) (λ a ha. alike a v ha hv) s all
+  pub leaf_of-mapped : (s : List ℕ) → AllByRecursion P s → (v : ℕ) → P v → leaf_of other_le (map f s) (f v) ≡ leaf_of le s v
+  leaf_of-mapped s all v hv = leaf-mapped (λ cut. le cut v) (λ cut. other_le cut (f v)) (λ a ha. compare_alike a v ha hv) s all
 
 module _ (P : ℕ → Type 0) (f : ℕ → ℕ) (keeps : KeepsEqual P f) where
   comes_before-mapped : (s : List ℕ) → AllByRecursion P s → Compares P (comes_before s) (comes_before (map f s)) f

@@ -5,8 +5,8 @@
 //! by the first row that has it, or by any key that differs for different values. The lists are the same.
 //!
 //! - Degrees and leaves don't change. Frequent values and cuts are the new numbers of the old frequent values and cuts.
-//! - No list changes. There are lists of all rows, of a value that a row has, of a value that no row has, of a node and of a range.
-//! - A list that dominates keys dominates all keys that are equal in the same rows.
+//! - No list changes: neither the list of all rows, nor the lists of a value that a row has, of a value that no row has, of a node and of a range.
+//! - A list that dominates keys dominates all keys that are equal for the same pairs of rows.
 //!
 //! The laws use `IsOneToOne`, `KeepsOrder`, `PassAlike`, `MatchAlike` and `AreEqualAlike` (in `specs/Relabelling.antt`).
 //!

@@ -1,4 +1,4 @@
--- Sums and greatest numbers of lists whose numbers are small.
+-- Bounds of the sum and of the greatest number of a list, from a bound of each number.
 use Rattle.std.proofs.Common.{ℕ, ◌*◌, ◌≤◌, All, List, [], ◌∷◌, length, sum, arith}
 use Rattle.std.proofs.lemmas.List.Elements.{All-head, All-tail}
 use Rattle.std.proofs.lemmas.List.Sums.{sum_by-le}

@@ -1,4 +1,5 @@
--- The bytes of lists of buffers. A buffer takes its capacity times the size of an item. A list of buffers also takes some bytes for each buffer in it.
+-- The bytes of lists of buffers. A buffer takes its capacity times the size of an item. A list of buffers also takes some bytes for each of its
+-- buffers.
 use Rattle.std.specs.Prelude.{ℕ, ◌+◌, ◌*◌, max, List, length, map, sum, Vec, vec_capacity}
 use Rattle.row_buf.specs.declared.TheConstants.{BUFFER_BYTES, ROW_NUMBER_BYTES}
 use Rattle.row_buf.specs.Rows.{Rows, capacity}

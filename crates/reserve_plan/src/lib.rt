@@ -1,10 +1,11 @@
-//! Takes the memory of buffers, and says how many bytes it is before it is taken.
+//! Reserves the memory of buffers, and computes beforehand how many bytes they take.
 //!
-//! In: the most rows of each list, which are the bounds of a plan. Out: empty buffers with room for that many rows. `row_buffers` makes a list of
-//! buffers of row numbers, one for each entry, and `empty_chains` makes a hash table by which a join finds rows. Filling them allocates nothing.
+//! In: the greatest number of rows of each list, which is a bound of a plan. Out: empty buffers with room for that many rows. `row_buffers` makes a
+//! list of buffers of row numbers, one for each entry, and `empty_chains` makes a hash table by which a join finds rows. Filling them allocates
+//! nothing.
 //!
-//! Contracts use `IsRoomFor` and `IsRoomForKeys` for empty buffers that have room for some rows. The bytes of a list of buffers are `lists_bytes`
-//! by its numbers of rows, and `buffers_bytes` by its capacities.
+//! Contracts use `IsRoomFor` and `IsRoomForKeys` for empty buffers that have room for some rows. `lists_bytes` computes a list's bytes from its
+//! numbers of rows, and `buffers_bytes` from its capacities.
 #![tactic(auto)]
 
 ghost use Rattle.std.specs.Prelude.{◌≡◌};

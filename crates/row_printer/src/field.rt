@@ -27,7 +27,11 @@ fn needs_quotes(field: &[u8]) -> bool
     field.iter().any(|byte| is_special(*byte))
 }
 
-fn put_byte<N: Sink>(byte: u8, buffer: &mut Buffer, sink: &mut N) -> Result<(), Failed>
+fn put_byte_doubling_quotes<N: Sink>(
+    byte: u8,
+    buffer: &mut Buffer,
+    sink: &mut N,
+) -> Result<(), Failed>
     ensures { WroteBuffered (growth N.taken N.faults sink.old sink.new) buffer.old buffer.new (doubled_quote byte) result }
 {
     if byte == b'"' {
@@ -42,7 +46,7 @@ fn put_doubled<N: Sink>(field: &[u8], buffer: &mut Buffer, sink: &mut N) -> Resu
     ensures { WroteBuffered (growth N.taken N.faults sink.old sink.new) buffer.old buffer.new (doubled field.now) result }
 {
     'bytes: for byte in field {
-        put_byte(*byte, buffer, sink)?;
+        put_byte_doubling_quotes(*byte, buffer, sink)?;
     }
     Ok(())
 }

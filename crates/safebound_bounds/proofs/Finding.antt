@@ -1,4 +1,4 @@
--- Lemmas for the invariants of loops. They are about the first item that passes a test, numbers below a limit, and the first i items mapped.
+-- Facts for the invariants of loops: the first item that passes a test, numbers below a limit, and `map` over the first i items.
 use Rattle.std.proofs.Common.{◌≡◌, ℕ, zero, suc, ◌+◌, ◌<◌, ◌≤◌, Bool, true, false, cond, List, [], ◌∷◌, ◌++◌, length, take, drop, get_or, map, Some, None, find, refl, ap, sym, ◌∙◌, add-one, arith}
 use Rattle.std.proofs.lemmas.List.{take_more}
 
@@ -8,13 +8,13 @@ module _ {X : Type 0} (t : X → Bool) where
   found_here (x ∷ xs) zero d low is = ap (λ (b : Bool). cond b (Some x) (find t xs)) is
   found_here (x ∷ xs) (suc i) d low is = found_here xs i d (omega arith) is
 
-  passed_over : (xs : List X) (i : ℕ) (d : X) → i < length xs → t (get_or xs i d) ≡ false → find t (drop i xs) ≡ find t (drop (suc i) xs)
-  passed_over [] i d low is = absurd (omega arith)
-  passed_over (x ∷ xs) zero d low is = ap (λ (b : Bool). cond b (Some x) (find t xs)) is
-  passed_over (x ∷ xs) (suc i) d low is = passed_over xs i d (omega arith) is
+  find_passes_over : (xs : List X) (i : ℕ) (d : X) → i < length xs → t (get_or xs i d) ≡ false → find t (drop i xs) ≡ find t (drop (suc i) xs)
+  find_passes_over [] i d low is = absurd (omega arith)
+  find_passes_over (x ∷ xs) zero d low is = ap (λ (b : Bool). cond b (Some x) (find t xs)) is
+  find_passes_over (x ∷ xs) (suc i) d low is = find_passes_over xs i d (omega arith) is
 
   pub passed_one : (xs : List X) (i : ℕ) (d : X) → i < length xs → t (get_or xs i d) ≡ false → find t (drop (i + 1) xs) ≡ find t (drop i xs)
-  passed_one xs i d low is = ap (λ (k : ℕ). find t (drop k xs)) (add-one i) ∙ sym (passed_over xs i d low is)
+  passed_one xs i d low is = ap (λ (k : ℕ). find t (drop k xs)) (add-one i) ∙ sym (find_passes_over xs i d low is)
 
   pub none_left : (xs : List X) (i : ℕ) → length xs ≤ i → find t (drop i xs) ≡ None
   none_left [] zero past = refl
@@ -24,11 +24,11 @@ module _ {X : Type 0} (t : X → Bool) where
 
 -- ---- numbers below m, with one more number below m at the end
 
-pub small_more : (m : ℕ) (xs : List ℕ) (x : ℕ) → ((i : ℕ) → get_or xs i 0 < m) → x < m → (i : ℕ) → get_or (xs ++ x ∷ []) i 0 < m
-small_more m [] x few low zero = low
-small_more m [] x few low (suc i) = omega (arith, few 0)
-small_more m (y ∷ xs) x few low zero = few 0
-small_more m (y ∷ xs) x few low (suc i) = small_more m xs x (λ k. few (suc k)) low i
+pub one_more_below : (m : ℕ) (xs : List ℕ) (x : ℕ) → ((i : ℕ) → get_or xs i 0 < m) → x < m → (i : ℕ) → get_or (xs ++ x ∷ []) i 0 < m
+one_more_below m [] x few low zero = low
+one_more_below m [] x few low (suc i) = omega (arith, few 0)
+one_more_below m (y ∷ xs) x few low zero = few 0
+one_more_below m (y ∷ xs) x few low (suc i) = one_more_below m xs x (λ k. few (suc k)) low i
 
 -- ---- mapping the first i items and one more item
 

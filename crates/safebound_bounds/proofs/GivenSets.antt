@@ -8,7 +8,7 @@ use Rattle.bound_fold.specs.Lists.{bounds_of}
 use Rattle.bound_fold.specs.Sets.{SetHasBounds}
 use Rattle.set_bounds.specs.AllSets.{bound_in_128_bits, bounds_in_sets, bounds_of_sets}
 use Rattle.set_bounds.specs.Parts.{DependsOnPartsOnly}
-use Rattle.set_bounds.proofs.Listing.{first_listed}
+use Rattle.set_bounds.proofs.Listing.{first_entries_have_bounds}
 use Rattle.safebound_lists.specs.declared.refusal.Refusal.{Refusal}
 use Rattle.safebound_lists.specs.declared.refusal.Refusal.TheVariants as refusal
 use Rattle.safebound_lists.specs.declared.runs.Run.{Run}
@@ -19,51 +19,51 @@ use Rattle.safebound_bounds.specs.Causes.{IsBoundsCause, AreArgumentsValid, IsSe
 use Rattle.safebound_bounds.specs.InSets.{CoversRows}
 use Rattle.safebound_bounds.specs.Listed.{HoldsListed}
 use Rattle.safebound_bounds.specs.Meaning.{edges_of, known, known_in, rows_in_set}
-use Rattle.safebound_bounds.proofs.Bounded.{all_listed, told_full}
+use Rattle.safebound_bounds.proofs.Bounded.{every_set_has_bounds, bounds_if_covered}
 use Rattle.safebound_bounds.proofs.Holding.{bounds_known}
 use Rattle.safebound_bounds.proofs.InParts.{looks_at_parts}
-use Rattle.safebound_bounds.proofs.JoinableRows.{in_set_counted, right_in_set}
+use Rattle.safebound_bounds.proofs.JoinableRows.{in_set_counted, arguments_stay_valid_in_set}
 
-module _ (rows : List ℕ) (equalities : List Equality) (lists : List ColumnList) (runs : List Run) (right : AreArgumentsValid rows equalities lists runs) where
-  pub whole_listed : (held : EntryLists) (es : List Edge) → es ≡ edges_of equalities → HoldsListed rows (length rows) lists runs held → SetHasBounds held es (2 ^ length rows - 1)
-  whole_listed held es same holds =
-      subst (λ (fs : List Edge). SetHasBounds held fs (2 ^ length rows - 1)) (sym same) (all_listed rows equalities lists runs right held holds)
+module _ (rows : List ℕ) (equalities : List Equality) (lists : List ColumnList) (runs : List Run) (arguments_valid : AreArgumentsValid rows equalities lists runs) where
+  pub whole_set_has_bounds : (held : EntryLists) (es : List Edge) → es ≡ edges_of equalities → HoldsListed rows (length rows) lists runs held → SetHasBounds held es (2 ^ length rows - 1)
+  whole_set_has_bounds held es same holds =
+      subst (λ (fs : List Edge). SetHasBounds held fs (2 ^ length rows - 1)) (sym same) (every_set_has_bounds rows equalities lists runs arguments_valid held holds)
 
-  pub looks : (es : List Edge) → es ≡ edges_of equalities → DependsOnPartsOnly (known_in rows lists runs (edges_of equalities)) es
-  looks es same = subst (λ (fs : List Edge). DependsOnPartsOnly (known_in rows lists runs (edges_of equalities)) fs) (sym same) (looks_at_parts rows lists runs (edges_of equalities))
+  pub known_in_depends_on_parts_only : (es : List Edge) → es ≡ edges_of equalities → DependsOnPartsOnly (known_in rows lists runs (edges_of equalities)) es
+  known_in_depends_on_parts_only es same = subst (λ (fs : List Edge). DependsOnPartsOnly (known_in rows lists runs (edges_of equalities)) fs) (sym same) (looks_at_parts rows lists runs (edges_of equalities))
 
-  pub full_told : {E : Type 0} (held : EntryLists) (es : List Edge) → HoldsListed rows (length rows) lists runs held → ((i : ℕ) → i < length lists → CoversRows rows runs (list_at lists i))
+  pub covered_bound_is_bound : {E : Type 0} (held : EntryLists) (es : List Edge) → HoldsListed rows (length rows) lists runs held → ((i : ℕ) → i < length lists → CoversRows rows runs (list_at lists i))
       → (r : Result (List ℕ) E) → IfOk r (λ bounds. bounds ≡ bounds_of_sets (bounds_of held) es (length rows))
       → IfOk r (λ bounds. bounds ≡ bounds_in_sets (known_in rows lists runs (edges_of equalities)) es (length rows))
-  full_told held es holds full (Ok bounds) is =
-      told_full rows equalities lists runs right full es bounds
+  covered_bound_is_bound held es holds full (Ok bounds) is =
+      bounds_if_covered rows equalities lists runs arguments_valid full es bounds
       (is ∙ ap (λ (b : EntryBounds). bounds_of_sets b es (length rows)) (bounds_known rows lists runs held holds))
-  full_told held es holds full (Err e) is = tt
+  covered_bound_is_bound held es holds full (Err e) is = tt
 
   -- ---- the row bounds and lists of one set
 
-  module _ (es edges : List Edge) (subset : ℕ) (same : es ≡ edges_of equalities) (edges_are : edges ≡ es) (made : List ℕ)
+  module _ (es edges : List Edge) (subset : ℕ) (same_edges : es ≡ edges_of equalities) (edges_are : edges ≡ es) (made : List ℕ)
       (are : made ≡ rows_in_set rows lists runs edges subset) where
     made_are : made ≡ rows_in_set rows lists runs (edges_of equalities) subset
-    made_are = are ∙ ap (λ (fs : List Edge). rows_in_set rows lists runs fs subset) (edges_are ∙ same)
+    made_are = are ∙ ap (λ (fs : List Edge). rows_in_set rows lists runs fs subset) (edges_are ∙ same_edges)
 
-    pub right_here : AreArgumentsValid made equalities lists runs
-    right_here = subst (λ (s : List ℕ). AreArgumentsValid s equalities lists runs) (sym made_are) (right_in_set rows lists runs (edges_of equalities) subset equalities right)
+    pub arguments_in_set_are_valid : AreArgumentsValid made equalities lists runs
+    arguments_in_set_are_valid = subst (λ (s : List ℕ). AreArgumentsValid s equalities lists runs) (sym made_are) (arguments_stay_valid_in_set rows lists runs (edges_of equalities) subset equalities arguments_valid)
 
     made_counted : length made ≡ length rows
     made_counted = ap length made_are ∙ in_set_counted rows lists runs (edges_of equalities) subset
 
-    pub listed_here : (held : EntryLists) → subset < 2 ^ length rows → HoldsListed made (length made) lists runs held → SetHasBounds held es subset
-    listed_here held fits holds =
-        subst (λ (fs : List Edge). SetHasBounds held fs subset) (sym same)
-        (first_listed held (edges_of equalities) (length made) subset (all_listed made equalities lists runs right_here held holds)
+    pub set_has_its_bounds : (held : EntryLists) → subset < 2 ^ length rows → HoldsListed made (length made) lists runs held → SetHasBounds held es subset
+    set_has_its_bounds held fits holds =
+        subst (λ (fs : List Edge). SetHasBounds held fs subset) (sym same_edges)
+        (first_entries_have_bounds held (edges_of equalities) (length made) subset (every_set_has_bounds made equalities lists runs arguments_in_set_are_valid held holds)
         (subst (λ (n : ℕ). subset < 2 ^ n) (sym made_counted) fits))
 
-    pub told_here : {E : Type 0} (held : EntryLists) → HoldsListed made (length made) lists runs held → (r : Result ℕ E) → IfOk r (λ n. n ≡ bound_in_128_bits (bounds_of held) es subset)
+    pub bound_of_set_is_bound : {E : Type 0} (held : EntryLists) → HoldsListed made (length made) lists runs held → (r : Result ℕ E) → IfOk r (λ n. n ≡ bound_in_128_bits (bounds_of held) es subset)
         → IfOk r (λ n. n ≡ bound_in_128_bits (known_in rows lists runs (edges_of equalities) subset) es subset)
-    told_here held holds (Ok n) is =
+    bound_of_set_is_bound held holds (Ok n) is =
         is ∙ ap (λ (b : EntryBounds). bound_in_128_bits b es subset) (bounds_known made lists runs held holds ∙ ap (λ (s : List ℕ). known s lists runs) made_are)
-    told_here held holds (Err e) is = tt
+    bound_of_set_is_bound held holds (Err e) is = tt
 
 -- ---- NoMemory needs no cause
 
@@ -72,13 +72,13 @@ ok_always P (Ok a) held = held
 ok_always P (Err e) held = tt
 
 module _ {A : Type 0} (rows : List ℕ) (equalities : List Equality) (lists : List ColumnList) (runs : List Run) where
-  pub wants_memory : (room : ℕ) (r : Result A Refusal) → IfErr r (λ why. why ≡ refusal.NoMemory) → IfErr r (IsBoundsCause rows equalities lists runs room)
-  wants_memory room (Ok a) h = tt
-  wants_memory room (Err why) h = subst (IsBoundsCause rows equalities lists runs room) (sym h) tt
+  pub no_memory_is_bounds_cause : (room : ℕ) (r : Result A Refusal) → IfErr r (λ why. why ≡ refusal.NoMemory) → IfErr r (IsBoundsCause rows equalities lists runs room)
+  no_memory_is_bounds_cause room (Ok a) h = tt
+  no_memory_is_bounds_cause room (Err why) h = subst (IsBoundsCause rows equalities lists runs room) (sym h) tt
 
-  pub wants_memory_within : (limit room : ℕ) (r : Result A Refusal) → IfErr r (λ why. why ≡ refusal.NoMemory) → IfErr r (IsWithinCause rows equalities lists runs limit room)
-  wants_memory_within limit room (Ok a) h = tt
-  wants_memory_within limit room (Err why) h = subst (IsWithinCause rows equalities lists runs limit room) (sym h) tt
+  pub no_memory_is_within_cause : (limit room : ℕ) (r : Result A Refusal) → IfErr r (λ why. why ≡ refusal.NoMemory) → IfErr r (IsWithinCause rows equalities lists runs limit room)
+  no_memory_is_within_cause limit room (Ok a) h = tt
+  no_memory_is_within_cause limit room (Err why) h = subst (IsWithinCause rows equalities lists runs limit room) (sym h) tt
 
 -- ---- a cause for which `bounds` refuses a call is also a cause of `bounds_within` and of `set_bound`
 

@@ -1,5 +1,5 @@
--- `joinable_rows` is how many rows of an entry the equalities of a set can join. This number is at most the entry's row bound. It is at least the number
--- of rows that have values in all the columns.
+-- `joinable_rows`, the most rows of an entry that the equalities of a set can join, is at most the entry's row bound. It is at least the number of
+-- rows that have a value in each column of the entry that the equalities name.
 use Rattle.std.proofs.Common.{◌≡◌, ℕ, suc, ◌+◌, ◌<◌, ◌≤◌, min, Bool, true, false, cond, eqb, List, [], ◌∷◌, length, map, get_or, refl, sym, subst, inl, inr, arith}
 use Rattle.std.specs.Prelude.{if◌then◌else◌}
 use Rattle.std.specs.List.{AllByRecursion, range_with_len}
@@ -19,8 +19,8 @@ use Rattle.safebound_bounds.specs.Meaning.{at_most_with_value, rows_in_set, join
 -- ---- the number for one entry
 
 module _ (lists : List ColumnList) (runs : List Run) (entry : ℕ) where
-  fewer_at_most : (p : Place) (n : ℕ) → at_most_with_value lists runs entry p n ≤ n
-  fewer_at_most p n = by (eqb p.entry entry)
+  lowered_at_most : (p : Place) (n : ℕ) → at_most_with_value lists runs entry p n ≤ n
+  lowered_at_most p n = by (eqb p.entry entry)
     where
       by : (t : Bool) → (if t then min n (rows_with_value lists runs p) else n) ≤ n
       by true = omega arith
@@ -30,23 +30,23 @@ module _ (lists : List ColumnList) (runs : List Run) (entry : ℕ) where
   joinable_at_most [] n = omega arith
   joinable_at_most (e ∷ es) n =
       let left : ℕ = at_most_with_value lists runs entry e.left n in
-      omega (arith, joinable_at_most es (at_most_with_value lists runs entry e.right left), fewer_at_most e.right left, fewer_at_most e.left n)
+      omega (arith, joinable_at_most es (at_most_with_value lists runs entry e.right left), lowered_at_most e.right left, lowered_at_most e.left n)
 
   abbrev pub HasAtLeast : ℕ → Place → Type 0
   HasAtLeast m p = p.entry ≡ entry → m ≤ rows_with_value lists runs p
 
-  fewer_at_least : (p : Place) (m n : ℕ) → m ≤ n → HasAtLeast m p → m ≤ at_most_with_value lists runs entry p n
-  fewer_at_least p m n low has = by (eqb p.entry entry) refl
+  lowered_at_least : (p : Place) (m n : ℕ) → m ≤ n → HasAtLeast m p → m ≤ at_most_with_value lists runs entry p n
+  lowered_at_least p m n low has = by (eqb p.entry entry) refl
     where
       by : (t : Bool) → eqb p.entry entry ≡ t → m ≤ (if t then min n (rows_with_value lists runs p) else n)
       by true is = omega (arith, low, has (eqb-true p.entry entry is))
       by false is = low
 
-  pub met_at_least : (es : List Edge) (m n : ℕ) → m ≤ n → AllByRecursion (HasAtLeast m) (places_of es) → m ≤ joinable_rows lists runs entry es n
-  met_at_least [] m n low has = low
-  met_at_least (e ∷ es) m n low has =
-      met_at_least es m (at_most_with_value lists runs entry e.right (at_most_with_value lists runs entry e.left n))
-      (fewer_at_least e.right m (at_most_with_value lists runs entry e.left n) (fewer_at_least e.left m n low has.0) has.1.0) has.1.1
+  pub joinable_at_least : (es : List Edge) (m n : ℕ) → m ≤ n → AllByRecursion (HasAtLeast m) (places_of es) → m ≤ joinable_rows lists runs entry es n
+  joinable_at_least [] m n low has = low
+  joinable_at_least (e ∷ es) m n low has =
+      joinable_at_least es m (at_most_with_value lists runs entry e.right (at_most_with_value lists runs entry e.left n))
+      (lowered_at_least e.right m (at_most_with_value lists runs entry e.left n) (lowered_at_least e.left m n low has.0) has.1.0) has.1.1
 
   pub joinable_with_one_more : (subset : ℕ) (e : Edge) (es : List Edge) (n : ℕ)
       → joinable_rows lists runs entry (equalities_within subset es) (joinable_rows lists runs entry (equalities_within subset (e ∷ [])) n)
@@ -79,16 +79,16 @@ module _ (rows : List ℕ) (lists : List ColumnList) (runs : List Run) (es : Lis
     | inr past ↦ omega (arith, in_set_past entry past)
   ]
 
-  pub right_in_set : (equalities : List Equality) → AreArgumentsValid rows equalities lists runs → AreArgumentsValid (rows_in_set rows lists runs es subset) equalities lists runs
-  right_in_set equalities right = record {
-    rows_right = record {
-      some = omega (arith, in_set_counted, right.rows_right.some);
-      few = omega (arith, in_set_counted, right.rows_right.few);
-      each = λ i low. omega (arith, in_set_at_most i, right.rows_right.each i (omega (arith, low, in_set_counted)));
+  pub arguments_stay_valid_in_set : (equalities : List Equality) → AreArgumentsValid rows equalities lists runs → AreArgumentsValid (rows_in_set rows lists runs es subset) equalities lists runs
+  arguments_stay_valid_in_set equalities right = record {
+    rows_are_valid = record {
+      some = omega (arith, in_set_counted, right.rows_are_valid.some);
+      few = omega (arith, in_set_counted, right.rows_are_valid.few);
+      each = λ i low. omega (arith, in_set_at_most i, right.rows_are_valid.each i (omega (arith, low, in_set_counted)));
     };
-    equalities_right = subst (λ (n : ℕ). AreEqualitiesValid n equalities) (sym in_set_counted) right.equalities_right;
-    lists_right = subst (λ (n : ℕ). AreListsValid n (length runs) lists) (sym in_set_counted) right.lists_right;
-    runs_right = right.runs_right;
+    equalities_are_valid = subst (λ (n : ℕ). AreEqualitiesValid n equalities) (sym in_set_counted) right.equalities_are_valid;
+    lists_are_valid = subst (λ (n : ℕ). AreListsValid n (length runs) lists) (sym in_set_counted) right.lists_are_valid;
+    runs_are_valid = right.runs_are_valid;
     listed = right.listed;
   }
 
@@ -98,5 +98,5 @@ module _ (rows : List ℕ) (lists : List ColumnList) (runs : List Run) (es : Lis
       let here : f i ≡ x = subst (λ (k : ℕ). f k ≡ x) (omega arith) (same 0 (omega arith)) in
       rw (here, same_list_of f xs (i + 1) (λ k low. subst (λ (n : ℕ). f n ≡ get_or xs k 0) (omega arith) (same (suc k) (omega arith)))) refl
 
-  pub all_rows : ((entry : ℕ) → entry < length rows → joinable_of entry ≡ get_or rows entry 0) → rows_in_set rows lists runs es subset ≡ rows
-  all_rows same = same_list_of joinable_of rows 0 (λ k low. subst (λ (n : ℕ). joinable_of n ≡ get_or rows k 0) (omega arith) (same k low))
+  pub row_bounds_stay_in_set : ((entry : ℕ) → entry < length rows → joinable_of entry ≡ get_or rows entry 0) → rows_in_set rows lists runs es subset ≡ rows
+  row_bounds_stay_in_set same = same_list_of joinable_of rows 0 (λ k low. subst (λ (n : ℕ). joinable_of n ≡ get_or rows k 0) (omega arith) (same k low))

@@ -11,7 +11,7 @@ use Rattle.tree_bounds.specs.Columns.{EachColumn, EachColumnBelow, EachColumnWit
 use Rattle.tree_bounds.specs.SetBounds.{bound_of_set, bound_of_turn, least_to, trees_of}
 use Rattle.tree_bounds.specs.TreeBounds.{EntryBounds, bound_of_trees, child_lists, class_list}
 use Rattle.tree_bounds.proofs.Agreeing.{at_roots, for_trees, in_trees, named_in_turn, tree_columns}
-use Rattle.tree_bounds.proofs.Turns.{trees_there}
+use Rattle.tree_bounds.proofs.Turns.{trees_exist}
 
 module _ (b c : EntryBounds) where
   abbrev pub HaveOneList : ℕ → ℕ → Type 0
@@ -39,9 +39,9 @@ module _ (b c : EntryBounds) where
         same_trees (trees_of (kept_of subset turn es) subset)
         (for_trees (IsTreeOf (kept_of subset turn es)) (EachColumn HaveOneList)
         (tree_columns HaveOneList (kept_of subset turn es) (named_in_turn HaveOneList subset turn es lists))
-        (trees_of (kept_of subset turn es) subset) (trees_there es subset turn).trees)
+        (trees_of (kept_of subset turn es) subset) (trees_exist es subset turn).trees)
         (at_roots HaveOneBound (trees_of (kept_of subset turn es) subset)
-        (in_trees es subset turn (trees_of (kept_of subset turn es) subset) (trees_there es subset turn) HaveOneBound rows))
+        (in_trees es subset turn (trees_of (kept_of subset turn es) subset) (trees_exist es subset turn) HaveOneBound rows))
 
     pub same_bound : bound_of_set b es subset ≡ bound_of_set c es subset
     same_bound = ap (λ (f : ℕ → ℕ). least_to f (turn_count subset es - 1)) (fun_ext same_turn)

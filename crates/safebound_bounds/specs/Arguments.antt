@@ -36,8 +36,8 @@ abbrev pub list_at : List ColumnList → ℕ → ColumnList
 list_at lists i = slice_index_or lists i default_list
 
 -- whether the list is that of this column
-abbrev pub is_of : ℕ → ℕ → ColumnList → Bool
-is_of entry column list = list.entry == entry && list.column == column
+abbrev pub is_list_of_column : ℕ → ℕ → ColumnList → Bool
+is_list_of_column entry column list = list.entry == entry && list.column == column
 
 -- the value of `first` in the list of a column in which no row has a value
 abbrev pub no_values : ℕ
@@ -52,7 +52,7 @@ pub record RunsExist (runs : ℕ) (list : ColumnList) : Type 0 where
 pub record IsListValid (entries runs : ℕ) (before : List ColumnList) (list : ColumnList) : Type 0 where
   pub entry : list.entry < entries
   pub runs_there : RunsExist runs list
-  pub once : list_any (is_of list.entry list.column) before ≡ false
+  pub once : list_any (is_list_of_column list.entry list.column) before ≡ false
 
 abbrev pub IsListValidAt : ℕ → ℕ → List ColumnList → ℕ → Type 0
 IsListValidAt entries runs lists i = IsListValid entries runs (take i lists) (list_at lists i)
@@ -76,5 +76,5 @@ pub record IsWrongRun (lists : List ColumnList) (runs : List Run) (place : ℕ) 
 
 -- ---- both columns of an equality have a list
 pub record ColumnsHaveLists (lists : List ColumnList) (equality : Equality) : Type 0 where
-  pub left : list_any (is_of equality.left_entry equality.left_column) lists ≡ true
-  pub right : list_any (is_of equality.right_entry equality.right_column) lists ≡ true
+  pub left : list_any (is_list_of_column equality.left_entry equality.left_column) lists ≡ true
+  pub right : list_any (is_list_of_column equality.right_entry equality.right_column) lists ≡ true

@@ -33,10 +33,10 @@ AreRunsValid lists runs = (i : ℕ) → i < length lists → AreRunsValidAt list
 
 -- every value is valid
 pub record AreArgumentsValid (rows : List ℕ) (equalities : List Equality) (lists : List ColumnList) (runs : List Run) : Type 0 where
-  pub rows_right : AreRowsValid rows
-  pub equalities_right : AreEqualitiesValid (length rows) equalities
-  pub lists_right : AreListsValid (length rows) (length runs) lists
-  pub runs_right : AreRunsValid lists runs
+  pub rows_are_valid : AreRowsValid rows
+  pub equalities_are_valid : AreEqualitiesValid (length rows) equalities
+  pub lists_are_valid : AreListsValid (length rows) (length runs) lists
+  pub runs_are_valid : AreRunsValid lists runs
   pub listed : (i : ℕ) → i < length equalities → ColumnsHaveLists lists (equality_at equalities i)
 
 -- The cause of each refusal.

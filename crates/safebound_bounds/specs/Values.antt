@@ -12,31 +12,31 @@ pub record ValuedTables : Type 0 where
   pub rows : ℕ → ℕ
   pub values : ℕ → ℕ → List (Option ℕ)
 
--- the values of a column, without the missing ones
-abbrev pub present : List (Option ℕ) → List ℕ
-present [] = []
-present (None ∷ values) = present values
-present (Some value ∷ values) = value ∷ present values
+-- the values of a column, without missing values
+abbrev pub values_that_exist : List (Option ℕ) → List ℕ
+values_that_exist [] = []
+values_that_exist (None ∷ values) = values_that_exist values
+values_that_exist (Some value ∷ values) = value ∷ values_that_exist values
 
 -- the value of the chosen row in a column
 abbrev pub value_of : ValuedTables → (ℕ → ℕ) → ℕ → ℕ → Option ℕ
 value_of tables choice entry column = slice_index_or (tables.values entry column) (choice entry) None
 
 -- both values are there, and they are equal
-abbrev pub Match : Option ℕ → Option ℕ → Type 0
-Match None right = ⊥
-Match (Some left) None = ⊥
-Match (Some left) (Some right) = left ≡ right
+abbrev pub AreEqualValues : Option ℕ → Option ℕ → Type 0
+AreEqualValues None right = ⊥
+AreEqualValues (Some left) None = ⊥
+AreEqualValues (Some left) (Some right) = left ≡ right
 
 -- the choice takes a row for each entry of a list, and in each equality the values match
 pub record SatisfiesValues (tables : ValuedTables) (entries : List ℕ) (es : List Edge) (choice : ℕ → ℕ) : Type 0 where
   pub rows : AllByRecursion (λ entry. choice entry < tables.rows entry) entries
-  pub equal : AllByRecursion (λ e. Match (value_of tables choice e.left.entry e.left.column) (value_of tables choice e.right.entry e.right.column)) es
+  pub equal : AllByRecursion (λ e. AreEqualValues (value_of tables choice e.left.entry e.left.column) (value_of tables choice e.right.entry e.right.column)) es
 
--- the list that was handed in for a column dominates the column's values, without the missing ones. The column has a value, or a missing
--- value, for each row
+-- the list that was handed in for a column dominates the column's values (missing values aside). The column has a value, or a missing value, for
+-- each row
 pub record FitsColumn (given : ℕ → ℕ → Option (List ℕ)) (tables : ValuedTables) (entry column : ℕ) : Type 0 where
-  pub values : DominatesKeys (unwrap_or (given entry column) []) (present (tables.values entry column))
+  pub values : DominatesKeys (unwrap_or (given entry column) []) (values_that_exist (tables.values entry column))
   pub one_each : length (tables.values entry column) ≡ tables.rows entry
 
 -- Each entry of a set has at most as many rows as its row bound. Each column that an equality of the set names fits its list

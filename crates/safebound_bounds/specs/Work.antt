@@ -5,21 +5,21 @@ use Rattle.berge_tree.specs.declared.edges.Edge.{Edge}
 use Rattle.berge_tree.specs.declared.edges.Place.{Place}
 use Rattle.join_graph.specs.Kept.{equalities_within, turn_count}
 use Rattle.safebound_bounds.specs.declared.arguments.ColumnList.{ColumnList}
-use Rattle.safebound_bounds.specs.Arguments.{is_of}
+use Rattle.safebound_bounds.specs.Arguments.{is_list_of_column}
 
 -- how many runs the list of a column has
-abbrev pub length_if : Option ColumnList → ℕ
-length_if None = 0
-length_if (Some list) = list.length
+abbrev pub run_count_of : Option ColumnList → ℕ
+run_count_of None = 0
+run_count_of (Some list) = list.length
 
 abbrev pub runs_listed : List ColumnList → Place → ℕ
-runs_listed lists p = length_if (find (is_of p.entry p.column) lists)
+runs_listed lists p = run_count_of (find (is_list_of_column p.entry p.column) lists)
 
 -- how many runs the lists of an equality's two columns have together
 abbrev pub runs_joined : List ColumnList → Edge → ℕ
 runs_joined lists e = runs_listed lists e.left + runs_listed lists e.right
 
--- the work of a turn of a set: 1, plus the runs of the set's equalities
+-- the work of a turn of a set: 1 plus the number of runs in both lists of each of the set's equalities
 abbrev pub work_of_turn : List ColumnList → List Edge → ℕ → ℕ
 work_of_turn lists es subset = 1 + sum (map (runs_joined lists) (equalities_within subset es))
 

@@ -16,7 +16,8 @@ ghost use Rattle.safebound_bounds.specs.Work.{work_of};
 
 use crate::arguments::{ColumnList, Equality};
 use crate::checking::{
-    first_missing, first_wrong_equality, first_wrong_list, first_wrong_rows, first_wrong_run_of,
+    first_invalid_equality, first_invalid_list, first_invalid_row_bound,
+    first_invalid_run_of_lists, first_missing,
 };
 use crate::in_sets::{Given, cover_rows};
 use crate::listing::{entry_lists, parts_of};
@@ -26,7 +27,7 @@ use entry_sets::EntrySet;
 use join_graph::Parts;
 use limits::{GREATEST_ENTRIES, MOST_CONJUNCTS};
 use safebound_lists::{Refusal, Run};
-use set_bounds::{KnownInSets, bounds_in_sets, bounds_of_sets};
+use set_bounds::{EntryListsBySet, bounds_in_sets, bounds_of_sets};
 use std::alloc::Global;
 
 // Refuses the first invalid value.
@@ -44,7 +45,7 @@ fn check_values(
             count: rows.len() as u64,
         });
     }
-    if let Some(place) = first_wrong_rows(rows) {
+    if let Some(place) = first_invalid_row_bound(rows) {
         return Err(Refusal::Rows {
             place: place as u64,
         });
@@ -54,17 +55,17 @@ fn check_values(
             count: equalities.len() as u64,
         });
     }
-    if let Some(place) = first_wrong_equality(rows.len(), equalities) {
+    if let Some(place) = first_invalid_equality(rows.len(), equalities) {
         return Err(Refusal::Equality {
             place: place as u64,
         });
     }
-    if let Some(place) = first_wrong_list(rows.len(), runs.len(), lists) {
+    if let Some(place) = first_invalid_list(rows.len(), runs.len(), lists) {
         return Err(Refusal::List {
             place: place as u64,
         });
     }
-    if let Some(place) = first_wrong_run_of(lists, runs) {
+    if let Some(place) = first_invalid_run_of_lists(lists, runs) {
         return Err(Refusal::Run { place });
     }
     if let Some(place) = first_missing(lists, equalities) {
@@ -120,7 +121,12 @@ fn write_bounds(bounds: &[u128], into: &mut [u64])
 }
 
 // Writes the bounds of all sets, from valid values.
-fn fill(alloc: Global, parts: &Parts, given: &Given, into: &mut [u64]) -> Result<u64, Refusal>
+fn write_all_bounds(
+    alloc: Global,
+    parts: &Parts,
+    given: &Given,
+    into: &mut [u64],
+) -> Result<u64, Refusal>
     requires right { AreArgumentsValid given.now.rows.now given.now.equalities.now given.now.lists.now given.now.runs.now }
     requires edges { parts.now.equalities ≡ edges_of given.now.equalities.now }
     requires room { 2 ^ length given.now.rows.now ≤ length into.old }
@@ -158,9 +164,9 @@ fn check_room(
 /// Writes the bounds of all sets of entries, in rows. The bound of a set is written at the index whose bits are the set's entries. The result
 /// is how many bounds were written. A bound of 2^64 - 1 means 2^64 - 1 or more.
 ///
-/// No bound is too low, if the row bounds and lists fit the tables. Rows may lack values. Count the choices (one row for each entry of a set)
-/// that satisfy the set's equalities. There are at most as many as the set's bound (SafeBound, SIGMOD 2023; Degree Sequence Bound, ICDT 2023).
-/// A comparison with a missing value isn't true (SQL-92, 8.2).
+/// No bound is too low, if the row bounds and lists fit the tables. A choice has one row for each entry of a set. The choices that satisfy the set's
+/// equalities are at most as many as the set's bound says (SafeBound, SIGMOD 2023; Degree Sequence Bound, ICDT 2023). Rows may lack values: a
+/// comparison with a missing value isn't true (SQL-92, 8.2).
 pub fn bounds(
     alloc: Global,
     rows: &[u64],
@@ -189,7 +195,7 @@ pub fn bounds(
         lists,
         runs,
     };
-    fill(alloc, &parts, &given, into)
+    write_all_bounds(alloc, &parts, &given, into)
 }
 
 // Refuses a call whose work is above the limit.
@@ -241,7 +247,7 @@ pub fn bounds_within(
         runs,
     };
     check_work(alloc, &parts, &given, limit)?;
-    fill(alloc, &parts, &given, into)
+    write_all_bounds(alloc, &parts, &given, into)
 }
 
 /// The bound of one set of entries, in rows: the number that `bounds` writes for this set. No other set is bounded.

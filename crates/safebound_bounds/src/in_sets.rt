@@ -6,18 +6,18 @@ ghost use Rattle.limits.specs.Profile.{greatest_entries};
 ghost use Rattle.join_graph.specs.Kept.{equalities_within};
 ghost use Rattle.safebound_lists.specs.Runs.{AreValid, list_of as list_of_runs};
 ghost use Rattle.safebound_bounds.specs.Arguments.{AreRunsValidAt, RunsExist, IsListValidAt, list_at, runs_of};
-ghost use Rattle.safebound_bounds.specs.InSets.{AreGiven, CoversRows, known_by};
+ghost use Rattle.safebound_bounds.specs.InSets.{AreValidAndOfSet, CoversRows, known_by};
 ghost use Rattle.safebound_bounds.specs.Meaning.{at_most_with_value as fewer_there, rows_in_set as rows_of_set, joinable_rows as joinable_by, rows_with_value as with_value};
 
 use crate::arguments::{ColumnList, Equality};
-use crate::checking::{list_of, own_runs};
+use crate::checking::{list_of_column, own_runs};
 use crate::listing::entry_lists;
 use base_io::{NoMemory, Seq};
 use berge_tree::{Edge, Place};
 use entry_sets::EntrySet;
 use join_graph::{Parts, joins_within};
 use safebound_lists::Run;
-use set_bounds::{KnownInSets, folded_bound};
+use set_bounds::{EntryListsBySet, folded_bound};
 use std::alloc::Global;
 
 /// The values of a query, as they were handed in.
@@ -47,13 +47,13 @@ fn rows_with_value(lists: &[ColumnList], runs: &[Run], place: Place) -> u64
     requires right { (i : ℕ) → i < length lists.now → AreRunsValidAt lists.now runs.now i }
     ensures { result ≡ with_value lists.now runs.now place }
 {
-    match list_of(lists, place) {
+    match list_of_column(lists, place) {
         Some(list) => total(own_runs(runs, list)),
         None => 0,
     }
 }
 
-// `rows`, if the column at `place` is a column of another entry. Otherwise the lesser of `rows` and the number of rows with a value in this column.
+// Lowers `rows` to the number of rows with a value in the column at `place`, if this is a column of the entry. Otherwise returns `rows`.
 fn at_most_with_value(lists: &[ColumnList], runs: &[Run], entry: u8, place: Place, rows: u64) -> u64
     requires there { (i : ℕ) → i < length lists.now → RunsExist (length runs.now) (list_at lists.now i) }
     requires right { (i : ℕ) → i < length lists.now → AreRunsValidAt lists.now runs.now i }
@@ -65,7 +65,7 @@ fn at_most_with_value(lists: &[ColumnList], runs: &[Run], entry: u8, place: Plac
     rows.min(rows_with_value(lists, runs, place))
 }
 
-// `rows` is a row bound of `entry`. It is lowered by `at_most_with_value` for both columns of the equality, if both its entries are in the set.
+// If both entries of the equality are in the set, applies `at_most_with_value` for both its columns to a row bound of `entry`.
 fn joinable_at(
     lists: &[ColumnList],
     runs: &[Run],
@@ -105,7 +105,7 @@ fn joinable_rows(
     rows
 }
 
-// For each entry the most of its rows that the equalities of a set can join.
+// For each entry, the most rows that the equalities of a set can join.
 fn rows_in_set(
     alloc: Global,
     given: &Given,
@@ -115,20 +115,20 @@ fn rows_in_set(
     requires few { length given.now.rows.now ≤ greatest_entries }
     requires there { (i : ℕ) → i < length given.now.lists.now → RunsExist (length given.now.runs.now) (list_at given.now.lists.now i) }
     requires right { (i : ℕ) → i < length given.now.lists.now → AreRunsValidAt given.now.lists.now given.now.runs.now i }
-    ensures { IfOk result (λ met. met ≡ rows_of_set given.now.rows.now given.now.lists.now given.now.runs.now edges.now subset) }
+    ensures { IfOk result (λ joinable. joinable ≡ rows_of_set given.now.rows.now given.now.lists.now given.now.runs.now edges.now subset) }
 {
-    let mut met = Seq::new(alloc);
+    let mut joinable = Seq::new(alloc);
     for entry in 0..given.rows.len() as u8 {
         let most = given.rows[entry as usize];
-        met.push(joinable_rows(given.lists, given.runs, entry, subset, edges, most))?;
+        joinable.push(joinable_rows(given.lists, given.runs, entry, subset, edges, most))?;
     }
-    Ok(met)
+    Ok(joinable)
 }
 
-impl KnownInSets for Given<'_> {
+impl EntryListsBySet for Given<'_> {
     ghost known = { known_by };
 
-    ghost is_listed = { AreGiven };
+    ghost is_listed = { AreValidAndOfSet };
 
     fn folded(
         &self,

@@ -13,8 +13,8 @@ ghost use Rattle.safebound_bounds.specs.Causes.{AreArgumentsValid};
 ghost use Rattle.safebound_bounds.specs.Meaning.{edges_of, given_list, known, known_in};
 ghost use Rattle.safebound_bounds.specs.Values.{SatisfiesValues, ValuedTables, ValuesFit};
 
-/// No bound is too low, even if rows lack values. Count the choices (one row for each entry of a set) that satisfy the set's equalities. There are
-/// at most as many as the set's bound from `known_in`. If no equality joins entries of the set, all rows of its entries count.
+/// No bound is too low, even if rows lack values. A choice has one row for each entry of a set. The choices that satisfy the set's equalities are at
+/// most as many as the set's bound from `known_in` says. If no equality joins entries of the set, all rows of its entries count.
 pub fn rows_without_values_join_with_nothing()
     ensures never_under { (rows : List ℕ) (equalities : List Equality) (lists : List ColumnList) (runs : List Run)
         → AreArgumentsValid rows equalities lists runs → (subset : ℕ) → subset < 2 ^ length rows → (tables : ValuedTables)

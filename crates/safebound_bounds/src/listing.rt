@@ -85,7 +85,7 @@ fn edge_of(equality: Equality) -> Edge
     }
 }
 
-/// The parts of a query whose conjuncts are these equalities alone.
+/// The conjuncts of a query that has only these equalities as conjuncts (`Parts` of join_graph).
 pub(crate) fn parts_of(alloc: Global, equalities: &[Equality]) -> Result<Parts, NoMemory>
     requires { (i : ℕ) → i < length equalities.now → IsEqualityValid greatest_entries (equality_at equalities.now i) }
     ensures { IfOk result (λ parts. parts.equalities ≡ edges_of equalities.now) }

@@ -5,17 +5,17 @@ ghost use Rattle.join_graph.specs.Kept.{joins_within};
 ghost use Rattle.safebound_bounds.specs.Work.{runs_joined as runs_of_both, runs_listed as runs_of_list, work_of_set, work_of_turn, work_of};
 
 use crate::arguments::ColumnList;
-use crate::checking::list_of;
+use crate::checking::list_of_column;
 use base_io::{NoMemory, Seq};
 use berge_tree::{Edge, Place};
 use entry_sets::EntrySet;
-use join_graph::{Parts, joins_within, turns};
+use join_graph::{Parts, count_turns, joins_within};
 use std::alloc::Global;
 
 fn runs_listed(lists: &[ColumnList], place: Place) -> u64
     ensures { result ≡ runs_of_list lists.now place }
 {
-    match list_of(lists, place) {
+    match list_of_column(lists, place) {
         Some(list) => list.length,
         None => 0,
     }
@@ -74,7 +74,7 @@ fn work_of_set(lists: &[ColumnList], parts: &Parts, each: &[u128], subset: Entry
     ensures few { result ≤ 2 ^ 78 }
 {
     let turn = work_of_turn(lists, parts.equalities.as_slice(), each, subset);
-    u128::from(turns(parts, subset)) * turn
+    u128::from(count_turns(parts, subset)) * turn
 }
 
 fn work_of_sets(lists: &[ColumnList], parts: &Parts, each: &[u128], entries: u8) -> u128

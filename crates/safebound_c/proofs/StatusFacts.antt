@@ -35,10 +35,10 @@ pub done_from_status : (P : Type 0) (answer : Result ℕ Refusal) (status : ℕ)
 done_from_status P (Ok count) status is zero h = h
 done_from_status P (Err why) status is zero h = absurd (refusal_status_is_not_0 why (sym is ∙ zero))
 
-pub kept_always : (P : Type 0) (answer : Result ℕ Refusal) → P → OnErr answer P
-kept_always P (Ok count) held = tt
-kept_always P (Err why) held = held
+pub buffer_is_unchanged : (P : Type 0) (answer : Result ℕ Refusal) → P → OnErr answer P
+buffer_is_unchanged P (Ok count) held = tt
+buffer_is_unchanged P (Err why) held = held
 
-pub done_at : (P : ℕ → Type 0) (answer : Result ℕ Refusal) (status told old : ℕ) → status ≡ status_of answer → told ≡ detail_of answer old → status ≡ 0 → IfOk answer P → P told
-done_at P (Ok count) status told old is tells zero h = subst P (sym tells) h
-done_at P (Err why) status told old is tells zero h = absurd (refusal_status_is_not_0 why (sym is ∙ zero))
+pub done_for_number_in_detail : (P : ℕ → Type 0) (answer : Result ℕ Refusal) (status told old : ℕ) → status ≡ status_of answer → told ≡ detail_of answer old → status ≡ 0 → IfOk answer P → P told
+done_for_number_in_detail P (Ok count) status told old is tells zero h = subst P (sym tells) h
+done_for_number_in_detail P (Err why) status told old is tells zero h = absurd (refusal_status_is_not_0 why (sym is ∙ zero))

@@ -4,8 +4,8 @@ use Rattle.safebound_lists.specs.declared.refusal.Refusal.{Refusal}
 use Rattle.safebound_lists.specs.declared.refusal.Refusal.TheVariants as refusal
 
 -- the call did what it was asked for
-abbrev pub done : ℕ
-done = 0
+abbrev pub ok_status : ℕ
+ok_status = 0
 
 abbrev pub status_of_refusal : Refusal → ℕ
 status_of_refusal (refusal.Room needed) = 1
@@ -62,15 +62,15 @@ detail_of_refusal (refusal.JoinKind given) old = given
 
 -- An answer is a number or a refusal. The number is how many elements were written, or the number that the call computes.
 abbrev pub status_of : Result ℕ Refusal → ℕ
-status_of (Ok count) = done
+status_of (Ok count) = ok_status
 status_of (Err why) = status_of_refusal why
 
 abbrev pub detail_of : Result ℕ Refusal → ℕ → ℕ
 detail_of (Ok count) old = count
 detail_of (Err why) old = detail_of_refusal why old
 
--- The status and `*detail` (`before` and `after` the call) tell the call's answer. If it is a number, `Done` holds for this number. If it is a
--- refusal, its cause holds, and the elements of the caller's buffer are unchanged (`old` and `new`).
+-- The status and `after` tell the call's answer. `before` and `after` are the values of `*detail` before and after the call. If the answer is a
+-- number, `Done` holds for this number. If it is a refusal, its cause holds, and the elements of the caller's buffer are unchanged (`old` and `new`).
 pub record TellsAnswer {A : Type 0} (Done : ℕ → Type 0) (Cause : Refusal → Type 0) (old new : List A) (before status after : ℕ) : Type 0 where
   pub answer : Result ℕ Refusal
   pub told : status ≡ status_of answer

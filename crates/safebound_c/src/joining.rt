@@ -4,7 +4,7 @@ ghost use Rattle.joined_tables.specs.Bounds.{IsWithin};
 ghost use Rattle.joined_tables.specs.Tables.{Condition, Table, inner_join, joined};
 ghost use Rattle.joined_tables.specs.declared.joins.Join.{Join};
 ghost use Rattle.safebound_c.specs.Kinds.{IsJoinBound, IsKindCause, join_kind_of};
-ghost use Rattle.safebound_c.specs.Status.{TellsAnswer, done};
+ghost use Rattle.safebound_c.specs.Status.{TellsAnswer, ok_status};
 
 use crate::status::answer_status;
 use joined_tables::{Join, joined_rows};
@@ -21,7 +21,7 @@ const SEMI: u64 = 4;
 const ANTI: u64 = 5;
 
 // The kind of join to which include/safebound.h gives this number.
-fn join_named(kind: u64) -> Option<Join>
+fn join_of_kind(kind: u64) -> Option<Join>
     ensures { result ≡ join_kind_of kind }
 {
     match kind {
@@ -35,7 +35,7 @@ fn join_named(kind: u64) -> Option<Join>
 }
 
 // The most rows that a joined table can have. The inner join has at most `inner` rows, and the tables have at most `left` and `right` rows.
-fn rows_of_kind(kind: u64, inner: u64, left: u64, right: u64) -> Result<u64, Refusal>
+fn most_rows_of_kind(kind: u64, inner: u64, left: u64, right: u64) -> Result<u64, Refusal>
     ensures done { IfOk result (IsJoinBound kind inner left right) }
     ensures never_under { IfOk result (λ rows. (join : Join) → join_kind_of kind ≡ Some join
         → (is_true : Condition) (left_table right_table : Table)
@@ -44,7 +44,7 @@ fn rows_of_kind(kind: u64, inner: u64, left: u64, right: u64) -> Result<u64, Ref
         → IsWithin (length (joined join is_true left_table right_table)) rows) }
     ensures refused { IfErr result (IsKindCause kind) }
 {
-    match join_named(kind) {
+    match join_of_kind(kind) {
         Some(join) => Ok(joined_rows(join, inner, left, right)),
         None => Err(Refusal::JoinKind { given: kind }),
     }
@@ -64,11 +64,11 @@ pub extern "C" fn safebound_joined_rows(
     detail: &mut u64,
 ) -> u32
     ensures exact { TellsAnswer {A = ℕ} (IsJoinBound kind inner left right) (IsKindCause kind) [] [] detail.old result detail.new }
-    ensures never_under { result ≡ done → (join : Join) → join_kind_of kind ≡ Some join
+    ensures never_under { result ≡ ok_status → (join : Join) → join_kind_of kind ≡ Some join
         → (is_true : Condition) (left_table right_table : Table)
         → IsWithin (length (inner_join is_true left_table right_table)) inner
         → IsWithin (length left_table.rows) left → IsWithin (length right_table.rows) right
         → IsWithin (length (joined join is_true left_table right_table)) detail.new }
 {
-    answer_status(rows_of_kind(kind, inner, left, right), detail)
+    answer_status(most_rows_of_kind(kind, inner, left, right), detail)
 }

@@ -4,11 +4,11 @@ ghost use Rattle.limits.specs.Profile.{greatest_rows};
 ghost use Rattle.degree_sequences.specs.ByRank.{rank_maximum, rank_sum};
 ghost use Rattle.degree_sequences.specs.Compression.{compressed};
 ghost use Rattle.degree_sequences.specs.Degrees.{degree_list};
-ghost use Rattle.degree_sequences.specs.RunningSums.{cut_at, lesser};
+ghost use Rattle.degree_sequences.specs.RunningSums.{capped_at, lesser};
 ghost use Rattle.safebound_lists.specs.Causes.{IsAppendCause, IsCompressCause, IsCutCause, IsDegreesCause, IsGreaterCause, IsLesserCause};
 ghost use Rattle.safebound_lists.specs.Runs.{AreBothValid, AreValid, MayBeAdded, MayBeCompressed, MayTakeGreater, list_of};
 ghost use Rattle.safebound_lists.specs.Written.{IsWritten};
-ghost use Rattle.safebound_c.specs.Status.{TellsAnswer, done};
+ghost use Rattle.safebound_c.specs.Status.{TellsAnswer, ok_status};
 
 use crate::status::answer_status;
 use safebound_lists::{Run, append, compress, cut, degrees, greater_of, lesser_of};
@@ -24,7 +24,7 @@ pub extern "C" fn safebound_degrees(
 ) -> u32
     ensures exact { TellsAnswer (IsWritten (degree_list keys.now) into.old into.new) (IsDegreesCause keys.now (length into.old))
         into.old into.new detail.old result detail.new }
-    ensures few { result ≡ done → length keys.now ≤ greatest_rows }
+    ensures few { result ≡ ok_status → length keys.now ≤ greatest_rows }
 {
     answer_status(degrees(alloc, keys, into), detail)
 }
@@ -40,7 +40,7 @@ pub extern "C" fn safebound_compress(
 ) -> u32
     ensures exact { TellsAnswer (IsWritten (compressed accuracy (list_of runs.now)) into.old into.new)
         (IsCompressCause runs.now accuracy (length into.old)) into.old into.new detail.old result detail.new }
-    ensures right { result ≡ done → MayBeCompressed runs.now accuracy }
+    ensures right { result ≡ ok_status → MayBeCompressed runs.now accuracy }
 {
     answer_status(compress(alloc, runs, accuracy, into), detail)
 }
@@ -56,7 +56,7 @@ pub extern "C" fn safebound_append(
 ) -> u32
     ensures exact { TellsAnswer (IsWritten (rank_sum (list_of runs.now) (list_of others.now)) into.old into.new)
         (IsAppendCause runs.now others.now (length into.old)) into.old into.new detail.old result detail.new }
-    ensures right { result ≡ done → MayBeAdded runs.now others.now }
+    ensures right { result ≡ ok_status → MayBeAdded runs.now others.now }
 {
     answer_status(append(alloc, runs, others, into), detail)
 }
@@ -73,7 +73,7 @@ pub extern "C" fn safebound_lesser(
 ) -> u32
     ensures exact { TellsAnswer (IsWritten (lesser (list_of runs.now) (list_of others.now)) into.old into.new)
         (IsLesserCause runs.now others.now (length into.old)) into.old into.new detail.old result detail.new }
-    ensures right { result ≡ done → AreBothValid runs.now others.now }
+    ensures right { result ≡ ok_status → AreBothValid runs.now others.now }
 {
     answer_status(lesser_of(alloc, runs, others, into), detail)
 }
@@ -90,12 +90,12 @@ pub extern "C" fn safebound_greater(
 ) -> u32
     ensures exact { TellsAnswer (IsWritten (rank_maximum (list_of runs.now) (list_of others.now)) into.old into.new)
         (IsGreaterCause runs.now others.now (length into.old)) into.old into.new detail.old result detail.new }
-    ensures right { result ≡ done → MayTakeGreater runs.now others.now }
+    ensures right { result ≡ ok_status → MayTakeGreater runs.now others.now }
 {
     answer_status(greater_of(alloc, runs, others, into), detail)
 }
 
-/// Writes a list that is cut at `rows`. If the list dominates some rows, the cut list dominates any `rows` or fewer of these rows.
+/// Writes a list that is cut at `rows`. If the list dominates some rows, the cut list dominates any `rows` or fewer of them.
 #[unsafe(no_mangle)]
 pub extern "C" fn safebound_cut(
     alloc: Global,
@@ -104,9 +104,9 @@ pub extern "C" fn safebound_cut(
     into: &mut [Run],
     detail: &mut u64,
 ) -> u32
-    ensures exact { TellsAnswer (IsWritten (cut_at (list_of runs.now) rows) into.old into.new)
+    ensures exact { TellsAnswer (IsWritten (capped_at (list_of runs.now) rows) into.old into.new)
         (IsCutCause runs.now rows (length into.old)) into.old into.new detail.old result detail.new }
-    ensures right { result ≡ done → AreValid runs.now }
+    ensures right { result ≡ ok_status → AreValid runs.now }
 {
     answer_status(cut(alloc, runs, rows, into), detail)
 }

@@ -40,8 +40,8 @@ pub extern "C" fn safebound_tree(
     answer_status(tree(alloc, bounds, budget, into), detail)
 }
 
-/// The bytes that an engine's buffers take for an order. There are buffers for a list of rows of each entry, for the levels, and for the chains
-/// (hash tables of rows).
+/// How many bytes the buffers of this project's engine take for an order. The buffers are for each entry's list of rows, for the levels, and for
+/// the chains (hash tables of rows).
 #[unsafe(no_mangle)]
 pub extern "C" fn safebound_memory(rows: &[u64], levels: &[Level], detail: &mut u64) -> u32
     ensures exact { TellsAnswer (IsOrderMemory rows.now levels.now) (IsOrderMemoryCause rows.now levels.now)
@@ -50,7 +50,7 @@ pub extern "C" fn safebound_memory(rows: &[u64], levels: &[Level], detail: &mut 
     answer_status(order_memory(rows, levels), detail)
 }
 
-/// The bytes that an engine's buffers take for a join tree.
+/// How many bytes the buffers of this project's engine take for a join tree.
 #[unsafe(no_mangle)]
 pub extern "C" fn safebound_tree_memory(rows: &[u64], joins: &[JoinNode], detail: &mut u64) -> u32
     ensures exact { TellsAnswer (IsTreeMemory rows.now joins.now) (IsTreeMemoryCause rows.now joins.now)

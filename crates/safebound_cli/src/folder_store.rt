@@ -35,7 +35,7 @@ impl<'a, R: Files + AllocGlobal> FolderStore<'a, R> {
         }
     }
 
-    // The file of this name. It is opened, unless it is the file that was read last.
+    // The file of this name. Opens it, unless it is the file that was read last, which is still open.
     fn opened(&mut self, name: &str) -> io::Result<Opened<R::File>>
         ensures { self.new.faults ≡ self.old.faults }
     {

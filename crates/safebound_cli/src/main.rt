@@ -12,7 +12,7 @@ use std::{env, io};
 use stream_sink::StreamSink;
 
 // The command line's words, without the program's name.
-fn words(rt: &HostRuntime) -> io::Result<Vec<String>> {
+fn command_line_words(rt: &HostRuntime) -> io::Result<Vec<String>> {
     let mut all = Vec::new(rt.alloc());
     for (i, word) in env::args(rt)?.enumerate() {
         if i > 0 {
@@ -31,7 +31,7 @@ fn as_str_slices<'a>(alloc: Global, words: &'a [String]) -> Result<Vec<&'a str>,
 }
 
 fn main(rt: HostRuntime) -> ExitCode {
-    let words = match words(&rt) {
+    let words = match command_line_words(&rt) {
         Ok(words) => words,
         Err(error) if error.kind() == io::ErrorKind::OutOfMemory => {
             return ExitCode::from(NO_MEMORY);

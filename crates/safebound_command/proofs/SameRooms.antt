@@ -1,4 +1,4 @@
--- However a call ends, the texts of its streams still begin with the names of their rooms.
+-- However a call ends, each stream's text still begins with the number that names its room.
 use Rattle.std.proofs.Common.{◌≡◌, ℕ, List, [], ◌∷◌, ◌++◌, Option, None, Some, Result, Ok, Err, refl, ap, subst, ◌∙◌}
 use Rattle.std.specs.Prelude.{IsOkAnd, codes}
 use Rattle.base_io.specs.Devices.{Reading}
@@ -22,32 +22,32 @@ name_in None = 0
 name_in (Some []) = 0
 name_in (Some (name ∷ text)) = name
 
-pub prefix_name : (name : ℕ) (before : List ℕ) (after : Option (List ℕ)) (text : List ℕ) → GrewByPrefix (Some (name ∷ before)) after text → name_in after ≡ name
-prefix_name name before after text h = ap name_in h.grew
+pub prefix_keeps_name : (name : ℕ) (before : List ℕ) (after : Option (List ℕ)) (text : List ℕ) → GrewByPrefix (Some (name ∷ before)) after text → name_in after ≡ name
+prefix_keeps_name name before after text h = ap name_in h.grew
 
-cut_name : (name : ℕ) (before : List ℕ) (after : Option (List ℕ)) (text line : List ℕ)
+cut_keeps_name : (name : ℕ) (before : List ℕ) (after : Option (List ℕ)) (text line : List ℕ)
     → CutThenTold (Some (name ∷ before)) after text line → name_in after ≡ name
-cut_name name before after text line h = ap name_in (h.told.grew ∙ ap (λ mid. appended mid h.told.front) h.cut.grew)
+cut_keeps_name name before after text line h = ap name_in (h.told.grew ∙ ap (λ mid. appended mid h.told.front) h.cut.grew)
 
-whole_name : (name : ℕ) (before : List ℕ) (after : Option (List ℕ)) (f f' : ℕ) (text : Option (List ℕ))
+whole_keeps_name : (name : ℕ) (before : List ℕ) (after : Option (List ℕ)) (f f' : ℕ) (text : Option (List ℕ))
     → GrewWhole (with_name name before after f f') text → name_in after ≡ name
-whole_name name before after f f' None h = ap name_in h.0
-whole_name name before after f f' (Some text) h = ap name_in h
+whole_keeps_name name before after f f' None h = ap name_in h.0
+whole_keeps_name name before after f f' (Some text) h = ap name_in h
 
-was_cut_name : (name : ℕ) (before : List ℕ) (after : Option (List ℕ)) (f f' : ℕ) (text : Option (List ℕ))
+was_cut_keeps_name : (name : ℕ) (before : List ℕ) (after : Option (List ℕ)) (f f' : ℕ) (text : Option (List ℕ))
     → TookPrefix (with_name name before after f f') text → name_in after ≡ name
-was_cut_name name before after f f' None h = absurd h
-was_cut_name name before after f f' (Some text) h = prefix_name name before after text h
+was_cut_keeps_name name before after f f' None h = absurd h
+was_cut_keeps_name name before after f f' (Some text) h = prefix_keeps_name name before after text h
 
-was_cut_and_told_name : (name : ℕ) (before : List ℕ) (after : Option (List ℕ)) (f f' : ℕ) (text : Option (List ℕ)) (line : List ℕ)
+was_cut_and_told_keeps_name : (name : ℕ) (before : List ℕ) (after : Option (List ℕ)) (f f' : ℕ) (text : Option (List ℕ)) (line : List ℕ)
     → TookPrefixThenLine (with_name name before after f f') text line → name_in after ≡ name
-was_cut_and_told_name name before after f f' None line h = absurd h
-was_cut_and_told_name name before after f f' (Some text) line h = cut_name name before after text line h
+was_cut_and_told_keeps_name name before after f f' None line h = absurd h
+was_cut_and_told_keeps_name name before after f f' (Some text) line h = cut_keeps_name name before after text line h
 
-told_after_name : (name : ℕ) (before : List ℕ) (after : Option (List ℕ)) (f f' : ℕ) (text : Option (List ℕ)) (line : List ℕ)
+told_after_keeps_name : (name : ℕ) (before : List ℕ) (after : Option (List ℕ)) (f f' : ℕ) (text : Option (List ℕ)) (line : List ℕ)
     → GrewOrWasCut (grown (Some (name ∷ before)) text) after f f' line → name_in after ≡ name
-told_after_name name before after f f' None line h = prefix_name name before after line h.prefix
-told_after_name name before after f f' (Some text) line h = prefix_name name (before ++ text) after line h.prefix
+told_after_keeps_name name before after f f' None line h = prefix_keeps_name name before after line h.prefix
+told_after_keeps_name name before after f f' (Some text) line h = prefix_keeps_name name (before ++ text) after line h.prefix
 
 from_ok : {A E : Type 0} (P : A → Type 0) (Q : Type 0) (r : Result A E) → ((x : A) → P x → Q) → IsOkAnd r P → Q
 from_ok P Q (Ok x) so h = so x h
@@ -59,33 +59,33 @@ module _ (words : List (List ℕ)) (store : Reading) (files : Files) (tells : st
   abbrev call_with : Status → Call
   call_with s = call_with_name words s store out_name out_before out_after o o' notes_name notes_before notes_after n n'
 
-  abbrev Same : Type 0
-  Same = (name_in out_after ≡ out_name) × (name_in notes_after ≡ notes_name)
+  abbrev NamesAreSame : Type 0
+  NamesAreSame = (name_in out_after ≡ out_name) × (name_in notes_after ≡ notes_name)
 
   told_name : (line : List ℕ) → GrewOrWasCut (Some (notes_name ∷ notes_before)) notes_after n n' line → name_in notes_after ≡ notes_name
-  told_name line h = prefix_name notes_name notes_before notes_after line h.prefix
+  told_name line h = prefix_keeps_name notes_name notes_before notes_after line h.prefix
 
   out_name_kept : DidNotGrow (with_name out_name out_before out_after o o') → name_in out_after ≡ out_name
   out_name_kept h = ap name_in h.0
 
-  done_names : (s : Status) (outcome : RunOutcome) → LeftByDone (call_with s).out (call_with s).notes outcome → Same
+  done_names : (s : Status) (outcome : RunOutcome) → LeftByDone (call_with s).out (call_with s).notes outcome → NamesAreSame
   done_names s outcome h = (
-    whole_name out_name out_before out_after o o' (out_of outcome) h.1,
-    whole_name notes_name notes_before notes_after n n' (notes_of outcome) h.0,
+    whole_keeps_name out_name out_before out_after o o' (out_of outcome) h.1,
+    whole_keeps_name notes_name notes_before notes_after n n' (notes_of outcome) h.0,
   )
 
   cut_notes_names : (s : Status) (line : List ℕ) (outcome : RunOutcome) → LeftByCutNotes (call_with s).notes line outcome → name_in notes_after ≡ notes_name
-  cut_notes_names s line outcome h = was_cut_and_told_name notes_name notes_before notes_after n n' (notes_of outcome) line h
+  cut_notes_names s line outcome h = was_cut_and_told_keeps_name notes_name notes_before notes_after n n' (notes_of outcome) line h
 
-  cut_out_names : (s : Status) (line : List ℕ) (outcome : RunOutcome) → LeftByCutOut (call_with s).out (call_with s).notes line outcome → Same
+  cut_out_names : (s : Status) (line : List ℕ) (outcome : RunOutcome) → LeftByCutOut (call_with s).out (call_with s).notes line outcome → NamesAreSame
   cut_out_names s line outcome h = (
-    was_cut_name out_name out_before out_after o o' (out_of outcome) h.0,
-    told_after_name notes_name notes_before notes_after n n' (notes_of outcome) line h.1,
+    was_cut_keeps_name out_name out_before out_after o o' (out_of outcome) h.0,
+    told_after_keeps_name notes_name notes_before notes_after n n' (notes_of outcome) line h.1,
   )
 
-  pub same_names : (s : Status) → Headline (call_with s) → Same
+  pub same_names : (s : Status) → Headline (call_with s) → NamesAreSame
   same_names status.Done h =
-      from_ok (LeftByDone (call_with status.Done).out (call_with status.Done).notes) Same (verdict words files) (done_names status.Done)
+      from_ok (LeftByDone (call_with status.Done).out (call_with status.Done).notes) NamesAreSame (verdict words files) (done_names status.Done)
       (h.done_is_exact refl files tells)
   same_names (status.Refused r) h = (
     out_name_kept (h.refusals_are_the_verdict.told r refl).0,
@@ -97,7 +97,7 @@ module _ (words : List (List ℕ)) (store : Reading) (files : Files) (tells : st
   )
   same_names (status.WriteFault sink.Out) h =
       from_ok (LeftByCutOut (call_with (status.WriteFault sink.Out)).out (call_with (status.WriteFault sink.Out)).notes (fault_text (status.WriteFault sink.Out) words files))
-      Same (verdict words files) (cut_out_names (status.WriteFault sink.Out) (fault_text (status.WriteFault sink.Out) words files))
+      NamesAreSame (verdict words files) (cut_out_names (status.WriteFault sink.Out) (fault_text (status.WriteFault sink.Out) words files))
       ((h.write_faults_have_their_cause.of_out refl).1 files tells)
   same_names (status.WriteFault sink.Notes) h = (
     out_name_kept (h.write_faults_have_their_cause.of_notes refl).1,
@@ -112,7 +112,7 @@ pub files_told : (shop : Option ℕ) (store : Reading) (files : Files) → store
 files_told None store files is = (files, is)
 files_told (Some number) store files is = (demo_files number, refl)
 
--- ---- with rooms: the names are the same, and the headline holds for the streams that were empty at first
+-- ---- the names of rooms stay the same, and the headline holds for streams that were empty at first
 
 module _ (words : List (List ℕ)) (status : Status) (shop : Option ℕ) (store : Reading)
     (out_name : ℕ) (out_before : List ℕ) (out_name' : ℕ) (out_text : List ℕ) (o o' : ℕ)
@@ -127,8 +127,8 @@ module _ (words : List (List ℕ)) (status : Status) (shop : Option ℕ) (store 
       same_names words (store_read shop store) told.0 told.1 out_name out_before (Some (out_name' ∷ out_text)) o o'
       notes_name notes_before (Some (notes_name' ∷ notes_text)) n n' status h
 
-  abbrev bare : List ℕ → ℕ → List ℕ → ℕ → Call
-  bare b f d g = record {
+  abbrev call_without_names : List ℕ → ℕ → List ℕ → ℕ → Call
+  call_without_names b f d g = record {
     words = words;
     status = status;
     store = store_read shop store;
@@ -136,12 +136,12 @@ module _ (words : List (List ℕ)) (status : Status) (shop : Option ℕ) (store 
     notes = without_name d (Some (notes_name' ∷ notes_text)) g n';
   }
 
-  pub begun_empty : out_before ≡ [] → o ≡ 0 → notes_before ≡ [] → n ≡ 0 → Headline told_call → Headline (bare [] 0 [] 0)
+  pub begun_empty : out_before ≡ [] → o ≡ 0 → notes_before ≡ [] → n ≡ 0 → Headline told_call → Headline (call_without_names [] 0 [] 0)
   begun_empty b f d g h =
-      let whole : Headline (bare out_before o notes_before n)
+      let whole : Headline (call_without_names out_before o notes_before n)
       = headline_without_name words status (store_read shop store) out_name out_before (Some (out_name' ∷ out_text)) o o'
       notes_name notes_before (Some (notes_name' ∷ notes_text)) n n' h in
-      subst (λ (x : ℕ). Headline (bare [] 0 [] x)) g
-      (subst (λ (x : List ℕ). Headline (bare [] 0 x n)) d
-      (subst (λ (x : ℕ). Headline (bare [] x notes_before n)) f
-      (subst (λ (x : List ℕ). Headline (bare x o notes_before n)) b whole)))
+      subst (λ (x : ℕ). Headline (call_without_names [] 0 [] x)) g
+      (subst (λ (x : List ℕ). Headline (call_without_names [] 0 x n)) d
+      (subst (λ (x : ℕ). Headline (call_without_names [] x notes_before n)) f
+      (subst (λ (x : List ℕ). Headline (call_without_names x o notes_before n)) b whole)))

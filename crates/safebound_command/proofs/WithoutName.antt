@@ -1,5 +1,5 @@
--- In these proofs a stream's text begins with a number, the name of its room, and then has the bytes. What is proved about these streams is also true
--- of the streams of the bytes alone.
+-- In these proofs a stream's text is a number (the name of its room) and then the bytes. What is proved about such a stream is also true of the
+-- stream whose text is only the bytes.
 use Rattle.std.proofs.Common.{◌≡◌, ℕ, List, [], ◌∷◌, ◌++◌, Option, None, Some, Result, Ok, Err, refl, ap, sym, ◌∙◌, subst}
 use Rattle.std.specs.Prelude.{IsOkAnd, codes}
 use Rattle.base_io.specs.Devices.{Growth, Reading}
@@ -35,14 +35,14 @@ without_name before after faults faults_after = record {
 
 -- ---- each way in which a stream may grow
 
-prefix_behind : (name : ℕ) (before : List ℕ) (after : Option (List ℕ)) (text : List ℕ)
+prefix_without_name : (name : ℕ) (before : List ℕ) (after : Option (List ℕ)) (text : List ℕ)
     → GrewByPrefix (Some (name ∷ before)) after text → GrewByPrefix (Some before) (bytes_after_name after) text
-prefix_behind name before after text h = record { front = h.front; rest = h.rest; whole = h.whole; grew = ap bytes_after_name h.grew }
+prefix_without_name name before after text h = record { front = h.front; rest = h.rest; whole = h.whole; grew = ap bytes_after_name h.grew }
 
-pub tells_behind : (name : ℕ) (before : List ℕ) (after : Option (List ℕ)) (f f' : ℕ) (text : List ℕ)
+pub tells_without_name : (name : ℕ) (before : List ℕ) (after : Option (List ℕ)) (f f' : ℕ) (text : List ℕ)
     → GrewOrWasCut (Some (name ∷ before)) after f f' text → GrewOrWasCut (Some before) (bytes_after_name after) f f' text
-tells_behind name before after f f' text h = record {
-  prefix = prefix_behind name before after text h.prefix;
+tells_without_name name before after f f' text h = record {
+  prefix = prefix_without_name name before after text h.prefix;
   whole = λ calm. ap bytes_after_name (h.whole calm);
 }
 
@@ -51,11 +51,11 @@ bytes_after_name-appended : (name : ℕ) (before : List ℕ) (mid : Option (List
 bytes_after_name-appended name before mid text is =
     subst (λ (m : Option (List ℕ)). bytes_after_name (appended m text) ≡ appended (bytes_after_name m) text) (sym is) refl
 
-cut_behind : (name : ℕ) (before : List ℕ) (after : Option (List ℕ)) (text line : List ℕ)
+cut_without_name : (name : ℕ) (before : List ℕ) (after : Option (List ℕ)) (text line : List ℕ)
     → CutThenTold (Some (name ∷ before)) after text line → CutThenTold (Some before) (bytes_after_name after) text line
-cut_behind name before after text line h = record {
+cut_without_name name before after text line h = record {
   mid = bytes_after_name h.mid;
-  cut = prefix_behind name before h.mid text h.cut;
+  cut = prefix_without_name name before h.mid text h.cut;
   told = record {
     front = h.told.front;
     rest = h.told.rest;
@@ -64,29 +64,29 @@ cut_behind name before after text line h = record {
   };
 }
 
-same_behind : (name : ℕ) (before : List ℕ) (after : Option (List ℕ)) (f f' : ℕ)
+same_without_name : (name : ℕ) (before : List ℕ) (after : Option (List ℕ)) (f f' : ℕ)
     → DidNotGrow (with_name name before after f f') → DidNotGrow (without_name before after f f')
-same_behind name before after f f' h = (ap bytes_after_name h.0, h.1)
+same_without_name name before after f f' h = (ap bytes_after_name h.0, h.1)
 
-whole_behind : (name : ℕ) (before : List ℕ) (after : Option (List ℕ)) (f f' : ℕ) (text : Option (List ℕ))
+whole_without_name : (name : ℕ) (before : List ℕ) (after : Option (List ℕ)) (f f' : ℕ) (text : Option (List ℕ))
     → GrewWhole (with_name name before after f f') text → GrewWhole (without_name before after f f') text
-whole_behind name before after f f' None h = same_behind name before after f f' h
-whole_behind name before after f f' (Some text) h = ap bytes_after_name h
+whole_without_name name before after f f' None h = same_without_name name before after f f' h
+whole_without_name name before after f f' (Some text) h = ap bytes_after_name h
 
-was_cut_behind : (name : ℕ) (before : List ℕ) (after : Option (List ℕ)) (f f' : ℕ) (text : Option (List ℕ))
+was_cut_without_name : (name : ℕ) (before : List ℕ) (after : Option (List ℕ)) (f f' : ℕ) (text : Option (List ℕ))
     → TookPrefix (with_name name before after f f') text → TookPrefix (without_name before after f f') text
-was_cut_behind name before after f f' None h = h
-was_cut_behind name before after f f' (Some text) h = prefix_behind name before after text h
+was_cut_without_name name before after f f' None h = h
+was_cut_without_name name before after f f' (Some text) h = prefix_without_name name before after text h
 
-was_cut_and_told_behind : (name : ℕ) (before : List ℕ) (after : Option (List ℕ)) (f f' : ℕ) (text : Option (List ℕ)) (line : List ℕ)
+was_cut_and_told_without_name : (name : ℕ) (before : List ℕ) (after : Option (List ℕ)) (f f' : ℕ) (text : Option (List ℕ)) (line : List ℕ)
     → TookPrefixThenLine (with_name name before after f f') text line → TookPrefixThenLine (without_name before after f f') text line
-was_cut_and_told_behind name before after f f' None line h = h
-was_cut_and_told_behind name before after f f' (Some text) line h = cut_behind name before after text line h
+was_cut_and_told_without_name name before after f f' None line h = h
+was_cut_and_told_without_name name before after f f' (Some text) line h = cut_without_name name before after text line h
 
-told_after_behind : (name : ℕ) (before : List ℕ) (after : Option (List ℕ)) (f f' : ℕ) (text : Option (List ℕ)) (line : List ℕ)
+told_after_without_name : (name : ℕ) (before : List ℕ) (after : Option (List ℕ)) (f f' : ℕ) (text : Option (List ℕ)) (line : List ℕ)
     → GrewOrWasCut (grown (Some (name ∷ before)) text) after f f' line → GrewOrWasCut (grown (Some before) text) (bytes_after_name after) f f' line
-told_after_behind name before after f f' None line h = tells_behind name before after f f' line h
-told_after_behind name before after f f' (Some text) line h = tells_behind name (before ++ text) after f f' line h
+told_after_without_name name before after f f' None line h = tells_without_name name before after f f' line h
+told_after_without_name name before after f f' (Some text) line h = tells_without_name name (before ++ text) after f f' line h
 
 and_more : {A E : Type 0} (P Q : A → Type 0) (r : Result A E) → ((x : A) → P x → Q x) → IsOkAnd r P → IsOkAnd r Q
 and_more P Q (Ok x) more h = more x h
@@ -128,53 +128,53 @@ module _ (words : List (List ℕ)) (status : Status) (store : Reading)
   }
 
   out_kept : DidNotGrow call_with_name.out → DidNotGrow call_without_name.out
-  out_kept h = same_behind out_name out_before out_after o o' h
+  out_kept h = same_without_name out_name out_before out_after o o' h
 
   line_told : (line : List ℕ) → GrewByLine call_with_name.notes line → GrewByLine call_without_name.notes line
-  line_told line h = tells_behind notes_name notes_before notes_after n n' line h
+  line_told line h = tells_without_name notes_name notes_before notes_after n n' line h
 
-  done_behind : (outcome : RunOutcome) → LeftByDone call_with_name.out call_with_name.notes outcome → LeftByDone call_without_name.out call_without_name.notes outcome
-  done_behind outcome h = (
-    whole_behind notes_name notes_before notes_after n n' (notes_text outcome) h.0,
-    whole_behind out_name out_before out_after o o' (out_text outcome) h.1,
+  done_without_name : (outcome : RunOutcome) → LeftByDone call_with_name.out call_with_name.notes outcome → LeftByDone call_without_name.out call_without_name.notes outcome
+  done_without_name outcome h = (
+    whole_without_name notes_name notes_before notes_after n n' (notes_text outcome) h.0,
+    whole_without_name out_name out_before out_after o o' (out_text outcome) h.1,
   )
 
-  cut_notes_behind : (line : List ℕ) (outcome : RunOutcome) → LeftByCutNotes call_with_name.notes line outcome → LeftByCutNotes call_without_name.notes line outcome
-  cut_notes_behind line outcome h = was_cut_and_told_behind notes_name notes_before notes_after n n' (notes_text outcome) line h
+  cut_notes_without_name : (line : List ℕ) (outcome : RunOutcome) → LeftByCutNotes call_with_name.notes line outcome → LeftByCutNotes call_without_name.notes line outcome
+  cut_notes_without_name line outcome h = was_cut_and_told_without_name notes_name notes_before notes_after n n' (notes_text outcome) line h
 
-  cut_out_behind : (line : List ℕ) (outcome : RunOutcome) → LeftByCutOut call_with_name.out call_with_name.notes line outcome
+  cut_out_without_name : (line : List ℕ) (outcome : RunOutcome) → LeftByCutOut call_with_name.out call_with_name.notes line outcome
       → LeftByCutOut call_without_name.out call_without_name.notes line outcome
-  cut_out_behind line outcome h = (
-    was_cut_behind out_name out_before out_after o o' (out_text outcome) h.0,
-    told_after_behind notes_name notes_before notes_after n n' (notes_text outcome) line h.1,
+  cut_out_without_name line outcome h = (
+    was_cut_without_name out_name out_before out_after o o' (out_text outcome) h.0,
+    told_after_without_name notes_name notes_before notes_after n n' (notes_text outcome) line h.1,
   )
 
   module _ (h : Headline call_with_name) where
-    done_bare : DoneIsExact call_without_name
-    done_bare = λ is files told. and_more (LeftByDone call_with_name.out call_with_name.notes) (LeftByDone call_without_name.out call_without_name.notes)
-        (verdict words files) done_behind (h.done_is_exact is files told)
+    done_sentence_without_name : DoneIsExact call_without_name
+    done_sentence_without_name = λ is files told. and_more (LeftByDone call_with_name.out call_with_name.notes) (LeftByDone call_without_name.out call_without_name.notes)
+        (verdict words files) done_without_name (h.done_is_exact is files told)
 
-    memory_bare : WantOfMemoryLeavesItsLine call_without_name
-    memory_bare = λ is. (line_told (codes "error memory\n") (h.want_of_memory_leaves_its_line is).0, out_kept (h.want_of_memory_leaves_its_line is).1)
+    memory_sentence_without_name : WantOfMemoryLeavesItsLine call_without_name
+    memory_sentence_without_name = λ is. (line_told (codes "error memory\n") (h.want_of_memory_leaves_its_line is).0, out_kept (h.want_of_memory_leaves_its_line is).1)
 
-    writes_bare : WriteFaultsHaveTheirCause call_without_name
-    writes_bare = record {
+    writes_sentence_without_name : WriteFaultsHaveTheirCause call_without_name
+    writes_sentence_without_name = record {
       of_notes = λ is. (
         (h.write_faults_have_their_cause.of_notes is).0,
         out_kept (h.write_faults_have_their_cause.of_notes is).1,
         λ files told. and_more (LeftByCutNotes call_with_name.notes (fault_text status words files)) (LeftByCutNotes call_without_name.notes (fault_text status words files))
-            (verdict words files) (cut_notes_behind (fault_text status words files)) ((h.write_faults_have_their_cause.of_notes is).2 files told),
+            (verdict words files) (cut_notes_without_name (fault_text status words files)) ((h.write_faults_have_their_cause.of_notes is).2 files told),
       );
       of_out = λ is. (
         (h.write_faults_have_their_cause.of_out is).0,
         λ files told. and_more (LeftByCutOut call_with_name.out call_with_name.notes (fault_text status words files))
             (LeftByCutOut call_without_name.out call_without_name.notes (fault_text status words files))
-            (verdict words files) (cut_out_behind (fault_text status words files)) ((h.write_faults_have_their_cause.of_out is).1 files told),
+            (verdict words files) (cut_out_without_name (fault_text status words files)) ((h.write_faults_have_their_cause.of_out is).1 files told),
       );
     }
 
-    refusals_bare : RefusalsAreTheVerdict call_without_name
-    refusals_bare = record {
+    refusals_sentence_without_name : RefusalsAreTheVerdict call_without_name
+    refusals_sentence_without_name = record {
       usage = h.refusals_are_the_verdict.usage;
       told = λ r is. (
         out_kept (h.refusals_are_the_verdict.told r is).0,
@@ -183,11 +183,11 @@ module _ (words : List (List ℕ)) (status : Status) (store : Reading)
           line_told (fault_text status words files) ((h.refusals_are_the_verdict.told r is).1 files told).1,
         ),
       );
-      untold = h.refusals_are_the_verdict.untold;
+      missing_only_if_told = h.refusals_are_the_verdict.missing_only_if_told;
     }
 
-    reads_bare : ReadFaultsHaveTheirCause call_without_name
-    reads_bare = record {
+    reads_sentence_without_name : ReadFaultsHaveTheirCause call_without_name
+    reads_sentence_without_name = record {
       told = λ file is. (
         (h.read_faults_have_their_cause.told file is).0,
         out_kept (h.read_faults_have_their_cause.told file is).1,
@@ -201,13 +201,13 @@ module _ (words : List (List ℕ)) (status : Status) (store : Reading)
 
     pub headline_without_name : Headline call_without_name
     headline_without_name = record {
-      done_is_exact = done_bare;
+      done_is_exact = done_sentence_without_name;
       every_bound_holds = h.every_bound_holds;
       the_rows_are_the_answer = h.the_rows_are_the_answer;
-      want_of_memory_leaves_its_line = memory_bare;
-      write_faults_have_their_cause = writes_bare;
-      refusals_are_the_verdict = refusals_bare;
-      read_faults_have_their_cause = reads_bare;
+      want_of_memory_leaves_its_line = memory_sentence_without_name;
+      write_faults_have_their_cause = writes_sentence_without_name;
+      refusals_are_the_verdict = refusals_sentence_without_name;
+      read_faults_have_their_cause = reads_sentence_without_name;
       nothing_is_refused_without_cause = record {
         by_the_store = h.nothing_is_refused_without_cause.by_the_store;
         by_the_sinks = h.nothing_is_refused_without_cause.by_the_sinks;

@@ -10,8 +10,8 @@ use Rattle.safebound_top.specs.Headline.{Headline}
 use Rattle.prepared_runs.specs.Shops.{demo_number_of, store_read}
 
 -- a store whose files are known, and in which no read fails
-abbrev pub read_from : Files → Files → ℕ → ℕ → Reading
-read_from files after misses_before misses_after = record {
+abbrev pub store_of_files : Files → Files → ℕ → ℕ → Reading
+store_of_files files after misses_before misses_after = record {
   files = Some files;
   files_after = Some after;
   faults_before = 0;
@@ -30,24 +30,24 @@ stream text faults = record {
 }
 
 -- a buffer of the caller (its room) after a call, and how many bytes were written at its front
-pub record Written : Type 0 where
+pub record WrittenRoom : Type 0 where
   pub room : List ℕ
   pub count : ℕ
 
-abbrev pub written : List ℕ → ℕ → Written
-written room count = record { room = room; count = count }
+abbrev pub written_room : List ℕ → ℕ → WrittenRoom
+written_room room count = record { room = room; count = count }
 
-abbrev pub text_of : Written → List ℕ
+abbrev pub text_of : WrittenRoom → List ℕ
 text_of w = take w.count w.room
 
--- the text fits into the room, and if a write failed, the text fills the room
-pub record TextIsWithin (w : Written) (faults : ℕ) : Type 0 where
+-- the text fits into the room. If a write failed, the text fills the room
+pub record TextIsWithin (w : WrittenRoom) (faults : ℕ) : Type 0 where
   pub within : w.count ≤ length w.room
   pub full : 0 < faults → w.count ≡ length w.room
 
 -- The program was run. The code is its exit status, and both texts are in their rooms. The headline holds for the run, with a store that has
 -- exactly these files and whose reads never fail. `misses` is how often the run asked the store for a file that it doesn't have.
-pub record Ran (words : List (List ℕ)) (files : Files) (out notes : Written) (misses code : ℕ) : Type 0 where
+pub record ProgramRan (words : List (List ℕ)) (files : Files) (out notes : WrittenRoom) (misses code : ℕ) : Type 0 where
   pub status : Status
   pub told : code ≡ code_of status
   pub files_after : Files
@@ -58,18 +58,18 @@ pub record Ran (words : List (List ℕ)) (files : Files) (out notes : Written) (
   pub headline : Headline (record {
     words = words;
     status = status;
-    store = store_read (demo_number_of words) (read_from files files_after 0 misses);
+    store = store_read (demo_number_of words) (store_of_files files files_after 0 misses);
     out = stream (text_of out) out_faults;
     notes = stream (text_of notes) notes_faults;
   })
 
 -- The program was not run, since a word isn't UTF-8. The code is 15, and nothing was written.
-pub record HasBadWord (words : List (List ℕ)) (out notes : Written) (code : ℕ) : Type 0 where
+pub record HasBadWord (words : List (List ℕ)) (out notes : WrittenRoom) (code : ℕ) : Type 0 where
   pub told : code ≡ 15
   pub word : Any (λ word. ¬ (IsUtf8 word)) words
   pub no_out : out.count ≡ 0
   pub no_notes : notes.count ≡ 0
 
 -- the program was run, or a word isn't UTF-8. Copying the words allocates no memory. If the run ran out of memory, its exit status says so
-abbrev pub CallEnds : List (List ℕ) → Files → Written → Written → ℕ → Type 0
-CallEnds words files out notes code = ((misses : ℕ) × Ran words files out notes misses code) ⊎ HasBadWord words out notes code
+abbrev pub CallEnds : List (List ℕ) → Files → WrittenRoom → WrittenRoom → ℕ → Type 0
+CallEnds words files out notes code = ((misses : ℕ) × ProgramRan words files out notes misses code) ⊎ HasBadWord words out notes code

@@ -1,7 +1,7 @@
 //! The call that C makes.
 ghost use Rattle.std.specs.Prelude.{map};
 ghost use Rattle.slice_devices.specs.Slices.{files_of};
-ghost use Rattle.safebound_command.specs.Command.{CallEnds, written};
+ghost use Rattle.safebound_command.specs.Command.{CallEnds, written_room};
 
 use crate::rooms::{refuse_over, run_over};
 use crate::words::{WordsFault, texts_of_words};
@@ -20,8 +20,8 @@ pub extern "C" fn safebound_command(
     out_length: &mut u64,
     notes_length: &mut u64,
 ) -> u32
-    ensures { CallEnds (map (λ w. w.now) words.now) (files_of files.now) (written out.new out_length.new)
-        (written notes.new notes_length.new) result }
+    ensures { CallEnds (map (λ w. w.now) words.now) (files_of files.now) (written_room out.new out_length.new)
+        (written_room notes.new notes_length.new) result }
 {
     *out_length = 0;
     *notes_length = 0;

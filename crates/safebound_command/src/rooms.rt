@@ -2,7 +2,7 @@
 ghost use Rattle.std.specs.Prelude.{◌<◌, length, map};
 ghost use Rattle.outcomes.specs.Statuses.{code_of};
 ghost use Rattle.slice_devices.specs.Slices.{files_of};
-ghost use Rattle.safebound_command.specs.Command.{Ran, written};
+ghost use Rattle.safebound_command.specs.Command.{ProgramRan, written_room};
 
 use crate::run::{refuse, run};
 use safebound_top::Status;
@@ -10,7 +10,7 @@ use safebound_words::MOST_WORDS;
 use slice_devices::{SliceFile, SliceSink, SliceStore};
 use std::alloc::Global;
 
-/// How a run ended: its status, and how many bytes it wrote into each room. Also how often it asked for a file that isn't among the files.
+/// How a run ended: its status, how many bytes it wrote into each room, and how often it asked for a file that the caller didn't lend.
 #[derive(Clone, Copy, Debug)]
 pub(crate) struct RunResult {
     pub status: Status,
@@ -27,7 +27,7 @@ pub(crate) fn run_over(
     out: &mut [u8],
     notes: &mut [u8],
 ) -> RunResult
-    ensures { Ran (map (λ w. w.now) words.now) (files_of files.now) (written out.new result.out) (written notes.new result.notes)
+    ensures { ProgramRan (map (λ w. w.now) words.now) (files_of files.now) (written_room out.new result.out) (written_room notes.new result.notes)
         result.misses (code_of result.status) }
 {
     let mut store = SliceStore::new(files);
@@ -51,7 +51,7 @@ pub(crate) fn refuse_over(
     notes: &mut [u8],
 ) -> RunResult
     requires { MOST_WORDS < length words.now }
-    ensures { Ran (map (λ w. w.now) words.now) (files_of files.now) (written _out.now result.out) (written notes.new result.notes)
+    ensures { ProgramRan (map (λ w. w.now) words.now) (files_of files.now) (written_room _out.now result.out) (written_room notes.new result.notes)
         result.misses (code_of result.status) }
 {
     let mut notes = SliceSink::new(notes);

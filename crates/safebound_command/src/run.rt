@@ -5,7 +5,7 @@ ghost use Rattle.prepared_runs.specs.KeptBuffers.{KeepsItsBuffers};
 ghost use Rattle.prepared_runs.specs.Shops.{demo_number_of, store_read};
 ghost use Rattle.prepared_runs.specs.Verdict.{verdict};
 ghost use Rattle.slice_devices.specs.Slices.{files_of};
-ghost use Rattle.safebound_command.specs.Command.{read_from, stream};
+ghost use Rattle.safebound_command.specs.Command.{store_of_files, stream};
 
 use safebound_top::{Joined, Status, refuse_words, safebound};
 use safebound_words::MOST_WORDS;
@@ -29,12 +29,12 @@ pub(crate) fn run(
     ensures headline { Headline (record {
       words = map (λ w. w.now) words.now;
       status = result;
-      store = store_read (demo_number_of (map (λ w. w.now) words.now)) (read_from (files_of store.old.files.now) (files_of store.new.files.now) store.old.misses store.new.misses);
+      store = store_read (demo_number_of (map (λ w. w.now) words.now)) (store_of_files (files_of store.old.files.now) (files_of store.new.files.now) store.old.misses store.new.misses);
       out = stream (take out.new.used out.new.room.now) out.new.faults;
       notes = stream (take notes.new.used notes.new.room.now) notes.new.faults;
     }) }
     ensures buffers { result ≡ Status.Done → KeepsItsBuffers
-        (store_read (demo_number_of (map (λ w. w.now) words.now)) (read_from (files_of store.old.files.now) (files_of store.new.files.now) store.old.misses store.new.misses))
+        (store_read (demo_number_of (map (λ w. w.now) words.now)) (store_of_files (files_of store.old.files.now) (files_of store.new.files.now) store.old.misses store.new.misses))
         (verdict (map (λ w. w.now) words.now)) kept.new }
 {
     safebound(alloc, words, store, out, notes, kept)
@@ -52,7 +52,7 @@ pub(crate) fn refuse(
     ensures headline { Headline (record {
       words = map (λ w. w.now) _words.now;
       status = result;
-      store = store_read (demo_number_of (map (λ w. w.now) _words.now)) (read_from (files_of _files.now) (files_of _files.now) 0 0);
+      store = store_read (demo_number_of (map (λ w. w.now) _words.now)) (store_of_files (files_of _files.now) (files_of _files.now) 0 0);
       out = stream [] 0;
       notes = stream (take notes.new.used notes.new.room.now) notes.new.faults;
     }) }

@@ -23,7 +23,7 @@ use Rattle.schema_types.specs.Validity.{IsValid}
 use Rattle.schema_types.specs.declared.types.Schema.{Schema}
 use Rattle.sql_meaning.specs.Tables.{tables_of}
 use Rattle.stats_answers.proofs.ByteNames.{declared_bytes}
-use Rattle.stats_answers.proofs.StatsAnswers.{written}
+use Rattle.stats_answers.proofs.StatsAnswers.{written_file_is_read}
 use Rattle.stats_file.specs.FileText.{file_text}
 use Rattle.stats_file.specs.declared.types.StatsFile.{StatsFile}
 use Rattle.stats_reading.specs.Names.{HasByteColumns}
@@ -39,43 +39,44 @@ use Rattle.prepared_runs.specs.StatsFiles.{made_from_file, plan_from_file_asked,
 use Rattle.prepared_runs.specs.Limits.{within_limit}
 use Rattle.prepared_runs.specs.RunOutcome.{RunOutcome, Planned}
 use Rattle.safebound_top.specs.OutcomeTexts.{out_text}
-use Rattle.prepared_runs.specs.Shapes.{answer_of, planned_by, planned_within, shape_bytes}
+use Rattle.prepared_runs.specs.Shapes.{answer_of, planned_by, planned_within}
 use Rattle.prepared_runs.specs.Sources.{sets_by, scans_by}
 use Rattle.prepared_runs.specs.Verdict.{aim_run, command_run, plan_asked, plan_stage, query_stage, run_asked, schema_stage, work_run}
-use Rattle.prepared_runs.specs.declared.shapes.AnyPlan.{AnyPlan}
+use Rattle.plans.specs.declared.bushy.BushyPlan.{BushyPlan}
+use Rattle.tree_rows.specs.Memory.{tree_bytes}
 use Rattle.safebound_words.specs.declared.command.PlanTerms.{PlanTerms}
 use Rattle.safebound_top.proofs.Promises.{declares, query_of_schema}
-use Rattle.safebound_laws.specs.Printed.{plan_of_columns, printed}
+use Rattle.safebound_laws.specs.Printed.{plan_of_columns, both_texts}
 use Rattle.safebound_laws.proofs.Databases.{database_found}
 
 -- ---- a limit of memory
 
-test_alike : (test : Bool) (r : Refusal) (x y : RunOutcome) → printed x ≡ printed y
-    → mapped printed (if test then Ok x else Err r) ≡ mapped printed (if test then Ok y else Err r)
+test_alike : (test : Bool) (r : Refusal) (x y : RunOutcome) → both_texts x ≡ both_texts y
+    → mapped both_texts (if test then Ok x else Err r) ≡ mapped both_texts (if test then Ok y else Err r)
 test_alike true r x y same = ap (λ (p : Option (List ℕ) × Option (List ℕ)). Ok p) same
 test_alike false r x y same = refl
 
-limits_alike : (memory : Option ℕ) (bytes : ℕ) (x y : RunOutcome) → printed x ≡ printed y
-    → mapped printed (within_limit memory bytes x) ≡ mapped printed (within_limit memory bytes y)
+limits_alike : (memory : Option ℕ) (bytes : ℕ) (x y : RunOutcome) → both_texts x ≡ both_texts y
+    → mapped both_texts (within_limit memory bytes x) ≡ mapped both_texts (within_limit memory bytes y)
 limits_alike None bytes x y same = ap (λ (p : Option (List ℕ) × Option (List ℕ)). Ok p) same
 limits_alike (Some limit) bytes x y same = test_alike (nat_le bytes limit) (refusal.MemoryLimit bytes) x y same
 
 -- ---- the stages after the query is read
 
 module _ (query : Query) (file : StatsFile) (rows : List (List Row)) (terms : PlanTerms) (accuracy : ℕ) where
-  by_file : Result AnyPlan PlanError → Result RunOutcome Refusal
+  by_file : Result BushyPlan PlanError → Result RunOutcome Refusal
   by_file answer = planned_within terms.memory (made_from_file terms query file) answer
 
-  by_tables : Result AnyPlan PlanError → Result RunOutcome Refusal
+  by_tables : Result BushyPlan PlanError → Result RunOutcome Refusal
   by_tables answer = planned_within terms.memory (λ plan. Planned (run_asked (plan_of_columns terms accuracy) query rows plan)) answer
 
-  print_alike : (answer : Result AnyPlan PlanError) → mapped printed (by_file answer) ≡ mapped printed (by_tables answer)
+  print_alike : (answer : Result BushyPlan PlanError) → mapped both_texts (by_file answer) ≡ mapped both_texts (by_tables answer)
   unfolding by_file by_tables
   print_alike (Ok plan) =
-      limits_alike terms.memory (shape_bytes plan) (made_from_file terms query file plan) (Planned (run_asked (plan_of_columns terms accuracy) query rows plan)) refl
+      limits_alike terms.memory (tree_bytes plan) (made_from_file terms query file plan) (Planned (run_asked (plan_of_columns terms accuracy) query rows plan)) refl
   print_alike (Err e) = refl
 
-module _ (schema : Schema) (query : Query) (db : Database) (over : FitsQueryAndTexts schema query db) (accuracy : ℕ) (least : 0 < accuracy)
+module _ (schema : Schema) (query : Query) (db : Database) (over : FitsQueryAndTexts schema query db) (accuracy : ℕ) (accuracy_is_positive : 0 < accuracy)
     (most : accuracy ≤ most_accuracy) (terms : PlanTerms) where
   abbrev file_of : StatsFile
   file_of = file_of_query schema query (tables_of db) accuracy
@@ -84,14 +85,14 @@ module _ (schema : Schema) (query : Query) (db : Database) (over : FitsQueryAndT
   same_plan : plan_from_file_asked terms query file_of ≡ plan_asked (plan_of_columns terms accuracy) schema query (tables_of db)
   unfolding planned_by sets_by scans_by
   same_plan =
-      ap (λ sets. answer_of terms.shape sets (scan_bounds_of_file query file_of) terms.budget) (sets_same schema query db over accuracy least most)
-      ∙ ap (λ scans. answer_of terms.shape (set_bounds_of query (tables_of db) accuracy) scans terms.budget) (scans_same schema query db over accuracy least most)
+      ap (λ sets. answer_of terms.shape sets (scan_bounds_of_file query file_of) terms.budget) (sets_same schema query db over accuracy accuracy_is_positive most)
+      ∙ ap (λ scans. answer_of terms.shape (set_bounds_of query (tables_of db) accuracy) scans terms.budget) (scans_same schema query db over accuracy accuracy_is_positive most)
 
   from_file : stats_file_plan_stage terms query file_of ≡ by_file query file_of (entry_rows db) terms accuracy (plan_asked (plan_of_columns terms accuracy) schema query (tables_of db))
   unfolding stats_file_plan_stage by_file
   from_file =
       ap (λ missing. unless_missing missing >>= λ there. planned_within terms.memory (made_from_file terms query file_of) (plan_from_file_asked terms query file_of))
-      (none_missing schema query db over accuracy least most)
+      (none_missing schema query db over accuracy accuracy_is_positive most)
       ∙ ap (planned_within terms.memory (made_from_file terms query file_of)) same_plan
 
   from_tables : tables_in (entry_rows db) ≡ tables_of db → plan_stage (plan_of_columns terms accuracy) schema query (entry_rows db)
@@ -106,17 +107,17 @@ module _ (schema : Schema) (query : Query) (db : Database) (over : FitsQueryAndT
   unfolding stats_stage
   read_back name files columns there =
       ap (λ text. text >>= stats_of_text schema) there
-      ∙ ap (with_refusal stats_refusal) (written schema file_of over.of.schema_is columns (file_keeps schema query db over accuracy least most))
+      ∙ ap (with_refusal stats_refusal) (written_file_is_read schema file_of over.of.schema_is columns (file_keeps schema query db over accuracy accuracy_is_positive most))
 
   pub works_alike : (name : List ℕ) (files : Files) → HasByteColumns schema → tables_in (entry_rows db) ≡ tables_of db
       → tables_stage schema query.from files ≡ Ok (entry_rows db) → read file.Stats most_file name files ≡ Ok (file_text schema file_of)
-      → mapped printed (work_run (works.PlanFromStats name terms) schema query files) ≡ mapped printed (work_run (works.Plan (plan_of_columns terms accuracy)) schema query files)
+      → mapped both_texts (work_run (works.PlanFromStats name terms) schema query files) ≡ mapped both_texts (work_run (works.Plan (plan_of_columns terms accuracy)) schema query files)
   works_alike name files columns tables rows there =
-      ap (λ stats. mapped printed (stats >>= λ stats. stats_file_plan_stage terms query stats)) (read_back name files columns there)
-      ∙ ap (mapped printed) from_file
+      ap (λ stats. mapped both_texts (stats >>= λ stats. stats_file_plan_stage terms query stats)) (read_back name files columns there)
+      ∙ ap (mapped both_texts) from_file
       ∙ print_alike query file_of (entry_rows db) terms accuracy (plan_asked (plan_of_columns terms accuracy) schema query (tables_of db))
-      ∙ sym (ap (mapped printed) (from_tables tables))
-      ∙ sym (ap (λ rows. mapped printed (rows >>= plan_stage (plan_of_columns terms accuracy) schema query)) rows)
+      ∙ sym (ap (mapped both_texts) (from_tables tables))
+      ∙ sym (ap (λ rows. mapped both_texts (rows >>= plan_stage (plan_of_columns terms accuracy) schema query)) rows)
 
 -- ---- the stages of the whole command
 
@@ -162,8 +163,8 @@ pub files_alike : (schema_file query_file stats_file : List ℕ) (accuracy : ℕ
     → 0 < accuracy → accuracy ≤ most_accuracy
     → command_run (over_query None schema_file query_file (works.WriteStats accuracy)) files ≡ Ok written → out_text written ≡ Some text
     → read file.Stats most_file stats_file files ≡ Ok text
-    → mapped printed (command_run (over_query None schema_file query_file (works.PlanFromStats stats_file terms)) files)
-    ≡ mapped printed (command_run (over_query None schema_file query_file (works.Plan (plan_of_columns terms accuracy))) files)
+    → mapped both_texts (command_run (over_query None schema_file query_file (works.PlanFromStats stats_file terms)) files)
+    ≡ mapped both_texts (command_run (over_query None schema_file query_file (works.Plan (plan_of_columns terms accuracy))) files)
 files_alike schema_file query_file stats_file accuracy terms files outcome text least most ran wrote there =
     let made = file_made schema_file query_file accuracy files outcome ran in
     let schema = made.schema in
@@ -177,7 +178,7 @@ files_alike schema_file query_file stats_file accuracy terms files outcome text 
     let those : file_text schema (file_of_query schema query (tables_in made.rows) accuracy) ≡ text = cc in
     let is : text ≡ file_text schema (file_of_query schema query (tables_of found.database) accuracy)
     = sym those ∙ ap (λ tables. file_text schema (file_of_query schema query tables accuracy)) tables in
-    ap (mapped printed) (asked_work schema_file query_file files schema query made.schema_is made.query_is (works.PlanFromStats stats_file terms))
+    ap (mapped both_texts) (asked_work schema_file query_file files schema query made.schema_is made.query_is (works.PlanFromStats stats_file terms))
     ∙ works_alike schema query found.database found.over accuracy least most terms stats_file files columns found.tables_are
     (made.rows_are ∙ ap (λ rows. Ok rows) found.rows_are) (there ∙ ap (λ text. Ok text) is)
-    ∙ sym (ap (mapped printed) (asked_work schema_file query_file files schema query made.schema_is made.query_is (works.Plan (plan_of_columns terms accuracy))))
+    ∙ sym (ap (mapped both_texts) (asked_work schema_file query_file files schema query made.schema_is made.query_is (works.Plan (plan_of_columns terms accuracy))))

@@ -20,7 +20,7 @@ use Rattle.outcomes.specs.Errors.{table_refusal}
 use Rattle.outcomes.specs.declared.names.FileId.TheVariants as file_id
 use Rattle.schema_types.specs.Validity.{IsValid}
 use Rattle.schema_types.specs.declared.types.Table.{Table}
-use Rattle.stats_answers.proofs.StatsAnswers.{written}
+use Rattle.stats_answers.proofs.StatsAnswers.{written_file_is_read}
 use Rattle.stats_answers.specs.StatsTexts.{stats_answer}
 use Rattle.stats_file.specs.FileText.{file_text}
 use Rattle.stats_file.specs.Rules.{KeepsRules}
@@ -41,23 +41,23 @@ use Rattle.safebound_top.proofs.Promises.{declares}
 use Rattle.safebound_top.specs.Promise.{DeclaresSchema}
 use Rattle.safebound_laws.proofs.DoneRun.{byte_columns, is_valid}
 
-no_texts : IsPool []
+empty_pool_is_pool : IsPool []
 unfolding IsDistinct
-no_texts = record { utf8 = All-nil IsUtf8; once = tt }
+empty_pool_is_pool = record { utf8 = All-nil IsUtf8; once = tt }
 
 found_section : (found : Option TableStats) (section : TableStats) → or_missing found ≡ Ok section → found ≡ Some section
 found_section None section is = absurd (cc)
 found_section (Some s) section is = (let same : s ≡ section = cc in ap Some same)
 
 module _ (files : Files) (schema_file stats_file name rows_file : List ℕ) (outcome : RunOutcome) (grows : GrowsByFile files schema_file stats_file name rows_file outcome) where
-  said : DeclaresSchema files schema_file grows.schema
-  said = declares schema_file files grows.schema grows.schema_is
+  schema_is_declared : DeclaresSchema files schema_file grows.schema
+  schema_is_declared = declares schema_file files grows.schema grows.schema_is
 
   pub valid : IsValid grows.schema
-  valid = is_valid files schema_file grows.schema said
+  valid = is_valid files schema_file grows.schema schema_is_declared
 
   columns : HasByteColumns grows.schema
-  columns = byte_columns files schema_file grows.schema said
+  columns = byte_columns files schema_file grows.schema schema_is_declared
 
   keeps : KeepsRules grows.schema grows.before
   keeps = appends.keeps files schema_file stats_file name rows_file outcome grows
@@ -89,13 +89,13 @@ module _ (files : Files) (schema_file stats_file name rows_file : List ℕ) (out
   table_there = section_there name grows.schema grows.before keeps grows.section (sym its_section)
 
   cells_found : TableFound table grows.rows []
-  cells_found = table_found table rows_read.bytes grows.rows [] (valid.tables grows.section.table no_table table_there) no_texts rows_read.read
+  cells_found = table_found table rows_read.bytes grows.rows [] (valid.tables grows.section.table no_table table_there) empty_pool_is_pool rows_read.read
 
   as_many : cells_found.cells.rows ≡ length grows.rows
   as_many = sym (rows-length cells_found.new cells_found.cells.kinds cells_found.cells.columns cells_found.cells.rows) ∙ ap (λ (rows : List Row). length rows) cells_found.same
 
-  may : MayAppend grows.schema grows.before grows.section.table cells_found.new cells_found.cells
-  may = record {
+  append_is_allowed : MayAppend grows.schema grows.before grows.section.table cells_found.new cells_found.cells
+  append_is_allowed = record {
     rules = keeps;
     cells_are = cells_found.are;
     utf8 = cells_found.pool.utf8;
@@ -107,31 +107,31 @@ module _ (files : Files) (schema_file stats_file name rows_file : List ℕ) (out
 
   pub after_keeps : KeepsRules grows.schema grows.after
   after_keeps =
-      let kept = file_keeps grows.schema grows.before grows.section.table cells_found.new cells_found.cells may grows.before.accuracy
+      let kept = file_keeps grows.schema grows.before grows.section.table cells_found.new cells_found.cells append_is_allowed grows.before.accuracy
       (map (section_after_by_cells cells_found.new cells_found.cells grows.before.accuracy grows.section.table) grows.before.tables) refl refl in
       subst (KeepsRules grows.schema)
-      (file_is grows.schema grows.before grows.section.table cells_found.new cells_found.cells may
+      (file_is grows.schema grows.before grows.section.table cells_found.new cells_found.cells append_is_allowed
       ∙ ap (file_after grows.before grows.section.table) cells_found.same ∙ sym grows.after_is) kept
 
   pub after_read : stats_answer grows.schema (file_text grows.schema grows.after) ≡ Ok grows.after
-  after_read = written grows.schema grows.after valid columns after_keeps
+  after_read = written_file_is_read grows.schema grows.after valid columns after_keeps
 
 -- ---- the tables of the file's sections
 
 module _ (file : StatsFile) (table : ℕ) (new : List Row) where
-  abbrev one : TableStats → TableStats
-  one section = cond (section.table == table) (section_after file.accuracy new section) section
+  abbrev section_with_rows_appended : TableStats → TableStats
+  section_with_rows_appended section = cond (section.table == table) (section_after file.accuracy new section) section
 
-  its_table : (section : TableStats) → (one section).table ≡ section.table
+  its_table : (section : TableStats) → (section_with_rows_appended section).table ≡ section.table
   its_table section = elim (cases_Bool (section.table == table)) [ inl e ↦ rw e refl | inr e ↦ rw e refl ]
 
-  found_before : (sections : List TableStats) (t : ℕ) (section : TableStats) → find (λ (s : TableStats). s.table == t) (map one sections) ≡ Some section
+  found_before : (sections : List TableStats) (t : ℕ) (section : TableStats) → find (λ (s : TableStats). s.table == t) (map section_with_rows_appended sections) ≡ Some section
       → (old : TableStats) × (find (λ (s : TableStats). s.table == t) sections ≡ Some old)
   found_before [] t section none = absurd (cc none)
   found_before (s ∷ sections) t section found = elim (cases_Bool (s.table == t)) [
     | inl e ↦ (s, rw e refl)
-    | inr e ↦ (let here : ((one s).table == t) ≡ false = ap (λ (x : ℕ). x == t) (its_table s) ∙ e in
-        let later : find (λ (x : TableStats). x.table == t) (map one sections) ≡ Some section = rw here at found in
+    | inr e ↦ (let here : ((section_with_rows_appended s).table == t) ≡ false = ap (λ (x : ℕ). x == t) (its_table s) ∙ e in
+        let later : find (λ (x : TableStats). x.table == t) (map section_with_rows_appended sections) ≡ Some section = rw here at found in
         let rest = found_before sections t section later in
         (rest.0, rw e rest.1))
   ]

@@ -12,7 +12,7 @@ use Rattle.schema_types.specs.declared.types.Schema.{Schema}
 use Rattle.csv_tables.specs.Rows.{Row}
 use Rattle.query_names.specs.declared.errors.QueryError.{QueryError}
 use Rattle.query_names.specs.declared.errors.QueryError.TheVariants as query_error
-use Rattle.query_types.specs.Validity.{IsOf}
+use Rattle.query_types.specs.Validity.{IsQueryOf}
 use Rattle.query_types.specs.declared.types.Query.{Query}
 use Rattle.order_search.specs.declared.refusal.PlanError.{PlanError}
 use Rattle.order_search.specs.declared.refusal.PlanError.TheVariants as plan_error
@@ -24,19 +24,19 @@ use Rattle.outcomes.specs.declared.names.FileId.{FileId}
 use Rattle.outcomes.specs.declared.refusal.Refusal.{Refusal}
 use Rattle.outcomes.specs.declared.refusal.Refusal.TheVariants as refusal
 use Rattle.outcomes.specs.declared.status.Status.TheVariants as status
+use Rattle.tree_rows.specs.Memory.{tree_bytes}
 use Rattle.table_files.specs.EntryTables.{tables_in}
 use Rattle.table_files.specs.Stage.{tables_stage}
 use Rattle.demo_tables.proofs.Absences.{query_there, schema_there, tables_miss, then_misses}
 use Rattle.safebound_words.specs.Answer.{command_of}
 use Rattle.safebound_words.specs.Commands.{demo_of, over_query}
-use Rattle.safebound_words.proofs.Ranges.{of_shop}
+use Rattle.safebound_words.proofs.Ranges.{demo_of_shop}
 use Rattle.safebound_words.specs.declared.command.Command.{Command}
 use Rattle.safebound_words.specs.declared.command.QueryTask.TheVariants as works
 use Rattle.safebound_top.specs.Call.{Call}
 use Rattle.safebound_top.specs.Headline.{Headline}
 use Rattle.prepared_runs.specs.Limits.{within_limit}
 use Rattle.prepared_runs.specs.RunOutcome.{Planned}
-use Rattle.prepared_runs.specs.Shapes.{shape_bytes}
 use Rattle.prepared_runs.specs.Shops.{shop_asked, demo_number_of, shop_store}
 use Rattle.prepared_runs.specs.Verdict.{aim_run, command_run, command_stage, plan_asked, plan_stage, query_of_text, query_stage, or_usage, run_asked, schema_of_text, schema_stage, verdict, work_run}
 use Rattle.safebound_words.specs.declared.command.PlanWork.{PlanWork}
@@ -46,27 +46,27 @@ use Rattle.safebound_top.proofs.Promises.{query_of_schema}
 
 -- ---- no reader of a text gives the refusal Missing
 
-schemas_miss : {A : Type 0} (r : Result A SchemaError) → MissesNothing (with_refusal schema_refusal r)
-schemas_miss (Ok schema) id e = cc
-schemas_miss (Err (schema_error.Syntax at)) id e = cc
-schemas_miss (Err (schema_error.Name at)) id e = cc
-schemas_miss (Err (schema_error.Nullable at)) id e = cc
-schemas_miss (Err (schema_error.Limit which found)) id e = cc
-schemas_miss (Err schema_error.NoMemory) id e = cc
+schema_results_miss_nothing : {A : Type 0} (r : Result A SchemaError) → MissesNothing (with_refusal schema_refusal r)
+schema_results_miss_nothing (Ok schema) id e = cc
+schema_results_miss_nothing (Err (schema_error.Syntax at)) id e = cc
+schema_results_miss_nothing (Err (schema_error.Name at)) id e = cc
+schema_results_miss_nothing (Err (schema_error.Nullable at)) id e = cc
+schema_results_miss_nothing (Err (schema_error.Limit which found)) id e = cc
+schema_results_miss_nothing (Err schema_error.NoMemory) id e = cc
 
-queries_miss : {A : Type 0} (r : Result A QueryError) → MissesNothing (with_refusal query_refusal r)
-queries_miss (Ok query) id e = cc
-queries_miss (Err (query_error.Syntax at)) id e = cc
-queries_miss (Err (query_error.Name at)) id e = cc
-queries_miss (Err (query_error.Kind at)) id e = cc
-queries_miss (Err (query_error.Limit which found)) id e = cc
-queries_miss (Err query_error.NoMemory) id e = cc
+query_results_miss_nothing : {A : Type 0} (r : Result A QueryError) → MissesNothing (with_refusal query_refusal r)
+query_results_miss_nothing (Ok query) id e = cc
+query_results_miss_nothing (Err (query_error.Syntax at)) id e = cc
+query_results_miss_nothing (Err (query_error.Name at)) id e = cc
+query_results_miss_nothing (Err (query_error.Kind at)) id e = cc
+query_results_miss_nothing (Err (query_error.Limit which found)) id e = cc
+query_results_miss_nothing (Err query_error.NoMemory) id e = cc
 
-plans_miss : {A : Type 0} (r : Result A PlanError) → MissesNothing (with_refusal plan_refusal r)
-plans_miss (Ok plan) id e = cc
-plans_miss (Err (plan_error.Budget least)) id e = cc
-plans_miss (Err plan_error.PastBits) id e = cc
-plans_miss (Err plan_error.NoMemory) id e = cc
+plan_results_miss_nothing : {A : Type 0} (r : Result A PlanError) → MissesNothing (with_refusal plan_refusal r)
+plan_results_miss_nothing (Ok plan) id e = cc
+plan_results_miss_nothing (Err (plan_error.Budget least)) id e = cc
+plan_results_miss_nothing (Err plan_error.PastBits) id e = cc
+plan_results_miss_nothing (Err plan_error.NoMemory) id e = cc
 
 -- ---- the stages over the shop's files
 
@@ -86,58 +86,58 @@ module _ (number : ℕ) where
     abbrev ask : Command
     ask = over_query (Some number) (codes "schema.sql") (codes "query.sql") (works.Plan task)
 
-    plan_misses : (schema : Schema) (query : Query) (rows : List (List Row)) → MissesNothing (plan_stage task schema query rows)
+    plan_stage_misses_nothing : (schema : Schema) (query : Query) (rows : List (List Row)) → MissesNothing (plan_stage task schema query rows)
     unfolding plan_stage
-    plan_misses schema query rows =
-        then_misses (with_refusal plan_refusal (plan_asked task schema query (tables_in rows))) (λ plan. within_limit task.terms.memory (shape_bytes plan) (Planned (run_asked task query rows plan)))
-        (plans_miss (plan_asked task schema query (tables_in rows)))
-        (λ plan _. within_misses task.terms.memory (shape_bytes plan) (Planned (run_asked task query rows plan)))
+    plan_stage_misses_nothing schema query rows =
+        then_misses (with_refusal plan_refusal (plan_asked task schema query (tables_in rows))) (λ plan. within_limit task.terms.memory (tree_bytes plan) (Planned (run_asked task query rows plan)))
+        (plan_results_miss_nothing (plan_asked task schema query (tables_in rows)))
+        (λ plan _. within_misses task.terms.memory (tree_bytes plan) (Planned (run_asked task query rows plan)))
 
-    query_misses : (schema : Schema) (query : Query) → schema_answer schema_text ≡ Ok schema → IsOf schema query
+    query_stages_miss_nothing : (schema : Schema) (query : Query) → schema_answer schema_text ≡ Ok schema → IsQueryOf schema query
         → MissesNothing (work_run (works.Plan task) schema query (demo_files number))
-    query_misses schema query read_as of =
+    query_stages_miss_nothing schema query read_as of =
         then_misses (tables_stage schema query.from files) (plan_stage task schema query) (tables_miss number schema query read_as of)
-        (λ rows _. plan_misses schema query rows)
+        (λ rows _. plan_stage_misses_nothing schema query rows)
 
-    schema_misses : (schema : Schema) → schema_answer schema_text ≡ Ok schema → MissesNothing (aim_run ask.aim schema (demo_files number))
-    schema_misses schema read_as =
+    schema_stages_miss_nothing : (schema : Schema) → schema_answer schema_text ≡ Ok schema → MissesNothing (aim_run ask.aim schema (demo_files number))
+    schema_stages_miss_nothing schema read_as =
         then_misses (query_stage (codes "query.sql") schema files) (λ query. work_run (works.Plan task) schema query files)
-        (subst MissesNothing (sym (query_is schema)) (queries_miss (query_answer schema query_text)))
-        (λ query there. query_misses schema query read_as (query_of_schema (codes "query.sql") files schema query there))
+        (subst MissesNothing (sym (query_is schema)) (query_results_miss_nothing (query_answer schema query_text)))
+        (λ query there. query_stages_miss_nothing schema query read_as (query_of_schema (codes "query.sql") files schema query there))
 
-    ask_misses : MissesNothing (command_run (over_query (Some number) (codes "schema.sql") (codes "query.sql") (works.Plan task)) (demo_files number))
+    command_misses_nothing : MissesNothing (command_run (over_query (Some number) (codes "schema.sql") (codes "query.sql") (works.Plan task)) (demo_files number))
     unfolding command_run
-    ask_misses =
+    command_misses_nothing =
         then_misses (schema_stage (codes "schema.sql") files) (λ schema. aim_run ask.aim schema files)
-        (subst MissesNothing (sym schema_is) (schemas_miss (schema_answer schema_text)))
-        (λ schema there. schema_misses schema (ok_without_refusal schema_refusal (schema_answer schema_text) schema (sym schema_is ∙ there)))
+        (subst MissesNothing (sym schema_is) (schema_results_miss_nothing (schema_answer schema_text)))
+        (λ schema there. schema_stages_miss_nothing schema (ok_without_refusal schema_refusal (schema_answer schema_text) schema (sym schema_is ∙ there)))
 
 -- ---- the words of a call of `demo`
 
 demo_asked : (words : List (List ℕ)) (number : ℕ) (asked : Option Command) → command_of words ≡ asked → shop_asked asked ≡ Some number
     → asked ≡ Some (demo_of number)
 demo_asked words number None is e = cc
-demo_asked words number (Some command) is e = ap (λ (c : Command). Some c) (of_shop words command is number e)
+demo_asked words number (Some command) is e = ap (λ (c : Command). Some c) (demo_of_shop words command is number e)
 
-pub demo_misses : (number : ℕ) (words : List (List ℕ)) → demo_number_of words ≡ Some number → MissesNothing (verdict words (demo_files number))
+pub demo_misses_nothing : (number : ℕ) (words : List (List ℕ)) → demo_number_of words ≡ Some number → MissesNothing (verdict words (demo_files number))
 unfolding verdict
-demo_misses number words is =
+demo_misses_nothing number words is =
     let asked : command_stage words ≡ Ok (demo_of number) = ap or_usage (demo_asked words number (command_of words) refl is) in
-    subst (λ (r : Result Command Refusal). MissesNothing (r >>= (λ command. command_run command (demo_files number)))) (sym asked) (ask_misses number _)
+    subst (λ (r : Result Command Refusal). MissesNothing (r >>= (λ command. command_run command (demo_files number)))) (sym asked) (command_misses_nothing number _)
 
 -- ---- a call over the shop's store
 
-no_rise : Rose 0 0 → ⊥
-no_rise (inl less) = omega (arith, less)
-no_rise (inr full) = omega (arith, full)
+zero_does_not_rise : Rose 0 0 → ⊥
+zero_does_not_rise (inl less) = omega (arith, less)
+zero_does_not_rise (inr full) = omega (arith, full)
 
 pub no_read_fault : (call : Call) (number : ℕ) → Headline call → demo_number_of call.words ≡ Some number → call.store ≡ shop_store number
     → (file : FileId) → call.status ≡ status.ReadFault file → ⊥
 no_read_fault call number h is store file fault =
-    no_rise (subst (λ (s : Reading). Rose s.faults_before s.faults_after) store (h.read_faults_have_their_cause.told file fault).0)
+    zero_does_not_rise (subst (λ (s : Reading). Rose s.faults_before s.faults_after) store (h.read_faults_have_their_cause.told file fault).0)
 
 pub no_absent_file : (call : Call) (number : ℕ) → Headline call → demo_number_of call.words ≡ Some number → call.store ≡ shop_store number
     → (file : FileId) → call.status ≡ status.Refused (refusal.Missing file) → ⊥
 no_absent_file call number h is store file absent =
     let told = (h.refusals_are_the_verdict.told (refusal.Missing file) absent).1 (demo_files number) (ap (λ (s : Reading). s.files) store) in
-    demo_misses number call.words is file told.0
+    demo_misses_nothing number call.words is file told.0

@@ -18,7 +18,7 @@ use Rattle.schema_types.specs.Texts.{IsSchemaOf}
 use Rattle.schema_types.specs.Validity.{IsValid}
 use Rattle.schema_types.specs.declared.types.Schema.{Schema}
 use Rattle.stats_answers.proofs.ByteNames.{declared_bytes}
-use Rattle.stats_answers.proofs.StatsAnswers.{written}
+use Rattle.stats_answers.proofs.StatsAnswers.{written_file_is_read}
 use Rattle.stats_answers.specs.StatsTexts.{stats_answer}
 use Rattle.stats_file.specs.FileText.{file_text}
 use Rattle.stats_file.specs.Rules.{KeepsRules}
@@ -37,7 +37,7 @@ use Rattle.safebound_top.specs.Headline.{GrewWhole}
 use Rattle.safebound_top.specs.OutcomeTexts.{notes_text, out_text}
 use Rattle.safebound_top.specs.Promise.{DeclaresSchema}
 use Rattle.safebound_top.proofs.Promises.{declares}
-use Rattle.safebound_laws.specs.FileCalls.{IsDone, Took}
+use Rattle.safebound_laws.specs.FileCalls.{IsDone, TookExactly}
 
 -- ---- the value of a result
 
@@ -67,9 +67,9 @@ module _ (call : Call) (command : Command) (files : Files) (done : IsDone call c
   asked : command_stage call.words ≡ Ok command
   asked = ap or_usage (asked_computed call.words command done.asked)
 
-  pub ended : DoneRun
+  pub done_run_of_call : DoneRun
   unfolding verdict
-  ended =
+  done_run_of_call =
       let accepted = ok_and (λ outcome. GrewWhole call.notes (notes_text outcome) × GrewWhole call.out (out_text outcome)) (verdict call.words files)
       (done.headline.done_is_exact done.done files done.told) in
       record {
@@ -85,7 +85,7 @@ module _ (call : Call) (command : Command) (files : Files) (done : IsDone call c
 
 -- ---- bytes that were written and read
 
-pub took_text : (sink : Growth) (text bytes : List ℕ) → Grew sink text → Took sink bytes → text ≡ bytes
+pub took_text : (sink : Growth) (text bytes : List ℕ) → Grew sink text → TookExactly sink bytes → text ≡ bytes
 took_text sink text bytes grew (before, was, now) =
     let both : Some (before ++ text) ≡ Some (before ++ bytes) = sym (ap (λ (s : Option (List ℕ)). appended s text) was) ∙ sym grew ∙ now in
     append_cancel_left before text bytes (same_some (before ++ text) (before ++ bytes) both)
@@ -103,11 +103,11 @@ module _ (files : Files) (name : List ℕ) (schema : Schema) (said : DeclaresSch
   pub byte_columns : HasByteColumns schema
   byte_columns = declared_bytes said.text schema said.declares.is
 
-pub stats_are : (name : List ℕ) (schema : Schema) (files : Files) (stats file : StatsFile) → IsValid schema → HasByteColumns schema → KeepsRules schema file
+pub stats_read_are_written : (name : List ℕ) (schema : Schema) (files : Files) (stats file : StatsFile) → IsValid schema → HasByteColumns schema → KeepsRules schema file
     → file_of files name ≡ Some (file_text schema file) → stats_stage name schema files ≡ Ok stats → stats ≡ file
 unfolding stats_stage
-stats_are name schema files stats file valid columns keeps there staged =
+stats_read_are_written name schema files stats file valid columns keeps there staged =
     let steps = two_steps (read file_id.Stats most_file name files) (stats_of_text schema) stats staged in
     let text : steps.0 ≡ file_text schema file = same_some steps.0 (file_text schema file) (sym (read_ok file_id.Stats most_file name files steps.0 steps.1) ∙ there) in
     let answered : stats_answer schema steps.0 ≡ Ok stats = ok_without_refusal stats_refusal (stats_answer schema steps.0) stats steps.2 in
-    same_ok {E = StatsError} stats file (sym answered ∙ ap (stats_answer schema) text ∙ written schema file valid columns keeps)
+    same_ok {E = StatsError} stats file (sym answered ∙ ap (stats_answer schema) text ∙ written_file_is_read schema file valid columns keeps)

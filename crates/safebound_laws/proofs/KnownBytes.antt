@@ -1,4 +1,4 @@
--- These records say what is known about the bytes of a statistics file: after `stats` wrote them, and after each append.
+-- What is known about the bytes of a statistics file after `stats` wrote them, and after each append.
 use Rattle.std.proofs.Common.{◌≡◌, ℕ, ◌<◌, ◌≤◌, ◌==◌, ◌++◌, cond, List, [], ◌∷◌, length, Option, None, Some, option_map, Ok, inl, inr, refl, ap, sym, ◌∙◌, subst, append_assoc, append-nil}
 use Rattle.std.specs.List.{filter_map, flat_map, range_with_len}
 use Rattle.std.proofs.Math.Path.{fun_ext}
@@ -16,7 +16,7 @@ use Rattle.stats_file_of_query.specs.Needs.{table_of}
 use Rattle.stats_file_of_query.specs.Standing.{StandsFor, section_of}
 use Rattle.level_bounds.proofs.Lists.{from_filter_map}
 use Rattle.limits.specs.Profile.{most_accuracy}
-use Rattle.query_types.specs.Validity.{IsOf}
+use Rattle.query_types.specs.Validity.{IsQueryOf}
 use Rattle.query_types.specs.declared.types.Query.{Query}
 use Rattle.safebound_words.specs.Commands.{over_query, append_command}
 use Rattle.safebound_words.specs.declared.command.Command.{Command}
@@ -37,18 +37,18 @@ use Rattle.prepared_runs.specs.RunOutcome.{RunOutcome}
 use Rattle.prepared_runs.specs.Verdict.{query_stage}
 use Rattle.safebound_laws.specs.Appends.{GrowsByFile}
 use Rattle.safebound_laws.proofs.Alike.{FileMade, file_made}
-use Rattle.safebound_laws.proofs.AppendFacts.{append_stands, grows_so}
+use Rattle.safebound_laws.proofs.AppendFacts.{append_stands, append_run_grows}
 use Rattle.safebound_laws.proofs.Databases.{DatabaseFound, database_found}
 use Rattle.safebound_top.proofs.Promises.{query_of_schema}
 use Rattle.safebound_top.specs.Headline.{GrewWhole}
 use Rattle.safebound_top.specs.OutcomeTexts.{out_text}
-use Rattle.safebound_laws.specs.FileCalls.{AppendCall, AppendedEach, AppendedTo, StatsCall, WroteStats, last_bytes}
+use Rattle.safebound_laws.specs.FileCalls.{AppendCall, EachReadsTheBytesBefore, AppendedTo, StatsCall, WroteStats, last_bytes}
 use Rattle.safebound_laws.specs.OtherQueries.{IsOfTables}
-use Rattle.safebound_laws.specs.FilePlans.{AddRowsEach, AddedRows, AddsRowsOfFile, with_added}
+use Rattle.safebound_laws.specs.FilePlans.{EachAddsRowsOfFile, AddedRows, AddsRowsOfFile, with_added_rows}
 use Rattle.safebound_laws.proofs.Appended.{after_keeps, its_section, rows_read, section_before, table_there}
-use Rattle.safebound_laws.proofs.DoneRun.{byte_columns, ended, is_valid, ranges, same_schema, stats_are, took_text}
+use Rattle.safebound_laws.proofs.DoneRun.{byte_columns, done_run_of_call, is_valid, ranges, same_schema, stats_read_are_written, took_text}
 
-pub record Known (schema : Schema) (query : Query) (bytes : List ℕ) (tables : Tables) : Type 0 where
+pub record AreBytesOfStandingFile (schema : Schema) (query : Query) (bytes : List ℕ) (tables : Tables) : Type 0 where
   pub file : StatsFile
   pub is : bytes ≡ file_text schema file
   pub keeps : KeepsRules schema file
@@ -57,9 +57,9 @@ pub record Known (schema : Schema) (query : Query) (bytes : List ℕ) (tables : 
 
 -- ---- the bytes that `stats` wrote
 
-some_of : {A B : Type 0} (f : A → B) (o : Option A) (y : B) → option_map f o ≡ Some y → (x : A) × (o ≡ Some x) × (y ≡ f x)
-some_of f None y e = absurd (cc e)
-some_of f (Some x) y e = let same : f x ≡ y = cc in (x, refl, sym same)
+option_map_is_some : {A B : Type 0} (f : A → B) (o : Option A) (y : B) → option_map f o ≡ Some y → (x : A) × (o ≡ Some x) × (y ≡ f x)
+option_map_is_some f None y e = absurd (cc e)
+option_map_is_some f (Some x) y e = let same : f x ≡ y = cc in (x, refl, sym same)
 
 module _ (schema : Schema) (query : Query) (tables : Tables) (accuracy : ℕ) where
   abbrev section_at : ℕ → Option TableStats
@@ -69,7 +69,7 @@ module _ (schema : Schema) (query : Query) (tables : Tables) (accuracy : ℕ) wh
   made_of_tables table section found =
       let there = found_in (λ (one : TableStats). one.table == table) (filter_map section_at (range_with_len 0 (length schema.tables))) section found in
       let its = from_filter_map section_at (range_with_len 0 (length schema.tables)) section there.0 in
-      let made = some_of (section_of_table schema query tables accuracy its.0) (first_entry query its.0) section its.2 in
+      let made = option_map_is_some (section_of_table schema query tables accuracy its.0) (first_entry query its.0) section its.2 in
       let same : its.0 ≡ table = ap (λ (one : TableStats). one.table) (sym made.2) ∙ eqb-true section.table table there.1 in
       (made.0, subst (λ t. first_entry query t ≡ Some made.0) same made.1)
 
@@ -80,7 +80,7 @@ pub record FromStats (made : StatsCall) (bytes : List ℕ) (schema : Schema) : T
   pub read : (entry : ℕ) → entry < length query.from → table_rows schema (table_of query entry) made.files ≡ Ok (tables_of database entry)
   pub least : 0 < made.accuracy
   pub most : made.accuracy ≤ most_accuracy
-  pub known : Known schema query bytes (tables_of database)
+  pub known : AreBytesOfStandingFile schema query bytes (tables_of database)
   pub file_is : known.file ≡ file_of_query schema query (tables_of database) made.accuracy
 
 module _ (made : StatsCall) (schema : Schema) (bytes : List ℕ) (wrote : WroteStats made schema bytes) where
@@ -88,21 +88,21 @@ module _ (made : StatsCall) (schema : Schema) (bytes : List ℕ) (wrote : WroteS
   asked = over_query None made.schema_file made.query_file (works.WriteStats made.accuracy)
 
   abbrev outcome : RunOutcome
-  outcome = (ended made.call asked made.files wrote.done).outcome
+  outcome = (done_run_of_call made.call asked made.files wrote.done).outcome
 
   made_from : FileMade made.schema_file made.query_file made.accuracy made.files outcome
-  made_from = file_made made.schema_file made.query_file made.accuracy made.files outcome (ended made.call asked made.files wrote.done).ran
+  made_from = file_made made.schema_file made.query_file made.accuracy made.files outcome (done_run_of_call made.call asked made.files wrote.done).ran
 
   from_read : (read : Schema) (query : Query) (rows : List (List Row)) → IsValid read → query_stage made.query_file read made.files ≡ Ok query
       → tables_stage read query.from made.files ≡ Ok rows → stats_file_of_tables read query rows made.accuracy ≡ outcome → FromStats made bytes read
   from_read read query rows valid query_read staged is =
       let within = ranges made.call asked made.files wrote.done in
-      let of : IsOf read query = query_of_schema made.query_file made.files read query query_read in
+      let of : IsQueryOf read query = query_of_schema made.query_file made.files read query query_read in
       let found : DatabaseFound read query rows = database_found read query made.files rows valid of staged in
       let tables : tables_in rows ≡ tables_of found.database = ap tables_in found.rows_are ∙ found.tables_are in
       let file : StatsFile = file_of_query read query (tables_of found.database) made.accuracy in
       let text : GrewWhole made.call.out (Some (file_text read (file_of_query read query (tables_in rows) made.accuracy))) =
-      subst (λ (o : RunOutcome). GrewWhole made.call.out (out_text o)) (sym is) (ended made.call asked made.files wrote.done).out in
+      subst (λ (o : RunOutcome). GrewWhole made.call.out (out_text o)) (sym is) (done_run_of_call made.call asked made.files wrote.done).out in
       record {
         query = query;
         database = found.database;
@@ -130,14 +130,14 @@ module _ (made : StatsCall) (schema : Schema) (bytes : List ℕ) (wrote : WroteS
 -- ---- the bytes that one append wrote
 
 -- the tables with the rows that one append added satisfy `HasNewRows` of the crate appended_stats
-has_added : (query : Query) (tables : Tables) (table : ℕ) (rows : List Row) → HasNewRows query table rows tables (with_added query tables (record { table = table; rows = rows } ∷ []))
-has_added query tables table rows entry low = elim (cases_Bool (table_of query entry == table)) [
+added_rows_are_new_rows : (query : Query) (tables : Tables) (table : ℕ) (rows : List Row) → HasNewRows query table rows tables (with_added_rows query tables (record { table = table; rows = rows } ∷ []))
+added_rows_are_new_rows query tables table rows entry low = elim (cases_Bool (table_of query entry == table)) [
   | inl e ↦ rw e (ap (λ (s : List Row). tables entry ++ s) (append-nil rows))
   | inr e ↦ rw e (append-nil (tables entry))
 ]
 
-added_then : (query : Query) (tables : Tables) (one : AddedRows) (more : List AddedRows) → with_added query (with_added query tables (one ∷ [])) more ≡ with_added query tables (one ∷ more)
-added_then query tables one more = fun_ext (λ entry.
+added_one_after_another : (query : Query) (tables : Tables) (one : AddedRows) (more : List AddedRows) → with_added_rows query (with_added_rows query tables (one ∷ [])) more ≡ with_added_rows query tables (one ∷ more)
+added_one_after_another query tables one more = fun_ext (λ entry.
     let first : List Row = cond (table_of query entry == one.table) one.rows [] in
     let later : List Row = flat_map (λ (next : AddedRows). cond (table_of query entry == next.table) next.rows []) more in
     ap (λ (s : List Row). (tables entry ++ s) ++ later) (append-nil first) ∙ append_assoc (tables entry) first later)
@@ -145,24 +145,24 @@ added_then query tables one more = fun_ext (λ entry.
 pub record FromAppend (query : Query) (tables : Tables) (append : AppendCall) (schema : Schema) : Type 0 where
   pub added : AddedRows
   pub adds : AddsRowsOfFile schema append added
-  pub known : Known schema query append.bytes (with_added query tables (added ∷ []))
+  pub known : AreBytesOfStandingFile schema query append.bytes (with_added_rows query tables (added ∷ []))
 
-module _ (schema : Schema) (query : Query) (before : List ℕ) (tables : Tables) (known : Known schema query before tables) (append : AppendCall) (did : AppendedTo schema before append) where
+module _ (schema : Schema) (query : Query) (before : List ℕ) (tables : Tables) (known : AreBytesOfStandingFile schema query before tables) (append : AppendCall) (did : AppendedTo schema before append) where
   abbrev its_outcome : RunOutcome
-  its_outcome = (ended append.call (append_command append.schema_file append.names) append.files did.done).outcome
+  its_outcome = (done_run_of_call append.call (append_command append.schema_file append.names) append.files did.done).outcome
 
   abbrev GrowsSo : Type 0
   GrowsSo = GrowsByFile append.files append.schema_file append.names.stats_file append.names.table append.names.rows_file its_outcome
 
   grows : GrowsSo
-  grows = grows_so append.files append.schema_file append.names its_outcome (ended append.call (append_command append.schema_file append.names) append.files did.done).ran
+  grows = append_run_grows append.files append.schema_file append.names its_outcome (done_run_of_call append.call (append_command append.schema_file append.names) append.files did.done).ran
 
   same : grows.schema ≡ schema
   same = same_schema append.files append.schema_file schema did.declares grows.schema grows.schema_is
 
   before_is : grows.before ≡ known.file
   before_is =
-      stats_are append.names.stats_file schema append.files grows.before known.file (is_valid append.files append.schema_file schema did.declares)
+      stats_read_are_written append.names.stats_file schema append.files grows.before known.file (is_valid append.files append.schema_file schema did.declares)
       (byte_columns append.files append.schema_file schema did.declares) known.keeps (did.there ∙ ap (λ (s : List ℕ). Some s) known.is)
       (subst (λ (s : Schema). stats_stage append.names.stats_file s append.files ≡ Ok grows.before) same grows.before_is)
 
@@ -192,17 +192,17 @@ module _ (schema : Schema) (query : Query) (before : List ℕ) (tables : Tables)
       let old = section_before grows.before grows.section.table grows.rows table section (ap (λ (f : StatsFile). section_of f table) (sym grows.after_is) ∙ found) in
       known.of table old.0 (ap (λ (f : StatsFile). section_of f table) (sym before_is) ∙ old.1)
 
-  known_after : Known grows.schema query append.bytes (with_added query tables (its_added ∷ []))
+  known_after : AreBytesOfStandingFile grows.schema query append.bytes (with_added_rows query tables (its_added ∷ []))
   unfolding its_added
   known_after =
-      let end = ended append.call (append_command append.schema_file append.names) append.files did.done in
+      let end = done_run_of_call append.call (append_command append.schema_file append.names) append.files did.done in
       record {
         file = grows.after;
         is = sym (took_text append.call.out (file_text grows.schema grows.after) append.bytes
             (subst (λ (o : RunOutcome). GrewWhole append.call.out (out_text o)) grows.written end.out) did.wrote);
         keeps = after_keeps append.files append.schema_file append.names.stats_file append.names.table append.names.rows_file its_outcome grows;
         stands = append_stands append.files append.schema_file append.names.stats_file append.names.table append.names.rows_file its_outcome grows
-            query tables (with_added query tables (its_added ∷ [])) stands_before (has_added query tables grows.section.table grows.rows);
+            query tables (with_added_rows query tables (its_added ∷ [])) stands_before (added_rows_are_new_rows query tables grows.section.table grows.rows);
         of = of_tables;
       }
 
@@ -213,20 +213,20 @@ module _ (schema : Schema) (query : Query) (before : List ℕ) (tables : Tables)
 
 pub record FromAppends (schema : Schema) (query : Query) (tables : Tables) (appends : List AppendCall) (last : List ℕ) : Type 0 where
   pub added : List AddedRows
-  pub adds : AddRowsEach schema appends added
-  pub known : Known schema query last (with_added query tables added)
+  pub adds : EachAddsRowsOfFile schema appends added
+  pub known : AreBytesOfStandingFile schema query last (with_added_rows query tables added)
 
-none_added : (query : Query) (tables : Tables) → tables ≡ with_added query tables []
+none_added : (query : Query) (tables : Tables) → tables ≡ with_added_rows query tables []
 none_added query tables = fun_ext (λ entry. sym (append-nil (tables entry)))
 
-pub from_appends : (schema : Schema) (query : Query) (before : List ℕ) (tables : Tables) (appends : List AppendCall) → Known schema query before tables
-    → AppendedEach schema before appends → FromAppends schema query tables appends (last_bytes before appends)
-from_appends schema query before tables [] known did = record { added = []; adds = tt; known = subst (Known schema query before) (none_added query tables) known }
+pub from_appends : (schema : Schema) (query : Query) (before : List ℕ) (tables : Tables) (appends : List AppendCall) → AreBytesOfStandingFile schema query before tables
+    → EachReadsTheBytesBefore schema before appends → FromAppends schema query tables appends (last_bytes before appends)
+from_appends schema query before tables [] known did = record { added = []; adds = tt; known = subst (AreBytesOfStandingFile schema query before) (none_added query tables) known }
 from_appends schema query before tables (append ∷ appends) known did =
     let one = from_append schema query before tables known append did.0 in
-    let rest = from_appends schema query append.bytes (with_added query tables (one.added ∷ [])) appends one.known did.1 in
+    let rest = from_appends schema query append.bytes (with_added_rows query tables (one.added ∷ [])) appends one.known did.1 in
     record {
       added = one.added ∷ rest.added;
       adds = (one.adds, rest.adds);
-      known = subst (Known schema query (last_bytes append.bytes appends)) (added_then query tables one.added rest.added) rest.known;
+      known = subst (AreBytesOfStandingFile schema query (last_bytes append.bytes appends)) (added_one_after_another query tables one.added rest.added) rest.known;
     }

@@ -27,7 +27,7 @@ use Rattle.safebound_top.specs.Promise.{AsksQuery}
 use Rattle.prepared_runs.specs.Shapes.{answer_of, planned_by}
 use Rattle.prepared_runs.specs.Sources.{scans_by, sets_by, bounds_and_lists_by}
 use Rattle.prepared_runs.specs.StatsFiles.{plan_from_file_asked}
-use Rattle.prepared_runs.specs.declared.shapes.AnyPlan.{AnyPlan}
+use Rattle.plans.specs.declared.bushy.BushyPlan.{BushyPlan}
 use Rattle.safebound_words.specs.declared.command.ListSource.TheVariants as sources
 use Rattle.safebound_laws.specs.FileCalls.{PlanCall, PlannedFrom, StatsCall, WroteStats}
 use Rattle.safebound_laws.specs.FilePlans.{IsOver, PlanIsNear, PlanIsOfTables}
@@ -47,7 +47,7 @@ module _ (schema : Schema) (bytes : List ℕ) (made : StatsCall) (planned : Plan
   abbrev outcome_query : Query
   outcome_query = (planned_facts.its made schema bytes start bytes (tables_of start.database) start.known planned from).query
 
-  abbrev plan : AnyPlan
+  abbrev plan : BushyPlan
   plan = (planned_facts.its made schema bytes start bytes (tables_of start.database) start.known planned from).plan
 
   abbrev file : StatsFile
@@ -63,8 +63,8 @@ module _ (schema : Schema) (bytes : List ℕ) (made : StatsCall) (planned : Plan
   there place low =
       ap (λ (f : StatsFile). is_missing outcome_query f place) (sym file_is) ∙ planned_facts.not_missing made schema bytes start bytes read start.known planned from place low
 
-  its_there : (place : ℕ) → place < length outcome_query.from → IsThere outcome_query file place
-  its_there place low = is_there outcome_query file place (there place low)
+  entry_is_in_file : (place : ℕ) → place < length outcome_query.from → IsThere outcome_query file place
+  entry_is_in_file place low = is_there outcome_query file place (there place low)
 
   stands : StandsFor outcome_query file tables
   stands =
@@ -74,13 +74,13 @@ module _ (schema : Schema) (bytes : List ℕ) (made : StatsCall) (planned : Plan
 
   rows_known : (place : ℕ) → place < length outcome_query.from → (section_for outcome_query file place).rows ≡ row_counts tables place
   rows_known place low =
-      let t = its_there place low in
+      let t = entry_is_in_file place low in
       ap (λ (s : TableStats). s.rows) (section_is outcome_query file place t) ∙ (stands place t.section low t.is).rows
 
   pairs_known : (place : ℕ) → place < length outcome_query.from → (filter_column joined : ℕ) (p : PairStats)
       → pair_in (section_for outcome_query file place) filter_column joined ≡ Some p → p ≡ pair_in_table tables made.accuracy place filter_column joined
   pairs_known place low filter_column joined p found =
-      let t = its_there place low in
+      let t = entry_is_in_file place low in
       let first = planned_facts.found made schema bytes start bytes read start.known planned from place low in
       let at = first_is start.query (table_of outcome_query place) first.0 first.1 in
       let its : IsSectionOf schema start.query start.database start.over made.accuracy first.0 t.section =
@@ -92,8 +92,8 @@ module _ (schema : Schema) (bytes : List ℕ) (made : StatsCall) (planned : Plan
       ∙ ap (λ (rows : List Row). pair_in_table (tables_of_rows rows) made.accuracy 0 filter_column joined)
       (planned_facts.same_old made schema bytes start bytes read start.known planned from first.0 place at.0 low at.1)
 
-  knows : HasPairsOfTables outcome_query file tables made.accuracy
-  knows = record {
+  file_has_pairs_of_tables : HasPairsOfTables outcome_query file tables made.accuracy
+  file_has_pairs_of_tables = record {
     is_file = record { schema = schema; keeps = subst (KeepsRules schema) start.file_is start.known.keeps };
     names = names_its_entries schema outcome_query (planned_facts.of_schema made schema bytes start bytes read start.known planned from);
     there = there;
@@ -105,9 +105,9 @@ module _ (schema : Schema) (bytes : List ℕ) (made : StatsCall) (planned : Plan
       ≡ planned_by planned.terms.shape (bounds_and_lists_by sources.Columns schema outcome_query tables) made.accuracy planned.terms.budget
   unfolding planned_by sets_by scans_by
   plans_same =
-      ap (λ sets. answer_of planned.terms.shape sets (scan_bounds_of_file outcome_query file) planned.terms.budget) (sets_known outcome_query file tables made.accuracy knows)
+      ap (λ sets. answer_of planned.terms.shape sets (scan_bounds_of_file outcome_query file) planned.terms.budget) (sets_known outcome_query file tables made.accuracy file_has_pairs_of_tables)
       ∙ ap (λ scans. answer_of planned.terms.shape (set_bounds_of outcome_query tables made.accuracy) scans planned.terms.budget)
-      (scans_known outcome_query file tables made.accuracy knows)
+      (scans_known outcome_query file tables made.accuracy file_has_pairs_of_tables)
 
   of_tables : planned_by planned.terms.shape (bounds_and_lists_by sources.Columns schema outcome_query tables) made.accuracy planned.terms.budget ≡ Ok plan
   of_tables =

@@ -9,7 +9,6 @@ use Rattle.csv_tables.specs.Rows.{Row}
 use Rattle.stats_file_bounds.proofs.Finding.{none_passes}
 use Rattle.stats_file_bounds.proofs.Telling.{IsThere, is_there}
 use Rattle.stats_file_bounds.specs.Found.{first_missing, is_missing}
-use Rattle.stats_file_bounds.specs.Bounds.{scan_bounds_of_file, set_bounds_of_file}
 use Rattle.stats_file_of_query.proofs.SameSections.{first_is}
 use Rattle.stats_file_of_query.proofs.Standing.{share_rows}
 use Rattle.stats_file_of_query.specs.Files.{first_entry}
@@ -18,7 +17,7 @@ use Rattle.stats_file_of_query.specs.Standing.{ShareRows, StandsFor, section_of}
 use Rattle.join_steps.specs.Lists.{scans_of}
 use Rattle.outcomes.specs.Errors.{plan_refusal}
 use Rattle.outcomes.specs.Reads.{with_refusal}
-use Rattle.query_types.specs.Validity.{IsOf}
+use Rattle.query_types.specs.Validity.{IsQueryOf}
 use Rattle.query_types.specs.declared.types.Query.{Query}
 use Rattle.query_types.specs.declared.types.Source.{Source}
 use Rattle.safebound_words.specs.Commands.{over_query}
@@ -35,8 +34,9 @@ use Rattle.prepared_runs.proofs.LimitFacts.{within_ok}
 use Rattle.prepared_runs.proofs.ShapeFacts.{plan_over_fits}
 use Rattle.prepared_runs.specs.StatsFiles.{made_from_file, plan_from_file_asked, stats_file_plan_stage, stats_stage, unless_missing}
 use Rattle.prepared_runs.specs.Limits.{IsWithinLimit, within_limit}
-use Rattle.prepared_runs.specs.Shapes.{IsPlanOver, planned_within, shape_bytes}
-use Rattle.prepared_runs.specs.declared.shapes.AnyPlan.{AnyPlan}
+use Rattle.prepared_runs.specs.Shapes.{IsPlanOver, planned_within}
+use Rattle.plans.specs.declared.bushy.BushyPlan.{BushyPlan}
+use Rattle.tree_rows.specs.Memory.{tree_bytes}
 use Rattle.safebound_words.specs.declared.command.PlanTerms.{PlanTerms}
 use Rattle.prepared_runs.specs.RunOutcome.{PlanFromStatsFile, BoundsHoldForItsTables, NoBoundIsTooLow, RunOutcome}
 use Rattle.prepared_runs.specs.Verdict.{aim_run, command_run, query_stage, schema_stage, work_run}
@@ -46,18 +46,18 @@ use Rattle.safebound_top.specs.Headline.{GrewWhole}
 use Rattle.safebound_top.specs.OutcomeTexts.{notes_text}
 use Rattle.safebound_top.specs.Promise.{AreInFile, PrintsPlan}
 use Rattle.safebound_top.specs.Texts.{plan_text_of}
-use Rattle.safebound_laws.specs.FileCalls.{AppendCall, AppendedEach, PlanCall, PlannedFrom, StatsCall, WroteStats, last_bytes}
+use Rattle.safebound_laws.specs.FileCalls.{AppendCall, EachReadsTheBytesBefore, PlanCall, PlannedFrom, StatsCall, WroteStats, last_bytes}
 use Rattle.safebound_laws.specs.OtherQueries.{HaveSameRows}
-use Rattle.safebound_laws.specs.FilePlans.{AddedRows, GrownPlanHolds, IsOver, PlanHolds, added_rows, with_added}
-use Rattle.safebound_laws.proofs.DoneRun.{byte_columns, ended, is_valid, same_schema, stats_are}
-use Rattle.safebound_laws.proofs.KnownBytes.{FromAppends, FromStats, Known, from_appends, from_stats}
+use Rattle.safebound_laws.specs.FilePlans.{AddedRows, GrownPlanHolds, IsOver, PlanHolds, rows_added_to, with_added_rows}
+use Rattle.safebound_laws.proofs.DoneRun.{byte_columns, done_run_of_call, is_valid, same_schema, stats_read_are_written}
+use Rattle.safebound_laws.proofs.KnownBytes.{FromAppends, FromStats, AreBytesOfStandingFile, from_appends, from_stats}
 use Rattle.safebound_laws.proofs.OtherQueries.{stands_for_other}
 
 -- ---- the stages of a plan from a file
 
-there_is : (o : Option ℕ) (u : Unit {0}) → unless_missing o ≡ Ok u → o ≡ None
-there_is None u e = refl
-there_is (Some from) u e = absurd (cc)
+nothing_is_missing : (o : Option ℕ) (u : Unit {0}) → unless_missing o ≡ Ok u → o ≡ None
+nothing_is_missing None u e = refl
+nothing_is_missing (Some from) u e = absurd (cc)
 
 pub record PlanMade (schema_file query_file stats_file : List ℕ) (terms : PlanTerms) (files : Files) (outcome : RunOutcome) : Type 0 where
   pub schema : Schema
@@ -67,9 +67,9 @@ pub record PlanMade (schema_file query_file stats_file : List ℕ) (terms : Plan
   pub stats : StatsFile
   pub stats_is : stats_stage stats_file schema files ≡ Ok stats
   pub there : first_missing query stats ≡ None
-  pub plan : AnyPlan
+  pub plan : BushyPlan
   pub planned : plan_from_file_asked terms query stats ≡ Ok plan
-  pub within : IsWithinLimit terms.memory (shape_bytes plan)
+  pub within : IsWithinLimit terms.memory (tree_bytes plan)
   pub is : made_from_file terms query stats plan ≡ outcome
 
 plan_made : (schema_file query_file stats_file : List ℕ) (terms : PlanTerms) (files : Files) (outcome : RunOutcome)
@@ -84,8 +84,8 @@ plan_made schema_file query_file stats_file terms files outcome ran =
     let there = two_steps (unless_missing (first_missing second.0 third.0))
     (λ u. planned_within terms.memory (made_from_file terms second.0 third.0) (plan_from_file_asked terms second.0 third.0)) outcome third.2 in
     let last = two_steps (with_refusal plan_refusal (plan_from_file_asked terms second.0 third.0))
-    (λ plan. within_limit terms.memory (shape_bytes plan) (made_from_file terms second.0 third.0 plan)) outcome there.2 in
-    let kept = within_ok terms.memory (shape_bytes last.0) (made_from_file terms second.0 third.0 last.0) outcome last.2 in
+    (λ plan. within_limit terms.memory (tree_bytes plan) (made_from_file terms second.0 third.0 plan)) outcome there.2 in
+    let kept = within_ok terms.memory (tree_bytes last.0) (made_from_file terms second.0 third.0 last.0) outcome last.2 in
     record {
       schema = first.0;
       schema_is = first.1;
@@ -93,7 +93,7 @@ plan_made schema_file query_file stats_file terms files outcome ran =
       query_is = second.1;
       stats = third.0;
       stats_is = third.1;
-      there = there_is (first_missing second.0 third.0) there.0 there.1;
+      there = nothing_is_missing (first_missing second.0 third.0) there.0 there.1;
       plan = last.0;
       planned = ok_without_refusal plan_refusal (plan_from_file_asked terms second.0 third.0) last.0 last.1;
       within = kept.1;
@@ -120,14 +120,14 @@ module _ (query : Query) (tables : Tables) (share : ShareRows query tables) (oth
           let its = first_is query (table_of other place) first is in
           share entry first low its.0 (same ∙ sym its.1) ∙ ap (λ (o : Option ℕ). tables (unwrap_or o 0)) (sym is)
 
-added_same : (query : Query) (tables : Tables) (other : Query) (also : Tables) (added : List AddedRows) → HaveSameRows query tables other also
-    → HaveSameRows query (with_added query tables added) other (with_added other also added)
-added_same query tables other also added have entry place low within same =
-    ap (λ (rows : List Row). rows ++ added_rows (table_of query entry) added) (have entry place low within same) ∙ ap (λ (t : ℕ). also place ++ added_rows t added) same
+added_rows_stay_same : (query : Query) (tables : Tables) (other : Query) (also : Tables) (added : List AddedRows) → HaveSameRows query tables other also
+    → HaveSameRows query (with_added_rows query tables added) other (with_added_rows other also added)
+added_rows_stay_same query tables other also added have entry place low within same =
+    ap (λ (rows : List Row). rows ++ rows_added_to (table_of query entry) added) (have entry place low within same) ∙ ap (λ (t : ℕ). also place ++ rows_added_to t added) same
 
-in_file : (files : Files) (schema : Schema) (query : Query) (entry : ℕ) (rows : List Row) → IsOf schema query → entry < length query.from
+entry_rows_are_in_file : (files : Files) (schema : Schema) (query : Query) (entry : ℕ) (rows : List Row) → IsQueryOf schema query → entry < length query.from
     → table_rows schema (table_of query entry) files ≡ Ok rows → AreInFile files schema query entry rows
-in_file files schema query entry rows of low staged =
+entry_rows_are_in_file files schema query entry rows of low staged =
     let none : Source = record { table = 0; alias = [] } in
     let source : Source = get_or query.from entry none in
     let number : table_of query entry ≡ source.table = get_or-map (λ (s : Source). s.table) query.from entry none 0 low in
@@ -146,28 +146,28 @@ in_file files schema query entry rows of low staged =
 
 -- the plan is made from a statistics file that is known to stand for tables of the query that `stats` read
 module _ (made : StatsCall) (schema : Schema) (first_bytes : List ℕ) (start : FromStats made first_bytes schema) (bytes : List ℕ) (tables : Tables)
-    (known : Known schema start.query bytes tables) (planned : PlanCall) (from : PlannedFrom schema bytes planned) where
+    (known : AreBytesOfStandingFile schema start.query bytes tables) (planned : PlanCall) (from : PlannedFrom schema bytes planned) where
   abbrev command : Command
   command = over_query None planned.schema_file planned.query_file (works.PlanFromStats planned.stats_file planned.terms)
 
-  pub its : PlanMade planned.schema_file planned.query_file planned.stats_file planned.terms planned.files (ended planned.call command planned.files from.done).outcome
+  pub its : PlanMade planned.schema_file planned.query_file planned.stats_file planned.terms planned.files (done_run_of_call planned.call command planned.files from.done).outcome
   its =
-      plan_made planned.schema_file planned.query_file planned.stats_file planned.terms planned.files (ended planned.call command planned.files from.done).outcome
-      (ended planned.call command planned.files from.done).ran
+      plan_made planned.schema_file planned.query_file planned.stats_file planned.terms planned.files (done_run_of_call planned.call command planned.files from.done).outcome
+      (done_run_of_call planned.call command planned.files from.done).ran
 
   same : its.schema ≡ schema
   same = same_schema planned.files planned.schema_file schema from.declares its.schema its.schema_is
 
   pub stats_same : its.stats ≡ known.file
   stats_same =
-      stats_are planned.stats_file schema planned.files its.stats known.file (is_valid planned.files planned.schema_file schema from.declares)
+      stats_read_are_written planned.stats_file schema planned.files its.stats known.file (is_valid planned.files planned.schema_file schema from.declares)
       (byte_columns planned.files planned.schema_file schema from.declares) known.keeps (from.there ∙ ap (λ (s : List ℕ). Some s) known.is)
       (subst (λ (s : Schema). stats_stage planned.stats_file s planned.files ≡ Ok its.stats) same its.stats_is)
 
   query_there : query_stage planned.query_file schema planned.files ≡ Ok its.query
   query_there = subst (λ (s : Schema). query_stage planned.query_file s planned.files ≡ Ok its.query) same its.query_is
 
-  pub of_schema : IsOf schema its.query
+  pub of_schema : IsQueryOf schema its.query
   of_schema = query_of_schema planned.query_file planned.files schema its.query query_there
 
   -- ---- the rows of the planned query's entries
@@ -187,7 +187,7 @@ module _ (made : StatsCall) (schema : Schema) (first_bytes : List ℕ) (start : 
   rows_there place low =
       let first = found place low in
       let at = first_is start.query (table_of its.query place) first.0 first.1 in
-      in_file made.files schema its.query place (tables_for_other start.query (tables_of start.database) its.query place) of_schema low
+      entry_rows_are_in_file made.files schema its.query place (tables_for_other start.query (tables_of start.database) its.query place) of_schema low
       (ap (λ (t : ℕ). table_rows schema t made.files) (sym at.1) ∙ start.read first.0 at.0 ∙ ap (λ (rows : List Row). Ok rows) (same_old first.0 place at.0 low at.1))
 
   pub over : IsOver made planned schema its.query (tables_for_other start.query (tables_of start.database) its.query)
@@ -196,18 +196,18 @@ module _ (made : StatsCall) (schema : Schema) (first_bytes : List ℕ) (start : 
   -- ---- the plan's text
 
   abbrev pub its_plan : PlanFromStatsFile
-  its_plan = record { query = its.query; file = its.stats; plan = its.plan; memory = planned.terms.memory }
+  its_plan = record { query = its.query; file = its.stats; shape = planned.terms.shape; plan = its.plan; memory = planned.terms.memory }
 
   pub holds_for : (grown : Tables) → StandsFor its.query known.file grown
-      → PrintsPlan planned.terms.shape planned.terms.memory its.query grown (scans_of its.query grown) (plan_text_of its.query.from its.plan planned.terms.memory)
+      → PrintsPlan planned.terms.shape planned.terms.memory its.query grown (scans_of its.query grown) (plan_text_of its.query.from planned.terms.shape its.plan planned.terms.memory)
   holds_for grown stands =
-      let holds : BoundsHoldForItsTables its_plan = subst NoBoundIsTooLow (sym its.is) (ended planned.call command planned.files from.done).holds in
-      let plan : IsPlanOver its.query grown (scans_of its.query grown) its.plan = holds grown (subst (λ (f : StatsFile). StandsFor its.query f grown) (sym stats_same) stands) in
-      text_prints planned.terms.shape (set_bounds_of_file its.query its.stats) (scan_bounds_of_file its.query its.stats) planned.terms.budget planned.terms.memory its.query grown
-      (scans_of its.query grown) its.plan its.planned (plan_over_fits its.query grown (scans_of its.query grown) its.plan plan) its.within
+      let holds : BoundsHoldForItsTables its_plan = subst NoBoundIsTooLow (sym its.is) (done_run_of_call planned.call command planned.files from.done).holds in
+      let plan : IsPlanOver its.query grown (scans_of its.query grown) planned.terms.shape its.plan = holds grown (subst (λ (f : StatsFile). StandsFor its.query f grown) (sym stats_same) stands) in
+      text_prints planned.terms.shape planned.terms.memory its.query grown (scans_of its.query grown) its.plan
+      (plan_over_fits its.query grown (scans_of its.query grown) planned.terms.shape its.plan plan) its.within
 
-  pub written : Grew planned.call.notes (plan_text_of its.query.from its.plan planned.terms.memory)
-  written = subst (λ (o : RunOutcome). GrewWhole planned.call.notes (notes_text o)) (sym its.is) (ended planned.call command planned.files from.done).notes
+  pub written : Grew planned.call.notes (plan_text_of its.query.from planned.terms.shape its.plan planned.terms.memory)
+  written = subst (λ (o : RunOutcome). GrewWhole planned.call.notes (notes_text o)) (sym its.is) (done_run_of_call planned.call command planned.files from.done).notes
 
 -- ---- a plan from the file that `stats` wrote
 
@@ -224,7 +224,7 @@ module _ (schema : Schema) (bytes : List ℕ) (made : StatsCall) (planned : Plan
         query = plan.query;
         tables = tables;
         over = over made schema bytes s bytes (tables_of s.database) s.known planned from;
-        text = plan_text_of plan.query.from plan.plan planned.terms.memory;
+        text = plan_text_of plan.query.from planned.terms.shape plan.plan planned.terms.memory;
         plan = holds_for made schema bytes s bytes (tables_of s.database) s.known planned from tables
             (stands_for_other s.query plan.query s.known.file (tables_of s.database) tables s.known.stands s.known.of
             (same_old made schema bytes s bytes (tables_of s.database) s.known planned from));
@@ -234,7 +234,7 @@ module _ (schema : Schema) (bytes : List ℕ) (made : StatsCall) (planned : Plan
 -- ---- a plan from the file after any number of appends
 
 module _ (schema : Schema) (bytes : List ℕ) (made : StatsCall) (appends : List AppendCall) (planned : PlanCall) (wrote : WroteStats made schema bytes)
-    (did : AppendedEach schema bytes appends) (from : PlannedFrom schema (last_bytes bytes appends) planned) where
+    (did : EachReadsTheBytesBefore schema bytes appends) (from : PlannedFrom schema (last_bytes bytes appends) planned) where
   begun : FromStats made bytes schema
   begun = from_stats made schema bytes wrote
 
@@ -246,7 +246,7 @@ module _ (schema : Schema) (bytes : List ℕ) (made : StatsCall) (appends : List
       let s : FromStats made bytes schema = begun in
       let last : List ℕ = last_bytes bytes appends in
       let read : Tables = tables_of s.database in
-      let grown : Tables = with_added s.query read more.added in
+      let grown : Tables = with_added_rows s.query read more.added in
       let plan = its made schema bytes s last grown more.known planned from in
       let tables : Tables = tables_for_other s.query read plan.query in
       record {
@@ -255,9 +255,9 @@ module _ (schema : Schema) (bytes : List ℕ) (made : StatsCall) (appends : List
         over = over made schema bytes s last grown more.known planned from;
         added = more.added;
         adds = more.adds;
-        text = plan_text_of plan.query.from plan.plan planned.terms.memory;
-        plan = holds_for made schema bytes s last grown more.known planned from (with_added plan.query tables more.added)
-            (stands_for_other s.query plan.query more.known.file grown (with_added plan.query tables more.added) more.known.stands more.known.of
-            (added_same s.query read plan.query tables more.added (same_old made schema bytes s last grown more.known planned from)));
+        text = plan_text_of plan.query.from planned.terms.shape plan.plan planned.terms.memory;
+        plan = holds_for made schema bytes s last grown more.known planned from (with_added_rows plan.query tables more.added)
+            (stands_for_other s.query plan.query more.known.file grown (with_added_rows plan.query tables more.added) more.known.stands more.known.of
+            (added_rows_stay_same s.query read plan.query tables more.added (same_old made schema bytes s last grown more.known planned from)));
         written = written made schema bytes s last grown more.known planned from;
       }

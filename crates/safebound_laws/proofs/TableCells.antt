@@ -109,10 +109,10 @@ number_fits true zero low = record { sfits = omega arith }
 number_fits true (suc size) low = record { sfits = omega (arith, low) }
 number_fits false size low = record { sfits = omega (arith, low) }
 
-sized : (numeral fits : Bool) (n most size : ℕ) → nat_le n most ≡ fits → (if numeral && fits then Some n else None) ≡ Some size → size ≤ most
-sized true true n most size is e = (let same : n ≡ size = cc in grind (arith, nat_tests))
-sized true false n most size is e = absurd cc
-sized false fits n most size is e = absurd cc
+numeral_is_at_most : (numeral fits : Bool) (n most size : ℕ) → nat_le n most ≡ fits → (if numeral && fits then Some n else None) ≡ Some size → size ≤ most
+numeral_is_at_most true true n most size is e = (let same : n ≡ size = cc in grind (arith, nat_tests))
+numeral_is_at_most true false n most size is e = absurd cc
+numeral_is_at_most false fits n most size is e = absurd cc
 
 number_cell : (minus : Bool) (found : Option ℕ) (value : Value) (old : List (List ℕ)) → IsPool old → ((size : ℕ) → found ≡ Some size → size ≤ greatest_magnitude minus)
     → option_map Int (option_map (signed minus) found) ≡ Some value → CellFound kind.Int value old
@@ -138,11 +138,11 @@ text_value most false field value old pool utf8 e = absurd cc
 value_cell : (k : Kind) (field : List ℕ) (value : Value) (old : List (List ℕ)) → IsPool old → IsUtf8 field → value_of_field k field ≡ Some value → CellFound k value old
 value_cell kind.Int field value old pool utf8 e =
     number_cell (begins_with_minus field) (magnitude_of (greatest_magnitude (begins_with_minus field)) (without_sign field)) value old pool
-    (λ size is. sized (is_numeral (without_sign field)) (nat_le (decimal_after 0 (without_sign field)) (greatest_magnitude (begins_with_minus field)))
+    (λ size is. numeral_is_at_most (is_numeral (without_sign field)) (nat_le (decimal_after 0 (without_sign field)) (greatest_magnitude (begins_with_minus field)))
     (decimal_after 0 (without_sign field)) (greatest_magnitude (begins_with_minus field)) size refl is) e
 value_cell (kind.Text most) field value old pool utf8 e = text_value most (nat_le (length (chars field)) most) field value old pool utf8 e
 
--- ---- if `then_all` has a value, its first step and the rest have one
+-- ---- if `then_all` has a value, its first step has a value, and so have its other steps
 
 pub record ThenBoth {A : Type 0} (first : Result A TableError) (rest : Result (List A) TableError) (all : List A) : Type 0 where
   pub x : A
@@ -156,21 +156,21 @@ then_both (Ok x) (Ok xs) all e = record { x = x; xs = xs; first_is = refl; rest_
 then_both (Ok x) (Err wrong) all e = absurd cc
 then_both (Err wrong) rest all e = absurd cc
 
-or_there : {A : Type 0} (e : TableError) (o : Option A) (x : A) → or_refuse e o ≡ Ok x → o ≡ Some x
-or_there e None x is = absurd cc
-or_there e (Some y) x is = (let same : y ≡ x = cc in ap Some same)
+option_is_some : {A : Type 0} (e : TableError) (o : Option A) (x : A) → or_refuse e o ≡ Ok x → o ≡ Some x
+option_is_some e None x is = absurd cc
+option_is_some e (Some y) x is = (let same : y ≡ x = cc in ap Some same)
 
-passed : {A : Type 0} (test : Bool) (e : TableError) (next : Result A TableError) (y : A) → refuse_if test e next ≡ Ok y → (test ≡ false) × (next ≡ Ok y)
-passed true e next y is = absurd cc
-passed false e next y is = (refl, is)
+test_is_false : {A : Type 0} (test : Bool) (e : TableError) (next : Result A TableError) (y : A) → refuse_if test e next ≡ Ok y → (test ≡ false) × (next ≡ Ok y)
+test_is_false true e next y is = absurd cc
+test_is_false false e next y is = (refl, is)
 
 -- ---- the cells of a row
 
-text_at : (fields : List (List ℕ)) (place : ℕ) → AllText fields → IsUtf8 (get_or fields place [])
+field_is_text : (fields : List (List ℕ)) (place : ℕ) → AllText fields → IsUtf8 (get_or fields place [])
 unfolding AllText
-text_at [] place all = IsUtf8-nil
-text_at (field ∷ fields) zero all = all.0
-text_at (field ∷ fields) (suc place) all = text_at fields place all.1
+field_is_text [] place all = IsUtf8-nil
+field_is_text (field ∷ fields) zero all = all.0
+field_is_text (field ∷ fields) (suc place) all = field_is_text fields place all.1
 
 record RowFound (kinds : List Kind) (row : Row) (old : List (List ℕ)) (most : ℕ) : Type 0 where
   new : List (List ℕ)
@@ -186,8 +186,8 @@ row_found number at [] places fields row old pool text paired e =
 row_found number at (column ∷ columns) [] fields row old pool text paired e = absurd (omega (arith, paired))
 row_found number at (column ∷ columns) (place ∷ places) fields row old pool text paired e =
     let both = then_both (or_refuse (error.Field number at) (value_of_field column.kind (get_or fields place []))) (values_of_record number (at + 1) columns places fields) row e in
-    let one = value_cell column.kind (get_or fields place []) both.x old pool (text_at fields place text)
-    (or_there (error.Field number at) (value_of_field column.kind (get_or fields place [])) both.x both.first_is) in
+    let one = value_cell column.kind (get_or fields place []) both.x old pool (field_is_text fields place text)
+    (option_is_some (error.Field number at) (value_of_field column.kind (get_or fields place [])) both.x both.first_is) in
     let rest = row_found number (at + 1) columns places fields both.xs one.new one.grows.pool text (omega (arith, paired)) both.rest_is in
     let grown = row-grown one.new rest.new (column.kind ∷ []) (both.x ∷ []) (one.cell ∷ []) rest.grows.begins (one.is, tt) in
     record {
@@ -216,8 +216,8 @@ module _ (columns : List Column) (places : List ℕ) (width : ℕ) (records : Li
   rows_found [] texts found rows rest so_far pool text e = record { new = texts; found = found; rows = rows; so_far = so_far; pool = pool }
   rows_found (fields ∷ after) texts found rows rest so_far pool text e =
       let both = then_both (row_of_record columns places width (rows + 1) fields) (rows_of_records columns places width (rows + 1 + 1) after) rest e in
-      let numbered = passed (nat_lt 4000000 (rows + 1)) (error.Limit 4000001) _ both.x both.first_is in
-      let wide = passed (not (length fields == width)) (error.Width (rows + 1) (length fields)) (values_of_record (rows + 1) 0 columns places fields) both.x numbered.1 in
+      let numbered = test_is_false (nat_lt 4000000 (rows + 1)) (error.Limit 4000001) _ both.x both.first_is in
+      let wide = test_is_false (not (length fields == width)) (error.Width (rows + 1) (length fields)) (values_of_record (rows + 1) 0 columns places fields) both.x numbered.1 in
       let row = row_found (rows + 1) 0 columns places fields both.x texts pool text.0 paired wide.1 in
       let low : rows + 1 ≤ 4000000 = (let within = numbered.0 in grind (arith, nat_tests)) in
       rows_found after row.new (add_row found row.cells) (rows + 1) both.xs
@@ -227,22 +227,22 @@ module _ (columns : List Column) (places : List ℕ) (width : ℕ) (records : Li
 
 -- ---- the records of a UTF-8 text have UTF-8 fields
 
-record_text : (s : State) (xs : List ℕ) (p : Read) → IsUtf8 xs → next_record default_config s [] [] xs ≡ Some p → AllText p.0 × IsUtf8 p.2
-record_text s xs p text e =
+fields_of_record_are_text : (s : State) (xs : List ℕ) (p : Read) → IsUtf8 xs → next_record default_config s [] [] xs ≡ Some p → AllText p.0 × IsUtf8 p.2
+fields_of_record_are_text s xs p text e =
     let read = text_read s xs p.0 p.1 p.2 text (subst (λ (o : Option Read). NextIs o true p.0 p.1 p.2) (sym e) (refl, refl, refl, refl)) in
     (read.all, read.text)
 
-records_text : (n : ℕ) (s : State) (xs : List ℕ) → IsUtf8 xs → AllByRecursion AllText (records_from default_config n s xs)
+fields_of_records_are_text : (n : ℕ) (s : State) (xs : List ℕ) → IsUtf8 xs → AllByRecursion AllText (records_from default_config n s xs)
 unfolding records_from
-records_text zero s xs text = tt
-records_text (suc n) s xs text = elim (next_record default_config s [] [] xs) as (λ o. next_record default_config s [] [] xs ≡ o → AllByRecursion AllText (records_next (records_from default_config n) o)) [
+fields_of_records_are_text zero s xs text = tt
+fields_of_records_are_text (suc n) s xs text = elim (next_record default_config s [] [] xs) as (λ o. next_record default_config s [] [] xs ≡ o → AllByRecursion AllText (records_next (records_from default_config n) o)) [
   | None ↦ λ e. tt
-  | Some p ↦ λ e. (let one = record_text s xs p text e in (one.0, records_text n p.1 p.2 one.1))
+  | Some p ↦ λ e. (let one = fields_of_record_are_text s xs p text e in (one.0, fields_of_records_are_text n p.1 p.2 one.1))
 ] refl
 
-after_text : (records : List Record) → AllByRecursion AllText records → AllByRecursion AllText (after_header records)
-after_text [] all = tt
-after_text (header ∷ records) all = all.1
+fields_after_header_are_text : (records : List Record) → AllByRecursion AllText records → AllByRecursion AllText (after_header records)
+fields_after_header_are_text [] all = tt
+fields_after_header_are_text (header ∷ records) all = all.1
 
 -- ---- the cells of a table
 
@@ -277,7 +277,7 @@ under_header table records rows old few pool text e =
     let places = placed.0 in
     let start = rows_none columns places width after old (replicate (length columns) []) refl in
     let all = rows_found columns places width after few (places_paired 0 columns (header_of records) places placed.1) old after old (replicate (length columns) []) 0 rows start pool
-    (after_text records text) placed.2 in
+    (fields_after_header_are_text records text) placed.2 in
     record {
       new = all.new;
       cells = record { kinds = kinds_of columns; columns = all.found; rows = all.rows };
@@ -292,12 +292,12 @@ pub table_found : (table : Table) (bytes : List ℕ) (rows : List Row) (old : Li
 unfolding rows_of_file rows_in_records
 table_found table bytes rows old good pool e =
     let records : List Record = records_of (strip_bom bytes) in
-    let sound = passed (not (is_utf8 bytes)) (error.Utf8 (utf8_valid_len bytes)) (rows_under_header table.columns records >>= rows_with_keys table.keys) rows e in
+    let sound = test_is_false (not (is_utf8 bytes)) (error.Utf8 (utf8_valid_len bytes)) (rows_under_header table.columns records >>= rows_with_keys table.keys) rows e in
     let utf8 : is_utf8 bytes ≡ true = unnegated (is_utf8 bytes) sound.0 in
     let read = then_ok (rows_under_header table.columns records) (rows_with_keys table.keys) rows sound.1 in
     let same : read.0 ≡ rows = with_keys table.keys read.0 rows read.2 in
     let text : AllByRecursion AllText records =
-    records_text (length (strip_bom bytes) + 1) st.StartRecord (strip_bom bytes) (text_after_mark bytes (IsUtf8-from_is_utf8 bytes utf8)) in
+    fields_of_records_are_text (length (strip_bom bytes) + 1) st.StartRecord (strip_bom bytes) (text_after_mark bytes (IsUtf8-from_is_utf8 bytes utf8)) in
     under_header table records rows old good.few pool text (read.1 ∙ ap (λ (r : List Row). Ok r) same)
   where
     unnegated : (test : Bool) → not test ≡ false → test ≡ true

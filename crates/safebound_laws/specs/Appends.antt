@@ -21,7 +21,7 @@ use Rattle.prepared_runs.specs.RunOutcome.{Appended, PlanFromStatsFile, RunOutco
 use Rattle.prepared_runs.specs.Verdict.{schema_stage, verdict}
 
 -- the files of the command have the schema, the statistics file with its section of the table, and the new rows. With the new rows the table
--- has at most as many rows as a table may have. The outcome is the statistics file with the new rows counted
+-- has at most `most_rows` rows. The outcome is the statistics file after the new rows are counted
 pub record GrowsByFile (files : Files) (schema_file stats_file name rows_file : List ℕ) (outcome : RunOutcome) : Type 0 where
   pub schema : Schema
   pub schema_is : schema_stage schema_file files ≡ Ok schema
@@ -42,8 +42,8 @@ StandsAfter before table rows after = (query : Query) (tables grown : Tables) �
     → StandsFor query after grown
 
 -- Suppose that `before` stands for the tables of a plan's query. Then no bound of a plan from `after` is too low for the tables with the new rows
-abbrev pub PlansAfter : StatsFile → ℕ → List Row → StatsFile → Type 0
-PlansAfter before table rows after = (words : List (List ℕ)) (files : Files) (plan : PlanFromStatsFile) (tables grown : Tables)
+abbrev pub NoBoundIsTooLowAfter : StatsFile → ℕ → List Row → StatsFile → Type 0
+NoBoundIsTooLowAfter before table rows after = (words : List (List ℕ)) (files : Files) (plan : PlanFromStatsFile) (tables grown : Tables)
     → verdict words files ≡ Ok (PlannedFromStats plan) → plan.file ≡ after
     → StandsFor plan.query before tables → HasNewRows plan.query table rows tables grown
-    → IsPlanOver plan.query grown (scans_of plan.query grown) plan.plan
+    → IsPlanOver plan.query grown (scans_of plan.query grown) plan.shape plan.plan

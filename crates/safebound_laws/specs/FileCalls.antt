@@ -16,8 +16,8 @@ use Rattle.safebound_top.specs.Headline.{Headline}
 use Rattle.safebound_top.specs.Promise.{DeclaresSchema}
 
 -- the bytes of the sink are known, and it took exactly `bytes`
-abbrev pub Took : Growth → List ℕ → Type 0
-Took sink bytes = (before : List ℕ) × (sink.taken_before ≡ Some before) × (sink.taken_after ≡ Some (before ++ bytes))
+abbrev pub TookExactly : Growth → List ℕ → Type 0
+TookExactly sink bytes = (before : List ℕ) × (sink.taken_before ≡ Some before) × (sink.taken_after ≡ Some (before ++ bytes))
 
 -- the headline holds for the call, its words ask for the command, and it ended with Done. `files` are the files of its store
 pub record IsDone (call : Call) (command : Command) (files : Files) : Type 0 where
@@ -40,7 +40,7 @@ pub record StatsCall : Type 0 where
 pub record WroteStats (made : StatsCall) (schema : Schema) (bytes : List ℕ) : Type 0 where
   pub done : IsDone made.call (over_query None made.schema_file made.query_file (works.WriteStats made.accuracy)) made.files
   pub declares : DeclaresSchema made.files made.schema_file schema
-  pub wrote : Took made.call.out bytes
+  pub wrote : TookExactly made.call.out bytes
 
 -- ---- append
 
@@ -57,12 +57,12 @@ pub record AppendedTo (schema : Schema) (before : List ℕ) (append : AppendCall
   pub done : IsDone append.call (append_command append.schema_file append.names) append.files
   pub declares : DeclaresSchema append.files append.schema_file schema
   pub there : file_of append.files append.names.stats_file ≡ Some before
-  pub wrote : Took append.call.out append.bytes
+  pub wrote : TookExactly append.call.out append.bytes
 
 -- each call of `append` read the bytes that the call before it wrote, and the first call read the bytes `before`
-abbrev pub AppendedEach : Schema → List ℕ → List AppendCall → Type 0
-AppendedEach schema before [] = ⊤
-AppendedEach schema before (append ∷ appends) = AppendedTo schema before append × AppendedEach schema append.bytes appends
+abbrev pub EachReadsTheBytesBefore : Schema → List ℕ → List AppendCall → Type 0
+EachReadsTheBytesBefore schema before [] = ⊤
+EachReadsTheBytesBefore schema before (append ∷ appends) = AppendedTo schema before append × EachReadsTheBytesBefore schema append.bytes appends
 
 -- the bytes that the last call of `append` wrote, or `before` if there is no call
 abbrev pub last_bytes : List ℕ → List AppendCall → List ℕ

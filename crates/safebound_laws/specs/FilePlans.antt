@@ -17,8 +17,10 @@ use Rattle.safebound_top.specs.Promise.{AreInFile, AsksQuery, PrintsPlan}
 use Rattle.safebound_top.specs.Texts.{plan_text_of}
 use Rattle.prepared_runs.specs.Shapes.{planned_by}
 use Rattle.prepared_runs.specs.Sources.{bounds_and_lists_by}
-use Rattle.prepared_runs.specs.declared.shapes.AnyPlan.{AnyPlan}
-use Rattle.prepared_runs.specs.declared.shapes.AnyPlan.TheVariants as shaped
+use Rattle.plans.specs.declared.bushy.BushyPlan.{BushyPlan}
+use Rattle.plans.specs.Orders.{order_of_tree}
+use Rattle.safebound_words.specs.declared.command.Shape.{Shape}
+use Rattle.safebound_words.specs.declared.command.Shape.TheVariants as shapes
 use Rattle.safebound_words.specs.declared.command.ListSource.TheVariants as sources
 use Rattle.safebound_laws.specs.FileCalls.{AppendCall, PlanCall, StatsCall}
 
@@ -39,20 +41,20 @@ pub record PlanHolds (made : StatsCall) (planned : PlanCall) (schema : Schema) :
   pub plan : PrintsPlan planned.terms.shape planned.terms.memory query tables (scans_of query tables) text
   pub written : Grew planned.call.notes text
 
--- `plan --stats` wrote to notes the plan that `plan` makes of the rows that `stats` read. This plan is at the accuracy of `stats`, and on the terms
--- (shape, budget, limit of memory) of `plan --stats`
+-- The plan that `plan --stats` wrote to notes is the one that `plan` makes from the rows that `stats` read. This plan is at the accuracy of `stats`,
+-- and on the terms (shape, budget, limit of memory) of `plan --stats`
 pub record PlanIsOfTables (made : StatsCall) (planned : PlanCall) (schema : Schema) : Type 0 where
   pub query : Query
   pub tables : Tables
   pub over : IsOver made planned schema query tables
-  pub plan : AnyPlan
+  pub plan : BushyPlan
   pub same : planned_by planned.terms.shape (bounds_and_lists_by sources.Columns schema query tables) made.accuracy planned.terms.budget ≡ Ok plan
-  pub written : Grew planned.call.notes (plan_text_of query.from plan planned.terms.memory)
+  pub written : Grew planned.call.notes (plan_text_of query.from planned.terms.shape plan planned.terms.memory)
 
 -- the bound of each level or inner node is near the bound without compression
-abbrev pub PartsAreNear : Query → Tables → ℕ → AnyPlan → Type 0
-PartsAreNear query tables accuracy (shaped.OrderPlan plan) = LevelsAreNear query tables accuracy plan
-PartsAreNear query tables accuracy (shaped.TreePlan plan) = NodesAreNear query tables accuracy plan
+abbrev pub PartsAreNear : Query → Tables → ℕ → Shape → BushyPlan → Type 0
+PartsAreNear query tables accuracy shapes.Order plan = LevelsAreNear query tables accuracy (order_of_tree plan)
+PartsAreNear query tables accuracy shapes.Tree plan = NodesAreNear query tables accuracy plan
 
 -- `plan --stats` wrote a plan to notes. Over the rows that `stats` read, the bound of each level or inner node is near the bound without
 -- compression
@@ -60,9 +62,9 @@ pub record PlanIsNear (made : StatsCall) (planned : PlanCall) (schema : Schema) 
   pub query : Query
   pub tables : Tables
   pub over : IsOver made planned schema query tables
-  pub plan : AnyPlan
-  pub near : PartsAreNear query tables made.accuracy plan
-  pub written : Grew planned.call.notes (plan_text_of query.from plan planned.terms.memory)
+  pub plan : BushyPlan
+  pub near : PartsAreNear query tables made.accuracy planned.terms.shape plan
+  pub written : Grew planned.call.notes (plan_text_of query.from planned.terms.shape plan planned.terms.memory)
 
 -- ---- the rows that were appended
 
@@ -81,19 +83,19 @@ pub record AddsRowsOfFile (schema : Schema) (append : AppendCall) (added : Added
   pub read : rows_of_file table bytes ≡ Ok added.rows
 
 -- there are as many `AddedRows` as calls of `append`, and call i added the rows at index i
-abbrev pub AddRowsEach : Schema → List AppendCall → List AddedRows → Type 0
-AddRowsEach schema [] [] = ⊤
-AddRowsEach schema [] (added ∷ more) = ⊥
-AddRowsEach schema (append ∷ appends) [] = ⊥
-AddRowsEach schema (append ∷ appends) (added ∷ more) = AddsRowsOfFile schema append added × AddRowsEach schema appends more
+abbrev pub EachAddsRowsOfFile : Schema → List AppendCall → List AddedRows → Type 0
+EachAddsRowsOfFile schema [] [] = ⊤
+EachAddsRowsOfFile schema [] (added ∷ more) = ⊥
+EachAddsRowsOfFile schema (append ∷ appends) [] = ⊥
+EachAddsRowsOfFile schema (append ∷ appends) (added ∷ more) = AddsRowsOfFile schema append added × EachAddsRowsOfFile schema appends more
 
 -- all rows that were added to a table, in the order of the calls
-abbrev pub added_rows : ℕ → List AddedRows → List Row
-added_rows table added = flat_map (λ (one : AddedRows). if table == one.table then one.rows else []) added
+abbrev pub rows_added_to : ℕ → List AddedRows → List Row
+rows_added_to table added = flat_map (λ (more : AddedRows). if table == more.table then more.rows else []) added
 
--- the rows of each entry, followed by the rows that were added to its table
-abbrev pub with_added : Query → Tables → List AddedRows → Tables
-with_added query tables added entry = tables entry ++ added_rows (table_of query entry) added
+-- the rows of each entry, and then the rows that were added to its table
+abbrev pub with_added_rows : Query → Tables → List AddedRows → Tables
+with_added_rows query tables added entry = tables entry ++ rows_added_to (table_of query entry) added
 
 -- `plan --stats` wrote the text of a plan to notes. Over the rows that `stats` read, with all added rows after them, no scan and no level
 -- or node has more rows than the text says
@@ -102,7 +104,7 @@ pub record GrownPlanHolds (made : StatsCall) (appends : List AppendCall) (planne
   pub tables : Tables
   pub over : IsOver made planned schema query tables
   pub added : List AddedRows
-  pub adds : AddRowsEach schema appends added
+  pub adds : EachAddsRowsOfFile schema appends added
   pub text : List ℕ
-  pub plan : PrintsPlan planned.terms.shape planned.terms.memory query (with_added query tables added) (scans_of query (with_added query tables added)) text
+  pub plan : PrintsPlan planned.terms.shape planned.terms.memory query (with_added_rows query tables added) (scans_of query (with_added_rows query tables added)) text
   pub written : Grew planned.call.notes text

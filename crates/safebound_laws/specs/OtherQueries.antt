@@ -14,5 +14,5 @@ IsOfTables query file = (table : ℕ) (section : TableStats) → section_of file
 
 -- if an entry of one query and an entry of the other query are of the same table, they have the same rows
 abbrev pub HaveSameRows : Query → Tables → Query → Tables → Type 0
-HaveSameRows query tables other also =
-    (entry place : ℕ) → entry < length query.from → place < length other.from → table_of query entry ≡ table_of other place → tables entry ≡ also place
+HaveSameRows query tables other other_tables =
+    (entry other_entry : ℕ) → entry < length query.from → other_entry < length other.from → table_of query entry ≡ table_of other other_entry → tables entry ≡ other_tables other_entry

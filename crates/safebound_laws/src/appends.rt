@@ -5,10 +5,10 @@ ghost use Rattle.safebound_words.specs.Answer.{command_of};
 ghost use Rattle.safebound_words.specs.Commands.{append_command};
 ghost use Rattle.prepared_runs.specs.RunOutcome.{RunOutcome};
 ghost use Rattle.prepared_runs.specs.Verdict.{verdict};
-ghost use Rattle.safebound_laws.specs.Appends.{GrowsByFile, PlansAfter, StandsAfter};
+ghost use Rattle.safebound_laws.specs.Appends.{GrowsByFile, NoBoundIsTooLowAfter, StandsAfter};
 
 /// Suppose that `append` writes a file. Then `append` read the schema, the statistics file and the new rows from the files that its words
-/// name. The file that it writes is this statistics file with the new rows counted.
+/// name. The file that it writes is this statistics file after the new rows are counted.
 pub fn appended_files_are_read()
     ensures { (words : List (List ℕ)) (files : Files) (schema stats name rows : List ℕ) (outcome : RunOutcome)
         → command_of words ≡ Some (append_command schema (record { stats_file = stats; table = name; rows_file = rows })) → verdict words files ≡ Ok outcome
@@ -26,5 +26,5 @@ pub fn appended_files_stand()
 /// `append` writes is too low for these tables with the new rows.
 pub fn plans_after_an_append_are_never_under()
     ensures { (files : Files) (schema stats name rows : List ℕ) (outcome : RunOutcome) (grows : GrowsByFile files schema stats name rows outcome)
-        → PlansAfter grows.before grows.section.table grows.rows grows.after }
+        → NoBoundIsTooLowAfter grows.before grows.section.table grows.rows grows.after }
 {}

@@ -4,8 +4,7 @@ ghost use Rattle.base_io.specs.Files.{Files};
 ghost use Rattle.outcomes.specs.declared.names.FileId.{FileId};
 ghost use Rattle.outcomes.specs.declared.refusal.Refusal.TheVariants as refusal;
 ghost use Rattle.outcomes.specs.declared.status.Status.TheVariants as status;
-ghost use Rattle.plans.specs.declared.left_deep.Plan.{Plan};
-ghost use Rattle.tree_plans.specs.declared.bushy.BushyPlan.{BushyPlan};
+ghost use Rattle.plans.specs.Orders.{order_of_tree};
 ghost use Rattle.plan_nearness.specs.Nearness.{FiltersNoEntry, LevelsAreNear, NodesAreNear};
 ghost use Rattle.prepared_runs.specs.AcceptedQuery.{AcceptedQuery, tables};
 ghost use Rattle.safebound_words.specs.Commands.{over_query};
@@ -16,9 +15,9 @@ ghost use Rattle.prepared_runs.specs.RunOutcome.{Planned};
 ghost use Rattle.safebound_top.specs.Promise.{Promise};
 ghost use Rattle.prepared_runs.specs.Shops.{demo_number_of, shop_store};
 ghost use Rattle.prepared_runs.specs.Verdict.{command_stage, verdict};
-ghost use Rattle.prepared_runs.specs.declared.shapes.AnyPlan.TheVariants as shaped;
 ghost use Rattle.safebound_words.specs.declared.command.ListSource.TheVariants as sources;
 ghost use Rattle.safebound_words.specs.declared.command.PlanWork.{PlanWork};
+ghost use Rattle.safebound_words.specs.declared.command.Shape.TheVariants as shapes;
 
 /// If the headline holds for a call, then the promise of `run` holds for the call too. The promise names no stage of the program.
 pub fn the_headline_keeps_the_promise()
@@ -33,16 +32,16 @@ pub fn demo_meets_no_read_fault()
         → (file : FileId) → call.status ≢ status.Refused (refusal.Missing file) }
 {}
 
-/// Printed bounds are near the bounds without compression. This needs that no conjunct names one entry alone, and that `--keys`, `--reduce` and
-/// `--count` aren't given. Let a level or inner node have n entries. At accuracy K, K^n times its printed bound is at most (K + 1)^n times its bound
-/// without compression.
+/// Printed bounds are near the bounds without compression. This needs a query without own conjuncts, and words without `--keys`, `--reduce` and
+/// `--count`. Let a level or inner node have n entries. At accuracy K, K^n times its printed bound is at most (K + 1)^n times its bound without
+/// compression.
 pub fn printed_bounds_are_near()
-    ensures levels { (words : List (List ℕ)) (files : Files) (shop : Option ℕ) (schema query : List ℕ) (task : PlanWork) (run : AcceptedQuery) (plan : Plan)
+    ensures levels { (words : List (List ℕ)) (files : Files) (shop : Option ℕ) (schema query : List ℕ) (task : PlanWork) (run : AcceptedQuery)
         → command_stage words ≡ Ok (over_query shop schema query (works.Plan task)) → verdict words files ≡ Ok (Planned run)
         → run.source ≡ sources.Columns → FiltersNoEntry run.query
-        → run.plan ≡ shaped.OrderPlan plan → LevelsAreNear run.query (tables run) task.accuracy plan }
-    ensures nodes { (words : List (List ℕ)) (files : Files) (shop : Option ℕ) (schema query : List ℕ) (task : PlanWork) (run : AcceptedQuery) (plan : BushyPlan)
+        → run.shape ≡ shapes.Order → LevelsAreNear run.query (tables run) task.accuracy (order_of_tree run.plan) }
+    ensures nodes { (words : List (List ℕ)) (files : Files) (shop : Option ℕ) (schema query : List ℕ) (task : PlanWork) (run : AcceptedQuery)
         → command_stage words ≡ Ok (over_query shop schema query (works.Plan task)) → verdict words files ≡ Ok (Planned run)
         → run.source ≡ sources.Columns → FiltersNoEntry run.query
-        → run.plan ≡ shaped.TreePlan plan → NodesAreNear run.query (tables run) task.accuracy plan }
+        → run.shape ≡ shapes.Tree → NodesAreNear run.query (tables run) task.accuracy run.plan }
 {}

@@ -4,7 +4,7 @@ ghost use Rattle.plan_nearness.specs.Nearness.{FiltersNoEntry};
 ghost use Rattle.query_types.specs.declared.types.Query.{Query};
 ghost use Rattle.schema_types.specs.declared.types.Schema.{Schema};
 ghost use Rattle.safebound_top.specs.Promise.{AsksQuery};
-ghost use Rattle.safebound_laws.specs.FileCalls.{AppendCall, AppendedEach, PlanCall, PlannedFrom, StatsCall, WroteStats, last_bytes};
+ghost use Rattle.safebound_laws.specs.FileCalls.{AppendCall, EachReadsTheBytesBefore, PlanCall, PlannedFrom, StatsCall, WroteStats, last_bytes};
 ghost use Rattle.safebound_laws.specs.FilePlans.{GrownPlanHolds, PlanHolds, PlanIsNear, PlanIsOfTables};
 
 /// `stats`, then `plan --stats`. Suppose that the statistics file of the second call has the bytes that the first call wrote. Suppose that both
@@ -20,7 +20,7 @@ pub fn plans_from_written_files_hold()
 /// all new rows after them. Then no scan and no level has more rows than the plan text says.
 pub fn plans_from_appended_files_hold()
     ensures { (schema : Schema) (bytes : List ℕ) (made : StatsCall) (appends : List AppendCall) (planned : PlanCall)
-        → WroteStats made schema bytes → AppendedEach schema bytes appends → PlannedFrom schema (last_bytes bytes appends) planned
+        → WroteStats made schema bytes → EachReadsTheBytesBefore schema bytes appends → PlannedFrom schema (last_bytes bytes appends) planned
         → GrownPlanHolds made appends planned schema }
 {}
 
@@ -32,10 +32,9 @@ pub fn plans_from_written_files_are_those_of_the_tables()
         → WroteStats made schema bytes → PlannedFrom schema bytes planned → PlanIsOfTables made planned schema }
 {}
 
-/// `stats`, then `plan --stats`, under the conditions of `plans_from_written_files_hold`. If no conjunct of the query names one entry alone, the
-/// bounds of the plan are near the bounds without compression. At accuracy K, K^n times the printed bound of a level of n entries is at
-/// most (K + 1)^n times its bound without compression. At the usual accuracy, 1, the printed bound is at most 2^n times the bound without
-/// compression.
+/// `stats`, then `plan --stats`, under the conditions of `plans_from_written_files_hold`. If the query has no own conjuncts, the bounds of the plan
+/// are near the bounds without compression. At accuracy K, K^n times the printed bound of a level of n entries is at most (K + 1)^n times its bound
+/// without compression. At the usual accuracy, 1, the printed bound is at most 2^n times the bound without compression.
 pub fn plans_from_written_files_are_near()
     ensures { (schema : Schema) (bytes : List ℕ) (made : StatsCall) (planned : PlanCall)
         → WroteStats made schema bytes → PlannedFrom schema bytes planned

@@ -20,7 +20,7 @@ ghost use Rattle.table_files.specs.TableFile.{read};
 ghost use Rattle.prepared_runs.specs.RunOutcome.{RunOutcome};
 ghost use Rattle.safebound_top.specs.OutcomeTexts.{out_text};
 ghost use Rattle.prepared_runs.specs.Verdict.{command_run};
-ghost use Rattle.safebound_laws.specs.Printed.{plan_of_columns, printed};
+ghost use Rattle.safebound_laws.specs.Printed.{plan_of_columns, both_texts};
 
 /// Take a schema that a text declares, and a statistics file that keeps the rules. Then `stats_answer` of the file's text is this file. A
 /// reader of the text also returns this file, or says that memory ran out.
@@ -40,6 +40,6 @@ pub fn files_plan_as_their_tables()
         → 0 < accuracy → accuracy ≤ most_accuracy
         → command_run (over_query None schema_file query_file (works.WriteStats accuracy)) files ≡ Ok written → out_text written ≡ Some text
         → read file.Stats most_file stats_file files ≡ Ok text
-        → mapped printed (command_run (over_query None schema_file query_file (works.PlanFromStats stats_file terms)) files)
-        ≡ mapped printed (command_run (over_query None schema_file query_file (works.Plan (plan_of_columns terms accuracy))) files) }
+        → mapped both_texts (command_run (over_query None schema_file query_file (works.PlanFromStats stats_file terms)) files)
+        ≡ mapped both_texts (command_run (over_query None schema_file query_file (works.Plan (plan_of_columns terms accuracy))) files) }
 {}

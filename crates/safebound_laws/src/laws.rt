@@ -9,7 +9,7 @@ ghost use Rattle.stats_file_of_query.specs.Standing.{StandsFor};
 ghost use Rattle.csv_tables.specs.declared.types.TableError.TheVariants as table_error;
 ghost use Rattle.order_search.specs.declared.refusal.PlanError.TheVariants as plan_error;
 ghost use Rattle.query_types.specs.Named.{NamesItsEntries};
-ghost use Rattle.query_types.specs.Validity.{IsOf};
+ghost use Rattle.query_types.specs.Validity.{IsQueryOf};
 ghost use Rattle.query_types.specs.declared.types.Query.{Query};
 ghost use Rattle.schema_types.specs.declared.errors.SchemaError.TheVariants as schema_error;
 ghost use Rattle.schema_types.specs.declared.types.Schema.{Schema};
@@ -58,7 +58,7 @@ pub fn demo_is_an_audit()
 pub fn sources_are_sound()
     ensures stand { (source : ListSource) (schema : Schema) (query : Query) (tables : Tables) → SourceNeeds source schema query tables
         → IsSource query tables (bounds_and_lists_by source schema query tables) }
-    ensures read { (source : ListSource) (schema : Schema) (query : Query) (files : Files) (rows : List (List Row)) → IsOf schema query
+    ensures read { (source : ListSource) (schema : Schema) (query : Query) (files : Files) (rows : List (List Row)) → IsQueryOf schema query
         → tables_stage schema query.from files ≡ Ok rows → SourceNeeds source schema query (tables_in rows) }
     ensures files { (query : Query) (file : StatsFile) → NamesItsEntries query → KeepsRulesOfSome file → first_missing query file ≡ None
         → (tables : Tables) → StandsFor query file tables → IsSource query tables (sourced_of_file query file tables) }

@@ -6,11 +6,11 @@
 //! - `corollaries` has laws that follow from the headline and the verdict.
 //! - `from_files` compares plans from statistics files with plans from tables.
 //! - `appends` says for which rows the file that `append` writes stands.
-//! - `file_plans` is about the bounds of plans from the bytes of statistics files. Its laws are over several whole calls, each with its
-//!   words, its files and its streams. Two calls are connected only by the bytes that one call wrote and the other read, and by the schema
-//!   that both read.
-//! - `written_files` has the facts from which `file_plans` is proved. A file after an append keeps the rules. A file stands for its
-//!   tables whatever the query is.
+//! - `file_plans` is about the bounds of plans from the bytes of statistics files. Each of its laws is about two or more whole calls, each with its
+//!   words, its files and its streams. Two calls are connected only by the bytes that one call wrote and the other read, and by the schema that
+//!   both calls read.
+//! - `written_files` has the facts from which `file_plans` is proved. A file after an append keeps the rules. Whether a file stands for
+//!   tables doesn't depend on the query that names them.
 #![tactic(auto)]
 
 pub mod appends;

@@ -3,22 +3,22 @@ use Rattle.std.proofs.Common.{◌≡◌, ℕ, ◌+◌, ◌<◌, ◌≤◌, ◌^�
 use Rattle.std.specs.List.{AllByRecursion}
 use Rattle.std.proofs.lemmas.List.Sums.{sum_by-cons}
 use Rattle.degree_sequences.specs.ByRank.{rank_maximum, rank_sum}
-use Rattle.degree_sequences.specs.RunningSums.{cut_at, lesser}
+use Rattle.degree_sequences.specs.RunningSums.{capped_at, lesser}
 use Rattle.degree_sequences.specs.Saturation.{saturated}
 use Rattle.degree_sequences.proofs.ByRank.{sum-rank_sum}
-use Rattle.degree_sequences.proofs.Minima.{running_sum-cut_at, running_sum-lesser}
+use Rattle.degree_sequences.proofs.Minima.{running_sum-capped_at, running_sum-lesser}
 use Rattle.degree_sequences.proofs.RunningSums.{sum-above}
 
 pub elements_within : (s : List ℕ) (n : ℕ) → sum s ≤ n → AllByRecursion (λ x. x ≤ n) s
 elements_within [] n h = tt
 elements_within (x ∷ s) n h = (omega (arith, h, sum_by-cons (λ (y : ℕ). y) x s), elements_within s n (omega (arith, h, sum_by-cons (λ (y : ℕ). y) x s)))
 
-below : (s : List ℕ) → AllByRecursion (λ x. x ≤ 2 ^ 48) s → AllByRecursion (λ x. x < 2 ^ 64) s
-below [] all = tt
-below (x ∷ s) all = (omega (arith, all.0), below s all.1)
+elements_are_below_2_64 : (s : List ℕ) → AllByRecursion (λ x. x ≤ 2 ^ 48) s → AllByRecursion (λ x. x < 2 ^ 64) s
+elements_are_below_2_64 [] all = tt
+elements_are_below_2_64 (x ∷ s) all = (omega (arith, all.0), elements_are_below_2_64 s all.1)
 
 pub fits_within : (s : List ℕ) → sum s ≤ 2 ^ 48 → AllByRecursion (λ x. x < 2 ^ 64) s
-fits_within s h = below s (elements_within s (2 ^ 48) h)
+fits_within s h = elements_are_below_2_64 s (elements_within s (2 ^ 48) h)
 
 unsaturated : (s : List ℕ) → AllByRecursion (λ x. x ≤ 2 ^ 48) s → map saturated s ≡ s
 unsaturated [] all = refl
@@ -43,10 +43,10 @@ lesser_fits s t both small is =
     let below : sum (lesser s t) ≤ sum s = sum-above s (lesser s t) (λ r. omega (arith, running_sum-lesser s t r)) in
     fits_within both (omega (arith, small, ap sum is, below))
 
-pub cut_fits : (s few : List ℕ) (n : ℕ) → sum s ≤ 2 ^ 48 → few ≡ cut_at s n → AllByRecursion (λ x. x < 2 ^ 64) few
-cut_fits s few n small is =
-    let below : sum (cut_at s n) ≤ sum s = sum-above s (cut_at s n) (λ r. omega (arith, running_sum-cut_at s n r)) in
-    fits_within few (omega (arith, small, ap sum is, below))
+pub cut_fits : (s cut_list : List ℕ) (n : ℕ) → sum s ≤ 2 ^ 48 → cut_list ≡ capped_at s n → AllByRecursion (λ x. x < 2 ^ 64) cut_list
+cut_fits s cut_list n small is =
+    let below : sum (capped_at s n) ≤ sum s = sum-above s (capped_at s n) (λ r. omega (arith, running_sum-capped_at s n r)) in
+    fits_within cut_list (omega (arith, small, ap sum is, below))
 
 -- ---- the greater of two lists
 

@@ -16,11 +16,11 @@ use Rattle.safebound_lists.specs.Written.{RoomBeginsWith, IsWritten, IsRoomRefus
 abbrev pub run_of : Piece → Run
 run_of piece = record { degree = piece.value; keys = piece.count }
 
-pub pieces_again : (ps : List Piece) → map piece_of (map run_of ps) ≡ ps
-pieces_again [] = refl
-pieces_again (p ∷ ps) = ap (λ (qs : List Piece). p ∷ qs) (pieces_again ps)
+pub pieces_of_runs_of_pieces : (ps : List Piece) → map piece_of (map run_of ps) ≡ ps
+pieces_of_runs_of_pieces [] = refl
+pieces_of_runs_of_pieces (p ∷ ps) = ap (λ (qs : List Piece). p ∷ qs) (pieces_of_runs_of_pieces ps)
 
--- ---- if each element of a list has a property, each piece's value has it
+-- ---- if each element of a list has a property, the value of each piece has it
 
 first_of_run : (P : ℕ → Type 0) (n x : ℕ) → 0 < n → (s : List ℕ) → AllByRecursion P (replicate n x ++ s) → P x
 first_of_run P zero x some s all = absurd (omega arith)
@@ -42,11 +42,11 @@ one_more_in front old i x d same low =
     ap (λ (rest : List _). set (front ++ rest) i x) (drop-cons old i d low)
     ∙ ap (λ k. set (front ++ get_or old i d ∷ drop (suc i) old) k x) (sym same)
     ∙ set-append_seam front (get_or old i d) (drop (suc i) old) x
-    ∙ ap (λ k. front ++ x ∷ drop k old) next
+    ∙ ap (λ k. front ++ x ∷ drop k old) suc_is_plus_one
     ∙ sym (append_assoc front (x ∷ []) (drop (i + 1) old))
   where
-    next : suc i ≡ i + 1
-    next = omega arith
+    suc_is_plus_one : suc i ≡ i + 1
+    suc_is_plus_one = omega arith
 
 pub one_more_run : (ps : List Piece) (old : List Run) (i : ℕ) (d : Piece) (x : Run) → i < length ps → length ps ≤ length old → x ≡ run_of (get_or ps i d)
     → set (map run_of (take i ps) ++ drop i old) i x ≡ map run_of (take (i + 1) ps) ++ drop (i + 1) old
@@ -61,40 +61,40 @@ pub all_written : (list : List ℕ) (ps : List Piece) (old new : List Run) (coun
     → new ≡ map run_of ps ++ drop count old → IsWritten list old new count
 all_written list ps old new count is are counted filled = record {
   front = map run_of ps;
-  stands_for = ap expanded (pieces_again ps) ∙ sym is;
-  falls = subst AreRuns (sym (pieces_again ps)) are;
+  stands_for = ap expanded (pieces_of_runs_of_pieces ps) ∙ sym is;
+  falls = subst AreRuns (sym (pieces_of_runs_of_pieces ps)) are;
   filled = record { counted = length-map ps run_of ∙ sym counted; filled = filled };
 }
 
 -- ---- a refusal because the room is too small is one of the causes for which a call refuses
 
-pub as_cause : (P : Refusal → Type 0) (needed room : ℕ) → ((n : ℕ) → n ≡ needed → room < needed → P (refusal.Room n)) → (r : Result ℕ Refusal) → IfErr r (IsRoomRefusal needed room) → IfErr r P
-as_cause P needed room f (Ok x) h = tt
-as_cause P needed room f (Err (refusal.Room n)) h = f n h.0 h.1
-as_cause P needed room f (Err e) h = absurd h
+pub room_refusal_is_cause : (P : Refusal → Type 0) (needed room : ℕ) → ((n : ℕ) → n ≡ needed → room < needed → P (refusal.Room n)) → (r : Result ℕ Refusal) → IfErr r (IsRoomRefusal needed room) → IfErr r P
+room_refusal_is_cause P needed room f (Ok x) h = tt
+room_refusal_is_cause P needed room f (Err (refusal.Room n)) h = f n h.0 h.1
+room_refusal_is_cause P needed room f (Err e) h = absurd h
 
-pub if_done : {P : Type 0} (r : Result ℕ Refusal) → P → OnOk r P
-if_done (Ok x) h = h
-if_done (Err e) h = tt
+pub on_ok_of_proof : {P : Type 0} (r : Result ℕ Refusal) → P → OnOk r P
+on_ok_of_proof (Ok x) h = h
+on_ok_of_proof (Err e) h = tt
 
 -- ---- rooms that are filled element by element
 
-pub filled_none : {A : Type 0} (old : List A) → RoomBeginsWith [] old old 0
-filled_none old = record { counted = refl; filled = refl }
+pub room_before_writing : {A : Type 0} (old : List A) → RoomBeginsWith [] old old 0
+room_before_writing old = record { counted = refl; filled = refl }
 
-pub filled_more : {A : Type 0} (front old new : List A) (i : ℕ) (x d : A) → RoomBeginsWith front old new i → i < length old → RoomBeginsWith (front ++ x ∷ []) old (set new i x) (i + 1)
-filled_more {A} front old new i x d so_far low = record {
+pub room_with_one_more : {A : Type 0} (front old new : List A) (i : ℕ) (x d : A) → RoomBeginsWith front old new i → i < length old → RoomBeginsWith (front ++ x ∷ []) old (set new i x) (i + 1)
+room_with_one_more {A} front old new i x d so_far low = record {
   counted = omega (arith, length-append front (x ∷ []), so_far.counted);
   filled = ap (λ (s : List A). set s i x) so_far.filled ∙ one_more_in front old i x d so_far.counted low;
 }
 
-pub one_more_made : {A B : Type 0} (f : A → B) (xs : List A) (old new : List B) (i : ℕ) (x : B) (a : A) (b : B) → RoomBeginsWith (map f (take i xs)) old new i → i < length xs → i < length old
+pub room_with_one_more_mapped : {A B : Type 0} (f : A → B) (xs : List A) (old new : List B) (i : ℕ) (x : B) (a : A) (b : B) → RoomBeginsWith (map f (take i xs)) old new i → i < length xs → i < length old
     → x ≡ f (get_or xs i a) → RoomBeginsWith (map f (take (i + 1) xs)) old (set new i x) (i + 1)
-one_more_made {A} {B} f xs old new i x a b so_far low room is =
+room_with_one_more_mapped {A} {B} f xs old new i x a b so_far low room is =
     subst (λ (s : List B). RoomBeginsWith s old (set new i x) (i + 1)) (ap (λ (y : B). map f (take i xs) ++ y ∷ []) is ∙ sym (map_more f xs i a low))
-    (filled_more (map f (take i xs)) old new i x b so_far room)
+    (room_with_one_more (map f (take i xs)) old new i x b so_far room)
 
-pub all_made : {A B : Type 0} (f : A → B) (xs : List A) (old new : List B) (i : ℕ) → RoomBeginsWith (map f (take i xs)) old new i → i ≡ length xs → RoomBeginsWith (map f xs) old new (length xs)
-all_made {A} {B} f xs old new i so_far end =
+pub room_after_all_mapped : {A B : Type 0} (f : A → B) (xs : List A) (old new : List B) (i : ℕ) → RoomBeginsWith (map f (take i xs)) old new i → i ≡ length xs → RoomBeginsWith (map f xs) old new (length xs)
+room_after_all_mapped {A} {B} f xs old new i so_far end =
     subst (λ (s : List B). RoomBeginsWith s old new (length xs)) (ap (map f) (take_all (length xs) xs (omega arith)))
     (subst (λ (k : ℕ). RoomBeginsWith (map f (take k xs)) old new k) end so_far)

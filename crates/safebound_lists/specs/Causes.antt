@@ -6,7 +6,7 @@ use Rattle.limits.specs.Profile.{greatest_rows, most_accuracy}
 use Rattle.degree_sequences.specs.ByRank.{rank_maximum, rank_sum}
 use Rattle.degree_sequences.specs.Compression.{compressed}
 use Rattle.degree_sequences.specs.Degrees.{degree_list}
-use Rattle.degree_sequences.specs.RunningSums.{cut_at, lesser}
+use Rattle.degree_sequences.specs.RunningSums.{capped_at, lesser}
 use Rattle.degree_sequences.specs.Runs.{runs as runs_in}
 use Rattle.safebound_lists.specs.declared.refusal.Refusal.{Refusal}
 use Rattle.safebound_lists.specs.declared.refusal.Refusal.TheVariants as refusal
@@ -65,6 +65,6 @@ IsGreaterCause runs others room _ = ⊥
 -- why a call that cuts a list at a number of rows refuses: an invalid run, too little room, or no memory
 abbrev pub IsCutCause : List Run → ℕ → ℕ → Refusal → Type 0
 IsCutCause runs rows room (refusal.Run place) = IsFirstWrong (IsValidAt runs) (length runs) place
-IsCutCause runs rows room (refusal.Room needed) = AreValid runs × (needed ≡ runs_in (cut_at (list_of runs) rows)) × (room < needed)
+IsCutCause runs rows room (refusal.Room needed) = AreValid runs × (needed ≡ runs_in (capped_at (list_of runs) rows)) × (room < needed)
 IsCutCause runs rows room refusal.NoMemory = ⊤
 IsCutCause runs rows room _ = ⊥

@@ -49,13 +49,13 @@ pub record MayBeCompressed (runs : List Run) (accuracy : ℕ) : Type 0 where
 -- a sum needs two valid lists whose degrees sum to at most 2^48 together
 pub record MayBeAdded (runs others : List Run) : Type 0 where
   pub right : AreValid runs
-  pub others_right : AreValid others
+  pub others_are_valid : AreValid others
   pub small : sum (list_of runs) + sum (list_of others) ≤ greatest_rows
 
 -- a lesser list needs two valid lists
 pub record AreBothValid (runs others : List Run) : Type 0 where
   pub right : AreValid runs
-  pub others_right : AreValid others
+  pub others_are_valid : AreValid others
 
 -- a greater list needs two valid lists. The sum over all ranks of the greater of their degrees is at most 2^48
 pub record MayTakeGreater (runs others : List Run) : Type 0 where

@@ -6,7 +6,7 @@ ghost use Rattle.safebound_lists.specs.Runs.{MayBeAdded, list_of};
 ghost use Rattle.safebound_lists.specs.Written.{IsWritten};
 
 use crate::refusal::Refusal;
-use crate::runs::{Run, first_wrong_run, pieces_of};
+use crate::runs::{Run, first_invalid_run, pieces_of};
 use crate::written::write_runs;
 use limits::GREATEST_ROWS;
 use std::alloc::Global;
@@ -18,12 +18,12 @@ pub fn append(alloc: Global, runs: &[Run], others: &[Run], into: &mut [Run]) -> 
     ensures refused { IfErr result (IsAppendCause runs.now others.now (length into.old)) }
     ensures kept { OnErr result (into.new ≡ into.old) }
 {
-    if let Some(place) = first_wrong_run(runs) {
+    if let Some(place) = first_invalid_run(runs) {
         return Err(Refusal::Run {
             place: place as u64,
         });
     }
-    if let Some(place) = first_wrong_run(others) {
+    if let Some(place) = first_invalid_run(others) {
         return Err(Refusal::OtherRun {
             place: place as u64,
         });

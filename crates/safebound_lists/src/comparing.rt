@@ -7,13 +7,13 @@ ghost use Rattle.safebound_lists.specs.Runs.{AreBothValid, MayTakeGreater, list_
 ghost use Rattle.safebound_lists.specs.Written.{IsWritten};
 
 use crate::refusal::Refusal;
-use crate::runs::{Run, first_wrong_run, pieces_of};
+use crate::runs::{Run, first_invalid_run, pieces_of};
 use crate::written::write_runs;
 use limits::GREATEST_ROWS;
 use std::alloc::Global;
 
-/// Writes a list of the rows that satisfy two conditions, from the list of each condition. Each running sum of the new list is the lesser of the two
-/// lists' running sums.
+/// From lists that dominate the rows of two conditions, writes a list that dominates the rows that satisfy both. Each running sum of the new list
+/// is the lesser of the two lists' running sums.
 pub fn lesser_of(
     alloc: Global,
     runs: &[Run],
@@ -25,12 +25,12 @@ pub fn lesser_of(
     ensures refused { IfErr result (IsLesserCause runs.now others.now (length into.old)) }
     ensures kept { OnErr result (into.new ≡ into.old) }
 {
-    if let Some(place) = first_wrong_run(runs) {
+    if let Some(place) = first_invalid_run(runs) {
         return Err(Refusal::Run {
             place: place as u64,
         });
     }
-    if let Some(place) = first_wrong_run(others) {
+    if let Some(place) = first_invalid_run(others) {
         return Err(Refusal::OtherRun {
             place: place as u64,
         });
@@ -53,12 +53,12 @@ pub fn greater_of(
     ensures refused { IfErr result (IsGreaterCause runs.now others.now (length into.old)) }
     ensures kept { OnErr result (into.new ≡ into.old) }
 {
-    if let Some(place) = first_wrong_run(runs) {
+    if let Some(place) = first_invalid_run(runs) {
         return Err(Refusal::Run {
             place: place as u64,
         });
     }
-    if let Some(place) = first_wrong_run(others) {
+    if let Some(place) = first_invalid_run(others) {
         return Err(Refusal::OtherRun {
             place: place as u64,
         });

@@ -6,14 +6,13 @@ ghost use Rattle.safebound_lists.specs.Runs.{MayBeCompressed, list_of};
 ghost use Rattle.safebound_lists.specs.Written.{IsWritten};
 
 use crate::refusal::Refusal;
-use crate::runs::{Run, first_wrong_run, pieces_of};
+use crate::runs::{Run, first_invalid_run, pieces_of};
 use crate::written::write_runs;
 use limits::{Accuracy, MOST_ACCURACY};
 use piece_compress::compress_runs;
 use std::alloc::Global;
 
-/// Writes the list compressed by heads, at an accuracy from 1 to 64. The compressed list has the same sum and few runs, and dominates what the list
-/// dominates.
+/// Writes the compressed list, at an accuracy from 1 to 64. The compressed list has the same sum and few runs, and dominates what the list dominates.
 pub fn compress(
     alloc: Global,
     runs: &[Run],
@@ -28,7 +27,7 @@ pub fn compress(
     if accuracy == 0 || accuracy > u64::from(MOST_ACCURACY) {
         return Err(Refusal::Accuracy { given: accuracy });
     }
-    if let Some(place) = first_wrong_run(runs) {
+    if let Some(place) = first_invalid_run(runs) {
         return Err(Refusal::Run {
             place: place as u64,
         });

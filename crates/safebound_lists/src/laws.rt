@@ -1,4 +1,4 @@
-//! Laws: the lists that this crate's calls make still dominate the keys that they are made for. A function here does nothing.
+//! Laws: each list that a call of this crate makes dominates the keys for which it is made. A function here does nothing.
 ghost use Rattle.std.specs.Prelude.{◌≡◌, ◌⊎◌, ◌≤◌, ◌==◌, ◌&&◌, ◌||◌, ℕ, Bool, List, ◌++◌, length, map};
 ghost use Rattle.std.specs.List.{filter};
 ghost use Rattle.degree_sequences.specs.ByRank.{rank_maximum, rank_sum};
@@ -6,7 +6,7 @@ ghost use Rattle.degree_sequences.specs.Compression.{compressed};
 ghost use Rattle.degree_sequences.specs.Degrees.{degree_list};
 ghost use Rattle.degree_sequences.specs.Domination.{DominatesKeys};
 ghost use Rattle.degree_sequences.specs.Descending.{IsDescending};
-ghost use Rattle.degree_sequences.specs.RunningSums.{cut_at, lesser};
+ghost use Rattle.degree_sequences.specs.RunningSums.{capped_at, lesser};
 
 /// A degree sequence dominates its keys. A compressed list dominates what the list dominates. The sum of two lists dominates the keys of both
 /// together.
@@ -18,10 +18,10 @@ pub fn lists_dominate()
         → DominatesKeys list keys → DominatesKeys later more → DominatesKeys (rank_sum list later) (keys ++ more) }
 {}
 
-/// Each row number has a key, and a list dominates rows if it dominates their keys. Let a list dominate the rows of one condition, and another list
-/// the rows of another condition. The lesser list then dominates the rows that satisfy both conditions. The sum of the lists dominates the rows
-/// that satisfy at least one condition. If the two conditions compare one column with two values, the greater list dominates the rows of each of the
-/// two values. A list that dominates at most `rows` keys still dominates them when it is cut at `rows`.
+/// A list dominates rows if it dominates their keys. Let one list dominate the rows of one condition, and let another list dominate the rows of
+/// another condition. Then the lesser list dominates the rows that satisfy both conditions. The sum of the lists dominates the rows that satisfy at
+/// least one condition. If the two conditions compare one column with two values, the greater list dominates the rows of each of the two values. If
+/// a list dominates some keys, and there are at most `rows` of them, the list cut at `rows` dominates them too.
 pub fn conditions_dominate()
     ensures both { (rows : List ℕ) (key : ℕ → ℕ) (first second : ℕ → Bool) (list other : List ℕ)
         → DominatesKeys list (map key (filter first rows)) → DominatesKeys other (map key (filter second rows))
@@ -34,5 +34,5 @@ pub fn conditions_dominate()
         → DominatesKeys other (map key (filter (λ row. value row == another) rows))
         → (any : ℕ) → (any ≡ one) ⊎ (any ≡ another)
         → DominatesKeys (rank_maximum list other) (map key (filter (λ row. value row == any) rows)) }
-    ensures cut { (list keys : List ℕ) (rows : ℕ) → DominatesKeys list keys → length keys ≤ rows → DominatesKeys (cut_at list rows) keys }
+    ensures cut { (list keys : List ℕ) (rows : ℕ) → DominatesKeys list keys → length keys ≤ rows → DominatesKeys (capped_at list rows) keys }
 {}

@@ -27,4 +27,4 @@ pub use counting::degrees;
 pub use cutting::cut;
 pub use laws::{conditions_dominate, lists_dominate};
 pub use refusal::Refusal;
-pub use runs::{Run, first_wrong_run, pieces_of};
+pub use runs::{Run, first_invalid_run, pieces_of};

@@ -19,7 +19,7 @@ pub enum Refusal {
     Run { place: u64 },
     /// The run at this index of the second list breaks a rule, as in `Run`.
     OtherRun { place: u64 },
-    /// The degrees of the list that a call would make of two lists sum to more than 2^48: to `sum`.
+    /// The list that a call would make of two lists has the sum `sum`, which is above 2^48.
     Sum { sum: u64 },
     /// The accuracy isn't from 1 to 64.
     Accuracy { given: u64 },

@@ -19,7 +19,7 @@ pub struct Run {
 }
 
 /// The index of the first invalid run, if there is one.
-pub fn first_wrong_run(runs: &[Run]) -> Option<usize>
+pub fn first_invalid_run(runs: &[Run]) -> Option<usize>
     ensures { MatchOption result (AreValid runs.now) (λ place. IsFirstWrong (IsValidAt runs.now) (length runs.now) place) }
 {
     let mut least = u64::MAX;

@@ -12,61 +12,61 @@ use Rattle.safebound_plans.specs.Bits.{all_in_128_bits, no_bound, in_128_bits}
 abbrev Fits64OrIsTop : ℕ → Type 0
 Fits64OrIsTop x = (x < 2 ^ 64) ⊎ (x ≡ 2 ^ 128 - 1)
 
-widened_narrow : (b : ℕ) → b < 2 ^ 64 → Fits64OrIsTop (in_128_bits b)
-widened_narrow b fits = by (eqb b no_bound)
+widened_fits_64_or_is_top : (b : ℕ) → b < 2 ^ 64 → Fits64OrIsTop (in_128_bits b)
+widened_fits_64_or_is_top b fits = by (eqb b no_bound)
   where
     by : (t : Bool) → Fits64OrIsTop (if t then 2 ^ 128 - 1 else b)
     by true = inr refl
     by false = inl fits
 
-narrow_at : (bounds : List ℕ) → ((k : ℕ) → get_or bounds k 0 < 2 ^ 64) → (i : ℕ) → Fits64OrIsTop (get_or (all_in_128_bits bounds) i 0)
-narrow_at [] fits i = inl (omega arith)
-narrow_at (b ∷ bs) fits zero = widened_narrow b (fits 0)
-narrow_at (b ∷ bs) fits (suc i) = narrow_at bs (λ k. fits (suc k)) i
+bound_fits_64_or_is_top : (bounds : List ℕ) → ((k : ℕ) → get_or bounds k 0 < 2 ^ 64) → (i : ℕ) → Fits64OrIsTop (get_or (all_in_128_bits bounds) i 0)
+bound_fits_64_or_is_top [] fits i = inl (omega arith)
+bound_fits_64_or_is_top (b ∷ bs) fits zero = widened_fits_64_or_is_top b (fits 0)
+bound_fits_64_or_is_top (b ∷ bs) fits (suc i) = bound_fits_64_or_is_top bs (λ k. fits (suc k)) i
 
 -- ---- orders
 
-greatest_narrow : (xs : List ℕ) → AllByRecursion Fits64OrIsTop xs → greatest xs ≤ 2 ^ 128 - 2 → greatest xs < 2 ^ 64
-greatest_narrow [] all low = omega arith
-greatest_narrow (x ∷ xs) all low =
-    let rest : greatest xs < 2 ^ 64 = greatest_narrow xs all.1 (omega (arith, low)) in
-    first all.0 rest
+greatest_fits_64 : (xs : List ℕ) → AllByRecursion Fits64OrIsTop xs → greatest xs ≤ 2 ^ 128 - 2 → greatest xs < 2 ^ 64
+greatest_fits_64 [] all low = omega arith
+greatest_fits_64 (x ∷ xs) all low =
+    let rest : greatest xs < 2 ^ 64 = greatest_fits_64 xs all.1 (omega (arith, low)) in
+    greater_fits_if_first all.0 rest
   where
-    first : Fits64OrIsTop x → greatest xs < 2 ^ 64 → max x (greatest xs) < 2 ^ 64
-    first (inl small) rest = omega (arith, small, rest)
-    first (inr top) rest = absurd (omega (arith, top, low))
+    greater_fits_if_first : Fits64OrIsTop x → greatest xs < 2 ^ 64 → max x (greatest xs) < 2 ^ 64
+    greater_fits_if_first (inl small) rest = omega (arith, small, rest)
+    greater_fits_if_first (inr top) rest = absurd (omega (arith, top, low))
 
-all_narrow : (f : List ℕ → ℕ) → ((x : List ℕ) → Fits64OrIsTop (f x)) → (xs : List (List ℕ)) → AllByRecursion Fits64OrIsTop (map f xs)
-all_narrow f h [] = tt
-all_narrow f h (x ∷ xs) = (h x, all_narrow f h xs)
+all_fit_64_or_are_top : (f : List ℕ → ℕ) → ((x : List ℕ) → Fits64OrIsTop (f x)) → (xs : List (List ℕ)) → AllByRecursion Fits64OrIsTop (map f xs)
+all_fit_64_or_are_top f h [] = tt
+all_fit_64_or_are_top f h (x ∷ xs) = (h x, all_fit_64_or_are_top f h xs)
 
-pub order_narrow : (bounds order : List ℕ) → ((k : ℕ) → get_or bounds k 0 < 2 ^ 64) → order_cost (all_in_128_bits bounds) order ≤ 2 ^ 128 - 2
+pub order_cost_fits_64 : (bounds order : List ℕ) → ((k : ℕ) → get_or bounds k 0 < 2 ^ 64) → order_cost (all_in_128_bits bounds) order ≤ 2 ^ 128 - 2
     → order_cost (all_in_128_bits bounds) order < 2 ^ 64
-order_narrow bounds order fits low =
-    greatest_narrow (levels (all_in_128_bits bounds) order)
-    (all_narrow (λ prefix. get_or (all_in_128_bits bounds) (set_of prefix) 0) (λ prefix. narrow_at bounds fits (set_of prefix)) (prefixes order)) low
+order_cost_fits_64 bounds order fits low =
+    greatest_fits_64 (levels (all_in_128_bits bounds) order)
+    (all_fit_64_or_are_top (λ prefix. get_or (all_in_128_bits bounds) (set_of prefix) 0) (λ prefix. bound_fits_64_or_is_top bounds fits (set_of prefix)) (prefixes order)) low
 
 -- ---- trees
 
-either_narrow : (x rest : ℕ) → Fits64OrIsTop x → max x rest ≤ 2 ^ 128 - 2 → rest < 2 ^ 64 → max x rest < 2 ^ 64
-either_narrow x rest (inl small) low h = omega arith
-either_narrow x rest (inr top) low h = absurd (omega arith)
+greater_fits_64 : (x rest : ℕ) → Fits64OrIsTop x → max x rest ≤ 2 ^ 128 - 2 → rest < 2 ^ 64 → max x rest < 2 ^ 64
+greater_fits_64 x rest (inl small) low h = omega arith
+greater_fits_64 x rest (inr top) low h = absurd (omega arith)
 
-inner_narrow : (bounds : List ℕ) → ((k : ℕ) → get_or bounds k 0 < 2 ^ 64) → (t : PlanTree) → inner_greatest (all_in_128_bits bounds) t ≤ 2 ^ 128 - 2
+inner_cost_fits_64 : (bounds : List ℕ) → ((k : ℕ) → get_or bounds k 0 < 2 ^ 64) → (t : PlanTree) → inner_greatest (all_in_128_bits bounds) t ≤ 2 ^ 128 - 2
     → inner_greatest (all_in_128_bits bounds) t < 2 ^ 64
-inner_narrow bounds fits (leaf entry) low = omega arith
-inner_narrow bounds fits (node left right) low =
-    let l : inner_greatest (all_in_128_bits bounds) left < 2 ^ 64 = inner_narrow bounds fits left (omega arith) in
-    let r : inner_greatest (all_in_128_bits bounds) right < 2 ^ 64 = inner_narrow bounds fits right (omega arith) in
-    either_narrow (get_or (all_in_128_bits bounds) (leaf_set left + leaf_set right) 0)
+inner_cost_fits_64 bounds fits (leaf entry) low = omega arith
+inner_cost_fits_64 bounds fits (node left right) low =
+    let l : inner_greatest (all_in_128_bits bounds) left < 2 ^ 64 = inner_cost_fits_64 bounds fits left (omega arith) in
+    let r : inner_greatest (all_in_128_bits bounds) right < 2 ^ 64 = inner_cost_fits_64 bounds fits right (omega arith) in
+    greater_fits_64 (get_or (all_in_128_bits bounds) (leaf_set left + leaf_set right) 0)
     (max (inner_greatest (all_in_128_bits bounds) left) (inner_greatest (all_in_128_bits bounds) right))
-    (narrow_at bounds fits (leaf_set left + leaf_set right)) low (omega arith)
+    (bound_fits_64_or_is_top bounds fits (leaf_set left + leaf_set right)) low (omega arith)
 
-alone_narrow : (x : ℕ) → Fits64OrIsTop x → x ≤ 2 ^ 128 - 2 → x < 2 ^ 64
-alone_narrow x (inl small) low = small
-alone_narrow x (inr top) low = absurd (omega arith)
+number_fits_64 : (x : ℕ) → Fits64OrIsTop x → x ≤ 2 ^ 128 - 2 → x < 2 ^ 64
+number_fits_64 x (inl small) low = small
+number_fits_64 x (inr top) low = absurd (omega arith)
 
-pub tree_narrow : (bounds : List ℕ) → ((k : ℕ) → get_or bounds k 0 < 2 ^ 64) → (t : PlanTree) → tree_cost (all_in_128_bits bounds) t ≤ 2 ^ 128 - 2
+pub tree_cost_fits_64 : (bounds : List ℕ) → ((k : ℕ) → get_or bounds k 0 < 2 ^ 64) → (t : PlanTree) → tree_cost (all_in_128_bits bounds) t ≤ 2 ^ 128 - 2
     → tree_cost (all_in_128_bits bounds) t < 2 ^ 64
-tree_narrow bounds fits (leaf entry) low = alone_narrow (get_or (all_in_128_bits bounds) (2 ^ entry) 0) (narrow_at bounds fits (2 ^ entry)) low
-tree_narrow bounds fits (node left right) low = inner_narrow bounds fits (node left right) low
+tree_cost_fits_64 bounds fits (leaf entry) low = number_fits_64 (get_or (all_in_128_bits bounds) (2 ^ entry) 0) (bound_fits_64_or_is_top bounds fits (2 ^ entry)) low
+tree_cost_fits_64 bounds fits (node left right) low = inner_cost_fits_64 bounds fits (node left right) low

@@ -7,21 +7,21 @@ use Rattle.order_search.specs.declared.refusal.PlanError.TheVariants as plan_err
 use Rattle.bushy_plan.specs.Causes.{IsCause as IsBushyCause}
 use Rattle.safebound_lists.specs.declared.refusal.Refusal.{Refusal}
 use Rattle.safebound_lists.specs.declared.refusal.Refusal.TheVariants as refusal
-use Rattle.safebound_plans.specs.Given.{AreOfSets, MayPlan}
+use Rattle.safebound_plans.specs.Given.{HaveOneForEachSet, MayPlan}
 use Rattle.safebound_plans.specs.Bits.{all_in_128_bits}
 
--- there are `count` bounds, which isn't the number of sets of n entries for any n from 1 to `greatest_entries`
-abbrev pub IsWrongCount : List ℕ → ℕ → Type 0
-IsWrongCount bounds count = (count ≡ length bounds) × ((n : ℕ) → ¬ AreOfSets bounds n)
+-- the number of bounds is `count`, and it isn't 2^n for any n from 1 to `greatest_entries`
+abbrev pub IsNumberOfBoundsCause : List ℕ → ℕ → Type 0
+IsNumberOfBoundsCause bounds count = (count ≡ length bounds) × ((n : ℕ) → ¬ HaveOneForEachSet bounds n)
 
 -- the budget is too large
 abbrev pub IsBudgetCause : List ℕ → ℕ → ℕ → Type 0
-IsBudgetCause bounds budget given = (n : ℕ) × AreOfSets bounds n × (given ≡ budget) × (greatest_budget < budget)
+IsBudgetCause bounds budget given = (n : ℕ) × HaveOneForEachSet bounds n × (given ≡ budget) × (greatest_budget < budget)
 
 -- Why a call for an order refuses. The number of bounds isn't 2^n, the budget is too large, or there is too little room. Or no order is within the
 -- budget, or no order has a bound for each level
 abbrev pub IsOrderCause : List ℕ → ℕ → ℕ → Refusal → Type 0
-IsOrderCause bounds budget room (refusal.Bounds count) = IsWrongCount bounds count
+IsOrderCause bounds budget room (refusal.Bounds count) = IsNumberOfBoundsCause bounds count
 IsOrderCause bounds budget room (refusal.GivenBudget given) = IsBudgetCause bounds budget given
 IsOrderCause bounds budget room (refusal.Room needed) = MayPlan bounds needed budget × (room < needed)
 IsOrderCause bounds budget room (refusal.Budget least) =
@@ -34,7 +34,7 @@ IsOrderCause bounds budget room _ = ⊥
 -- Why a call for a tree refuses. The number of bounds isn't 2^n, the budget is too large, or there is too little room. Or no tree is within the
 -- budget, or no tree has a bound for each node
 abbrev pub IsTreeCause : List ℕ → ℕ → ℕ → Refusal → Type 0
-IsTreeCause bounds budget room (refusal.Bounds count) = IsWrongCount bounds count
+IsTreeCause bounds budget room (refusal.Bounds count) = IsNumberOfBoundsCause bounds count
 IsTreeCause bounds budget room (refusal.GivenBudget given) = IsBudgetCause bounds budget given
 IsTreeCause bounds budget room (refusal.Room needed) = MayPlan bounds (needed + 1) budget × (room < needed)
 IsTreeCause bounds budget room (refusal.Budget least) =

@@ -1,6 +1,6 @@
 -- The best join tree, as a call writes it into the caller's room.
 use Rattle.std.specs.Prelude.{ℕ, ◌+◌, ◌≤◌, List, map}
-use Rattle.tree_plans.specs.declared.bushy.Join.{Join}
+use Rattle.plans.specs.declared.bushy.Join.{Join}
 use Rattle.bushy_plan.specs.BestTree.{IsBest, cost}
 use Rattle.bushy_plan.specs.PlanTrees.{PlanTree, joins_from}
 use Rattle.safebound_lists.specs.Written.{RoomBeginsWith}

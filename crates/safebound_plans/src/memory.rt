@@ -1,20 +1,20 @@
-//! How many bytes the buffers of this project's engine take for a plan. The engine takes `MOST_ENTRIES` entries, fewer than the library plans.
+//! How many bytes the buffers of this project's engine take for a plan. The engine joins at most `MOST_ENTRIES` entries; the library plans more.
 ghost use Rattle.std.specs.Prelude.{◌≡◌, ℕ, ◌+◌, ◌^◌, ◌<◌, ◌≤◌, length, map, IfErr, IfOk, MatchOption};
 ghost use Rattle.limits.specs.Profile.{most_entries};
 ghost use Rattle.safebound_lists.specs.declared.refusal.Refusal.TheVariants as refusal;
 ghost use Rattle.safebound_lists.specs.First.{IsFirstWrong};
-ghost use Rattle.safebound_plans.specs.Memory.{join_of, six_and_five_bytes, six_with_five_bytes, IsJoinValidAt, IsLevelValidAt, IsOrderMemory, IsOrderMemoryCause, IsTreeMemory, IsTreeMemoryCause};
+ghost use Rattle.safebound_plans.specs.Memory.{join_of, small_order_bytes, small_tree_bytes, IsJoinValidAt, IsLevelValidAt, IsOrderMemory, IsOrderMemoryCause, IsTreeMemory, IsTreeMemoryCause};
 ghost use Rattle.safebound_plans.specs.Orders.{bounds_in, entries_in};
 
 use crate::ordering::Level;
 use crate::shaping::JoinNode;
 use limits::MOST_ENTRIES;
+use plans::Join;
 use safebound_lists::Refusal;
-use tree_plans::Join;
 use tree_rows::joins_memory;
 
 // The index of the first level whose entry doesn't exist.
-fn first_wrong_level(levels: &[Level], entries: u64) -> Option<u64>
+fn first_invalid_level(levels: &[Level], entries: u64) -> Option<u64>
     ensures { MatchOption result ((place : ℕ) → place < length levels.now → IsLevelValidAt entries levels.now place)
         (IsFirstWrong (IsLevelValidAt entries levels.now) (length levels.now)) }
 {
@@ -27,7 +27,7 @@ fn first_wrong_level(levels: &[Level], entries: u64) -> Option<u64>
 }
 
 // The index of the first join that names a node that isn't before it.
-fn first_wrong_join(joins: &[JoinNode], entries: u64) -> Option<u64>
+fn first_invalid_join(joins: &[JoinNode], entries: u64) -> Option<u64>
     requires few { entries + length joins.now ≤ 2 ^ 32 }
     ensures { MatchOption result ((place : ℕ) → place < length joins.now → IsJoinValidAt entries joins.now place)
         (IsFirstWrong (IsJoinValidAt entries joins.now) (length joins.now)) }
@@ -90,8 +90,8 @@ fn in_64_bits(bytes: u128) -> Result<u64, Refusal>
     Ok(bytes as u64)
 }
 
-/// How many bytes an engine's buffers take for an order. `rows` has the most rows of each entry's list. An order is a join tree whose right nodes are
-/// entries. The bytes are those that `tree_memory` gives for this tree.
+/// How many bytes the engine's buffers take for an order. `rows` has the most rows of each entry's list. An order is a join tree whose right nodes
+/// are entries; it takes the bytes that `tree_memory` gives for this tree.
 pub fn order_memory(rows: &[u64], levels: &[Level]) -> Result<u64, Refusal>
     ensures done { IfOk result (IsOrderMemory rows.now levels.now) }
     ensures refused { IfErr result (IsOrderMemoryCause rows.now levels.now) }
@@ -107,7 +107,7 @@ pub fn order_memory(rows: &[u64], levels: &[Level]) -> Result<u64, Refusal>
             count: levels.len() as u64,
         });
     }
-    if let Some(place) = first_wrong_level(levels, count as u64) {
+    if let Some(place) = first_invalid_level(levels, count as u64) {
         return Err(Refusal::Level { place });
     }
     let mut order = [0u8; MOST_ENTRIES];
@@ -119,7 +119,7 @@ pub fn order_memory(rows: &[u64], levels: &[Level]) -> Result<u64, Refusal>
     in_64_bits(tree_rows::order_memory(order, rows, bounds))
 }
 
-/// How many bytes an engine's buffers take for the join tree with these joins. `rows` has the most rows of each entry's list.
+/// How many bytes the engine's buffers take for the join tree with these joins. `rows` has the most rows of each entry's list.
 pub fn tree_memory(rows: &[u64], joins: &[JoinNode]) -> Result<u64, Refusal>
     ensures done { IfOk result (IsTreeMemory rows.now joins.now) }
     ensures refused { IfErr result (IsTreeMemoryCause rows.now joins.now) }
@@ -135,7 +135,7 @@ pub fn tree_memory(rows: &[u64], joins: &[JoinNode]) -> Result<u64, Refusal>
             count: joins.len() as u64,
         });
     }
-    if let Some(place) = first_wrong_join(joins, count as u64) {
+    if let Some(place) = first_invalid_join(joins, count as u64) {
         return Err(Refusal::Join { place });
     }
     let mut nodes = [Join {
@@ -150,10 +150,10 @@ pub fn tree_memory(rows: &[u64], joins: &[JoinNode]) -> Result<u64, Refusal>
 
 /// The bytes of two small plans. This function does nothing.
 ///
-/// The order is a tree with the 6 rows on the right. The other tree has the 5 rows on the right: it takes 44 bytes for lists, 96 for pairs, 80 for the
-/// chain, 8 for row numbers and 40 for keys. Its lists of buffers take 64 for row numbers, 40 for inner nodes, 96 for chains and 39 for the entries
-/// below each node.
+/// The order is a tree with the entry of 6 rows on the right. The other tree has the entry of 5 rows on the right. This other tree takes 44
+/// bytes for lists, 96 for pairs, 80 for the chain, 8 for row numbers and 40 for keys. Its lists of buffers take 64 bytes for row numbers, 40 for
+/// inner nodes, 96 for chains and 39 for the entries below each node.
 pub fn small_plans()
-    ensures order { six_and_five_bytes ≡ 531 }
-    ensures tree { six_with_five_bytes ≡ 507 }
+    ensures order { small_order_bytes ≡ 531 }
+    ensures tree { small_tree_bytes ≡ 507 }
 {}

@@ -4,7 +4,7 @@ ghost use Rattle.plans.specs.LeftDeep.{IsPlan};
 ghost use Rattle.safebound_plans.specs.Causes.{IsOrderCause};
 ghost use Rattle.safebound_plans.specs.Orders.{AreLevels, IsBestOrder};
 
-use crate::widening::{bounds_in_128_bits, empty_scans, entries_of};
+use crate::widening::{bounds_in_128_bits, empty_scans, entry_count_of};
 use limits::GREATEST_BUDGET;
 use order_search::{PlanError, choose};
 use plans::Plan;
@@ -41,7 +41,7 @@ pub fn order(alloc: Global, bounds: &[u64], budget: u64, into: &mut [Level]) -> 
     ensures refused { IfErr result (IsOrderCause bounds.now budget (length into.old)) }
     ensures kept { OnErr result (into.new ≡ into.old) }
 {
-    let Some(entries) = entries_of(bounds) else {
+    let Some(entries) = entry_count_of(bounds) else {
         return Err(Refusal::Bounds {
             count: bounds.len() as u64,
         });

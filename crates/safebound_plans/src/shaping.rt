@@ -4,13 +4,13 @@ ghost use Rattle.safebound_lists.specs.Written.{RoomBeginsWith};
 ghost use Rattle.safebound_plans.specs.Causes.{IsTreeCause};
 ghost use Rattle.safebound_plans.specs.Trees.{IsBestTree, node_of as node_of_join};
 
-use crate::widening::{bounds_in_128_bits, empty_scans, entries_of};
+use crate::widening::{bounds_in_128_bits, empty_scans, entry_count_of};
 use bushy_plan::choose_bushy;
 use limits::GREATEST_BUDGET;
 use order_search::PlanError;
+use plans::Join;
 use safebound_lists::Refusal;
 use std::alloc::Global;
-use tree_plans::Join;
 
 /// A node of a join tree: the two nodes that it joins, and its bound in rows.
 #[repr(C)]
@@ -52,7 +52,7 @@ pub fn tree(
     ensures refused { IfErr result (IsTreeCause bounds.now budget (length into.old)) }
     ensures kept { OnErr result (into.new ≡ into.old) }
 {
-    let Some(entries) = entries_of(bounds) else {
+    let Some(entries) = entry_count_of(bounds) else {
         return Err(Refusal::Bounds {
             count: bounds.len() as u64,
         });

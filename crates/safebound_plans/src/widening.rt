@@ -1,6 +1,6 @@
 //! Makes the arguments of the searches from the caller's bounds of 64 bits: bounds of 128 bits, and a scan for each entry.
 ghost use Rattle.std.specs.Prelude.{◌≡◌, ℕ, length, IfOk, MatchOption};
-ghost use Rattle.safebound_plans.specs.Given.{AreOfSets};
+ghost use Rattle.safebound_plans.specs.Given.{HaveOneForEachSet};
 ghost use Rattle.safebound_plans.specs.Bits.{all_in_128_bits, in_128_bits};
 
 use base_io::{NoMemory, Seq};
@@ -8,8 +8,8 @@ use limits::{GREATEST_ENTRIES, TOP_BOUND};
 use std::alloc::Global;
 
 /// The number n of entries, from 1 to `GREATEST_ENTRIES`, if there are 2^n bounds: one for each set of entries.
-pub(crate) fn entries_of(bounds: &[u64]) -> Option<u8>
-    ensures { MatchOption result ((n : ℕ) → ¬ AreOfSets bounds.now n) (AreOfSets bounds.now) }
+pub(crate) fn entry_count_of(bounds: &[u64]) -> Option<u8>
+    ensures { MatchOption result ((n : ℕ) → ¬ HaveOneForEachSet bounds.now n) (HaveOneForEachSet bounds.now) }
 {
     for n in 1..GREATEST_ENTRIES as u8 + 1 {
         if bounds.len() == 1usize << n {

@@ -1,4 +1,4 @@
--- If a call has a course (`CallHistory`), each sentence of the headline is true of the call.
+-- If `CallHistory` holds for a call, each sentence of the headline holds for it.
 use Rattle.std.proofs.Common.{◌≡◌, ◌⊎◌, ℕ, inl, inr, List, None, Some, Result, Ok, Err, refl, ap, sym, ◌∙◌, subst}
 use Rattle.std.specs.Prelude.{IsOkAnd, codes}
 use Rattle.base_io.specs.Causes.{Rose}
@@ -13,7 +13,7 @@ use Rattle.outcomes.specs.declared.names.SinkId.TheVariants as sink
 use Rattle.outcomes.specs.declared.refusal.Refusal.{Refusal}
 use Rattle.outcomes.specs.declared.refusal.Refusal.TheVariants as refusal
 use Rattle.outcomes.specs.declared.status.Status.TheVariants as status
-use Rattle.outcomes.proofs.StatusFacts.{ended_fault, ended_not_cut, ended_not_done, ended_refused}
+use Rattle.outcomes.proofs.StatusFacts.{ended_fault, ended_without_write_fault, ended_not_done, ended_refused}
 use Rattle.safebound_top.specs.Call.{Call, GrewOrWasCut}
 use Rattle.safebound_top.specs.CallHistory.{CallHistory, TextsEnded, Done, CutInNotes, CutInOut, RefusedOrRan, Unasked, Asked, StageRan, EndedEarly, RanToEnd, StatusReported}
 use Rattle.safebound_top.specs.Faults.{fault_text}
@@ -65,8 +65,8 @@ module _ (call : Call) (course : CallHistory call) where
       where
         by : TextsEnded call.status call.out call.notes run course.line → ⊥
         by (Done s notes out) = ended_not_done e (sym is ∙ s)
-        by (CutInNotes s rose out line) = ended_not_cut e sink.Notes (sym is ∙ s)
-        by (CutInOut s rose out line) = ended_not_cut e sink.Out (sym is ∙ s)
+        by (CutInNotes s rose out line) = ended_without_write_fault e sink.Notes (sym is ∙ s)
+        by (CutInOut s rose out line) = ended_without_write_fault e sink.Out (sym is ∙ s)
 
     went_done : call.status ≡ status.Done → (files : Files) → call.store.files ≡ Some files
         → IsOkAnd (verdict call.words files) (λ run. say.GrewWhole call.notes (notes_text run) × say.GrewWhole call.out (out_text run))
@@ -160,8 +160,8 @@ module _ (call : Call) (course : CallHistory call) where
     where
       by : StageRan call.status call.store call.out call.notes (verdict call.words) (IsReached call.words) course.line → say.WriteFaultsHaveTheirCause call
       by (EndedEarly e s reads out told) = record {
-        of_notes = λ is. absurd (ended_not_cut e sink.Notes (sym s ∙ is));
-        of_out = λ is. absurd (ended_not_cut e sink.Out (sym s ∙ is));
+        of_notes = λ is. absurd (ended_without_write_fault e sink.Notes (sym s ∙ is));
+        of_out = λ is. absurd (ended_without_write_fault e sink.Out (sym s ∙ is));
       }
       by (RanToEnd run reads written) = record { of_notes = went_cut_notes run reads written; of_out = went_cut_out run reads written }
 
@@ -171,7 +171,7 @@ module _ (call : Call) (course : CallHistory call) where
     told = λ r is.
         let same : r ≡ refusal.Usage = unasked_is r (sym h.status ∙ is) in
         (h.out, (λ files told. (unasked_verdict call.words files h.words ∙ ap (λ (x : Refusal). Err x) (sym same), line_told h.told files told)));
-    untold = λ file is. absurd (let no : refusal.Missing file ≡ refusal.Usage = unasked_is (refusal.Missing file) (sym h.status ∙ is) in cc);
+    missing_only_if_told = λ file is. absurd (let no : refusal.Missing file ≡ refusal.Usage = unasked_is (refusal.Missing file) (sym h.status ∙ is) in cc);
   }
   refusals (Asked h) = by h.ran
     where
@@ -179,12 +179,12 @@ module _ (call : Call) (course : CallHistory call) where
       by (EndedEarly e s reads out told) = record {
         usage = ((λ is. absurd ((by_refusal e s reads refusal.Usage is).2 refl)), (λ is. absurd (h.words is)));
         told = λ r is. (out, (λ files is_told. ((by_refusal e s reads r is).0 files is_told, line_told told files is_told)));
-        untold = λ file is none. (by_refusal e s reads (refusal.Missing file) is).1 none file refl;
+        missing_only_if_told = λ file is none. (by_refusal e s reads (refusal.Missing file) is).1 none file refl;
       }
       by (RanToEnd run reads written) = record {
         usage = ((λ is. absurd (went_on run reads written (failure.Refused refusal.Usage) is)), (λ is. absurd (h.words is)));
         told = λ r is. absurd (went_on run reads written (failure.Refused r) is);
-        untold = λ file is. absurd (went_on run reads written (failure.Refused (refusal.Missing file)) is);
+        missing_only_if_told = λ file is. absurd (went_on run reads written (failure.Refused (refusal.Missing file)) is);
       }
 
   faults : RefusedOrRan call course.line → say.ReadFaultsHaveTheirCause call

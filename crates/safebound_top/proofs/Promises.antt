@@ -1,5 +1,5 @@
 -- If the headline holds for a call, the call keeps the promise of `run`.
-use Rattle.std.proofs.Common.{◌≡◌, ◌⊎◌, inl, inr, ℕ, ◌+◌, ◌<◌, ◌≤◌, false, List, [], map, length, get_or, Option, None, Some, Result, Ok, Err, refl, ap, sym, ◌∙◌, subst, arith}
+use Rattle.std.proofs.Common.{◌≡◌, ◌⊎◌, inl, inr, ℕ, ◌+◌, ◌<◌, ◌≤◌, false, List, ◌++◌, [], map, length, get_or, Option, None, Some, Result, Ok, Err, refl, ap, sym, ◌∙◌, subst, arith}
 use Rattle.std.specs.Prelude.{if◌then◌else◌, nat_lt, slice_get, IsOkAnd, IfOk}
 use Rattle.std.proofs.lemmas.Bool.Decides.{nat_tests}
 use Rattle.std.proofs.lemmas.List.{get_or-append-add, get_or-map, length-map}
@@ -16,7 +16,7 @@ use Rattle.csv_tables.specs.Files.{rows_of_file}
 use Rattle.csv_tables.specs.Rows.{Row}
 use Rattle.query_names.specs.declared.errors.QueryError.{QueryError}
 use Rattle.query_names.specs.declared.errors.QueryError.TheVariants as query_error
-use Rattle.query_types.specs.Validity.{IsOf}
+use Rattle.query_types.specs.Validity.{IsQueryOf}
 use Rattle.query_types.specs.declared.types.Query.{Query}
 use Rattle.query_types.specs.declared.types.Source.{Source}
 use Rattle.sql_parse.specs.Reading.{IsAnswer}
@@ -25,7 +25,7 @@ use Rattle.text_answers.specs.SchemaTexts.{schema_answer}
 use Rattle.text_answers.proofs.QueryAnswers as queries
 use Rattle.text_answers.proofs.SchemaAnswers as schemas
 use Rattle.outcomes.specs.Errors.{plan_refusal, query_refusal, schema_refusal, table_refusal}
-use Rattle.outcomes.specs.Reads.{◌>>=◌, mapped, with_refusal}
+use Rattle.outcomes.specs.Reads.{◌>>=◌, with_refusal}
 use Rattle.outcomes.specs.declared.names.FileId.{FileId}
 use Rattle.outcomes.specs.declared.names.FileId.TheVariants as file
 use Rattle.outcomes.specs.declared.refusal.Refusal.{Refusal}
@@ -38,9 +38,10 @@ use Rattle.table_files.proofs.EntryLaws.{two_steps}
 use Rattle.table_files.proofs.StagedFiles.{entries_are, read_ok, table_ok, ok_without_refusal}
 use Rattle.sql_meaning.specs.Tables.{Tables}
 use Rattle.reduced_scans.proofs.ByRounds.{reduced_scans_by_rounds}
-use Rattle.plans.specs.declared.left_deep.Plan.{Plan}
-use Rattle.tree_plans.specs.declared.bushy.BushyPlan.{BushyPlan}
-use Rattle.tree_plans.specs.declared.bushy.Join.{Join}
+use Rattle.plans.specs.Orders.{order_of_tree, tree_of_order}
+use Rattle.plans.specs.declared.bushy.BushyPlan.{BushyPlan}
+use Rattle.plans.specs.declared.bushy.Join.{Join}
+use Rattle.tree_rows.specs.Memory.{tree_bytes}
 use Rattle.tree_rows.specs.Rooms.{bound_at}
 use Rattle.tree_rows.specs.Trees.{entries_at}
 use Rattle.bushy_join.specs.Trees.{is_joined_leaf}
@@ -54,15 +55,15 @@ use Rattle.safebound_words.specs.declared.command.QueryTask.TheVariants as works
 use Rattle.safebound_top.specs.Call.{Call, Grew}
 use Rattle.safebound_top.specs.Headline.{GrewWhole, Headline}
 use Rattle.prepared_runs.specs.Limits.{IsWithinLimit, within_limit}
-use Rattle.safebound_top.specs.Promise.{AreInFile, AreScans, AsksQuery, DeclaresSchema, HoldsAlong, HoldsOver, IsTheOne, PrintsOrder, PrintsPlan, PrintsTree, Promise, RanWhole, choices_over}
-use Rattle.prepared_runs.specs.Shapes.{answer_of, part_rows, planned_by, shape_bytes}
-use Rattle.prepared_runs.specs.Sources.{BoundsAndLists, lists_by, bounds_and_lists_by}
+use Rattle.safebound_top.specs.Promise.{AreInFile, AreScans, AsksQuery, DeclaresSchema, HoldsAlong, HoldsOver, IsTheOne, PrintsPlan, Promise, RanWhole, choices_over}
+use Rattle.prepared_runs.specs.Shapes.{part_rows}
+use Rattle.printed_texts.specs.Memory.{memory_text}
+use Rattle.printed_texts.specs.Plans.{plan_lines}
+use Rattle.prepared_runs.specs.Sources.{lists_by}
 use Rattle.prepared_runs.specs.RunOutcome.{NoBoundIsTooLow, RunOutcome, Planned, PrintsTheAnswer}
 use Rattle.safebound_top.specs.OutcomeTexts.{notes_text, out_text}
 use Rattle.safebound_top.specs.Texts.{plan_text, plan_text_of, rows_text, text_for}
 use Rattle.prepared_runs.specs.Verdict.{aim_run, command_run, command_stage, plan_asked, plan_stage, query_of_text, query_stage, or_usage, run_asked, schema_of_text, schema_stage, verdict, work_run}
-use Rattle.prepared_runs.specs.declared.shapes.AnyPlan.{AnyPlan}
-use Rattle.prepared_runs.specs.declared.shapes.AnyPlan.TheVariants as shaped
 use Rattle.safebound_words.specs.declared.command.ListSource.{ListSource}
 use Rattle.safebound_words.specs.declared.command.ListSource.TheVariants as sources
 use Rattle.safebound_words.specs.declared.command.OutText.{OutText}
@@ -77,8 +78,8 @@ use Rattle.prepared_runs.proofs.ShapeFacts.{Fits}
 
 the_schema : (text : List ℕ) (schema : Schema) → schema_answer text ≡ Ok schema → IsTheOne (λ s. IsSchemaOf text (Ok s)) schema
 the_schema text schema answered = record {
-  is = subst (IsSchemaOf text) answered (schemas.allowed text);
-  only = λ other is. of_only other (schemas.only text (Ok other) is);
+  is = subst (IsSchemaOf text) answered (schemas.result_is_allowed text);
+  only = λ other is. of_only other (schemas.only_result text (Ok other) is);
 }
   where
     of_only : (other : Schema) → (Ok other ≡ Err schema_error.NoMemory) ⊎ (Ok other ≡ schema_answer text) → other ≡ schema
@@ -87,8 +88,8 @@ the_schema text schema answered = record {
 
 the_query : (schema : Schema) (text : List ℕ) (query : Query) → query_answer schema text ≡ Ok query → IsTheOne (λ q. IsAnswer schema text (Ok q)) query
 the_query schema text query answered = record {
-  is = subst (IsAnswer schema text) answered (queries.allowed schema text);
-  only = λ other is. of_only other (queries.only schema text (Ok other) is);
+  is = subst (IsAnswer schema text) answered (queries.result_is_allowed schema text);
+  only = λ other is. of_only other (queries.only_result schema text (Ok other) is);
 }
   where
     of_only : (other : Query) → (Ok other ≡ Err query_error.NoMemory) ⊎ (Ok other ≡ query_answer schema text) → other ≡ query
@@ -117,13 +118,13 @@ asks name files schema query e =
 
 -- ---- the rows
 
-pub query_of_schema : (name : List ℕ) (files : Files) (schema : Schema) (query : Query) → query_stage name schema files ≡ Ok query → IsOf schema query
+pub query_of_schema : (name : List ℕ) (files : Files) (schema : Schema) (query : Query) → query_stage name schema files ≡ Ok query → IsQueryOf schema query
 unfolding query_stage
 query_of_schema name files schema query e =
     let steps = two_steps (read file.Query 1048576 name files) (query_of_text schema) query e in
     queries.of_schema schema steps.0 query (ok_without_refusal query_refusal (query_answer schema steps.0) query steps.2)
 
-module _ (schema : Schema) (query : Query) (files : Files) (rows : List (List Row)) (of : IsOf schema query)
+module _ (schema : Schema) (query : Query) (files : Files) (rows : List (List Row)) (of_schema : IsQueryOf schema query)
     (staged : tables_stage schema query.from files ≡ Ok rows) where
   rows_in_files : (entry : ℕ) → entry < length query.from → AreInFile files schema query entry (tables_in rows entry)
   rows_in_files entry low =
@@ -137,7 +138,7 @@ module _ (schema : Schema) (query : Query) (files : Files) (rows : List (List Ro
         source = source;
         is_source = slice_get-get_or query.from entry none low;
         table = table_at schema source.table;
-        is_table = slice_get-get_or schema.tables source.table no_table (of.sources entry none low);
+        is_table = slice_get-get_or schema.tables source.table no_table (of_schema.sources entry none low);
         bytes = read.0;
         there = read.1;
         read = read.2;
@@ -154,14 +155,14 @@ scans_are query tables sources.Counted = reduced_scans_by_rounds query tables
 
 -- in this part, the lists are any lists: whole scans or reduced scans
 module _ (query : Query) (tables : Tables) (lists : List (List ℕ)) where
-  along : (plan : Plan) → Fits query tables lists (shaped.OrderPlan plan) → HoldsAlong query tables lists plan
+  along : (plan : BushyPlan) → Fits query tables lists shapes.Order plan → HoldsAlong query tables lists (order_of_tree plan)
   along plan h = record {
-    each_entry = h.plan;
+    each_entry = h.plan.order;
     scans_fit = h.scans;
-    levels_fit = λ k low. h.parts k (omega (arith, h.plan.order.all));
+    levels_fit = λ k low. h.parts k (omega (arith, h.plan.order.order.all));
   }
 
-  module _ (plan : BushyPlan) (h : Fits query tables lists (shaped.TreePlan plan)) where
+  module _ (plan : BushyPlan) (h : Fits query tables lists shapes.Tree plan) where
     node_bound : (k : ℕ) (join : Join) → slice_get plan.joins k ≡ Some join → bound_at plan (length plan.scans + k) ≡ join.bound
     node_bound k join is =
         get_or-append-add plan.scans (map (λ (j : Join). j.bound) plan.joins) k 0
@@ -174,7 +175,7 @@ module _ (query : Query) (tables : Tables) (lists : List (List ℕ)) where
     node_fits : (k : ℕ) (join : Join) → slice_get plan.joins k ≡ Some join
         → length (choices_over query tables lists (entries_at plan (length plan.scans + k))) ≤ join.bound
     node_fits k join is =
-        let fits : length (part_rows query tables lists (shaped.TreePlan plan) k) ≤ bound_at plan (length plan.scans + k) = h.parts k (slice_get_within plan.joins k join is) in
+        let fits : length (part_rows query tables lists shapes.Tree plan k) ≤ bound_at plan (length plan.scans + k) = h.parts k (slice_get_within plan.joins k join is) in
         let inner : length (choices_over query tables lists (entries_at plan (length plan.scans + k))) ≤ bound_at plan (length plan.scans + k) = rw (no_leaf k) at fits in
         subst (λ (n : ℕ). length (choices_over query tables lists (entries_at plan (length plan.scans + k))) ≤ n) (node_bound k join is) inner
 
@@ -186,40 +187,27 @@ module _ (query : Query) (tables : Tables) (lists : List (List ℕ)) where
           subst (λ (n : ℕ). length (choices_over query tables lists (entries_at plan (n + k))) ≤ join.bound) h.plan.scans (node_fits k join is);
     }
 
-seen_ok : {A B E : Type 0} (view : A → B) (r : Result A E) (y : B) → mapped view r ≡ Ok y → (x : A) × (view x ≡ y)
-seen_ok view (Ok x) y e = (x, cc)
-seen_ok view (Err s) y e = cc
+pub text_prints : (shape : Shape) (memory : Option ℕ) (query : Query) (tables : Tables) (lists : List (List ℕ)) (plan : BushyPlan)
+    → Fits query tables lists shape plan → IsWithinLimit memory (tree_bytes plan) → PrintsPlan shape memory query tables lists (plan_text_of query.from shape plan memory)
+text_prints shapes.Order memory query tables lists plan h within =
+    let bytes : tree_bytes plan ≡ tree_bytes (tree_of_order (order_of_tree plan)) = ap (λ (t : BushyPlan). tree_bytes t) h.plan.its_tree in
+    record {
+      plan = order_of_tree plan;
+      holds = along query tables lists plan h;
+      within = subst (IsWithinLimit memory) bytes within;
+      prints = ap (λ (b : ℕ). plan_lines query.from (order_of_tree plan) ++ memory_text memory b) bytes;
+    }
+text_prints shapes.Tree memory query tables lists plan h within = record {
+  plan = plan;
+  holds = over query tables lists plan h;
+  within = within;
+  prints = refl;
+}
 
-pub text_prints : (shape : Shape) (sets scans : List ℕ) (budget : ℕ) (memory : Option ℕ) (query : Query) (tables : Tables) (lists : List (List ℕ)) (plan : AnyPlan)
-    → answer_of shape sets scans budget ≡ Ok plan → Fits query tables lists plan → IsWithinLimit memory (shape_bytes plan)
-    → PrintsPlan shape memory query tables lists (plan_text_of query.from plan memory)
-text_prints shapes.Order sets scans budget memory query tables lists plan made h within =
-    let found = seen_ok (λ p. shaped.OrderPlan p) _ plan made in
-    subst (λ (p : AnyPlan). PrintsOrder memory query tables lists (plan_text_of query.from p memory)) found.1
-    (record {
-      plan = found.0;
-      holds = along query tables lists found.0 (subst (Fits query tables lists) (sym found.1) h);
-      within = subst (λ (p : AnyPlan). IsWithinLimit memory (shape_bytes p)) (sym found.1) within;
-      prints = refl;
-    })
-text_prints shapes.Tree sets scans budget memory query tables lists plan made h within =
-    let found = seen_ok (λ p. shaped.TreePlan p) _ plan made in
-    subst (λ (p : AnyPlan). PrintsTree memory query tables lists (plan_text_of query.from p memory)) found.1
-    (record {
-      plan = found.0;
-      holds = over query tables lists found.0 (subst (Fits query tables lists) (sym found.1) h);
-      within = subst (λ (p : AnyPlan). IsWithinLimit memory (shape_bytes p)) (sym found.1) within;
-      prints = refl;
-    })
-
-prints : (task : PlanWork) (schema : Schema) (query : Query) (rows : List (List Row)) (plan : AnyPlan)
-    → plan_asked task schema query (tables_in rows) ≡ Ok plan → BoundsHold (run_asked task query rows plan) → IsWithinLimit task.terms.memory (shape_bytes plan)
+prints : (task : PlanWork) (query : Query) (rows : List (List Row)) (plan : BushyPlan) → BoundsHold (run_asked task query rows plan) → IsWithinLimit task.terms.memory (tree_bytes plan)
     → PrintsPlan task.terms.shape task.terms.memory query (tables_in rows) (lists_by task.source query (tables_in rows)) (plan_text (run_asked task query rows plan))
-unfolding planned_by
-prints task schema query rows plan made h within =
-    let given : BoundsAndLists = bounds_and_lists_by task.source schema query (tables_in rows) in
-    text_prints task.terms.shape (given.sets task.accuracy) (given.scans task.accuracy) task.terms.budget task.terms.memory query (tables_in rows)
-    (lists_by task.source query (tables_in rows)) plan made (record { plan = h.plan; scans = h.scans; parts = h.parts }) within
+prints task query rows plan h within =
+    text_prints task.terms.shape task.terms.memory query (tables_in rows) (lists_by task.source query (tables_in rows)) plan (record { plan = h.plan; scans = h.scans; parts = h.parts }) within
 
 -- ---- the stages of a run
 
@@ -230,9 +218,9 @@ pub record Stages (schema_file query_file : List ℕ) (task : PlanWork) (files :
   pub query_read : query_stage query_file schema files ≡ Ok query
   pub rows : List (List Row)
   pub rows_read : tables_stage schema query.from files ≡ Ok rows
-  pub plan : AnyPlan
+  pub plan : BushyPlan
   pub planned : plan_asked task schema query (tables_in rows) ≡ Ok plan
-  pub within : IsWithinLimit task.terms.memory (shape_bytes plan)
+  pub within : IsWithinLimit task.terms.memory (tree_bytes plan)
   pub is_run : Planned (run_asked task query rows plan) ≡ outcome
 
 pub stages : (shop : Option ℕ) (schema_file query_file : List ℕ) (task : PlanWork) (files : Files) (outcome : RunOutcome)
@@ -242,8 +230,8 @@ stages shop schema_file query_file task files outcome e =
     let first = two_steps (schema_stage schema_file files) (λ schema. aim_run (aims.Query query_file (works.Plan task)) schema files) outcome e in
     let second = two_steps (query_stage query_file first.0 files) (λ query. work_run (works.Plan task) first.0 query files) outcome first.2 in
     let third = two_steps (tables_stage first.0 second.0.from files) (plan_stage task first.0 second.0) outcome second.2 in
-    let last = two_steps (with_refusal plan_refusal (plan_asked task first.0 second.0 (tables_in third.0))) (λ plan. within_limit task.terms.memory (shape_bytes plan) (Planned (run_asked task second.0 third.0 plan))) outcome third.2 in
-    let kept = within_ok task.terms.memory (shape_bytes last.0) (Planned (run_asked task second.0 third.0 last.0)) outcome last.2 in
+    let last = two_steps (with_refusal plan_refusal (plan_asked task first.0 second.0 (tables_in third.0))) (λ plan. within_limit task.terms.memory (tree_bytes plan) (Planned (run_asked task second.0 third.0 plan))) outcome third.2 in
+    let kept = within_ok task.terms.memory (tree_bytes last.0) (Planned (run_asked task second.0 third.0 last.0)) outcome last.2 in
     record {
       schema = first.0;
       schema_read = first.1;
@@ -266,7 +254,7 @@ ok_and P (Err e) h = absurd h
 if_ok : {A E : Type 0} (P : A → Type 0) (r : Result A E) (x : A) → r ≡ Ok x → IfOk r P → P x
 if_ok P r x e h = subst (λ s. IfOk s P) e h
 
-rows_written : (task : PlanWork) (query : Query) (rows : List (List Row)) (plan : AnyPlan) (out : Growth) → task.out ≡ out_texts.Rows
+rows_written : (task : PlanWork) (query : Query) (rows : List (List Row)) (plan : BushyPlan) (out : Growth) → task.out ≡ out_texts.Rows
     → GrewWhole out (out_text (Planned (run_asked task query rows plan))) → Grew out (rows_text (run_asked task query rows plan))
 rows_written task query rows plan out is written = subst (λ (t : OutText). GrewWhole out (text_for t (run_asked task query rows plan))) is written
 
@@ -287,7 +275,7 @@ module _ (schema_file query_file : List ℕ) (task : PlanWork) (is_run : task.ou
         scans = lists_by task.source s.query (tables_in s.rows);
         are_scans = scans_are s.query (tables_in s.rows) task.source;
         plan_text = plan_text (run_asked task s.query s.rows s.plan);
-        plan = prints task s.schema s.query s.rows s.plan s.planned (subst NoBoundIsTooLow back bounds) s.within;
+        plan = prints task s.query s.rows s.plan (subst NoBoundIsTooLow back bounds) s.within;
         plan_written = subst (λ (o : RunOutcome). GrewWhole notes (notes_text o)) back noted;
         rows_text = rows_text (run_asked task s.query s.rows s.plan);
         answer = record {

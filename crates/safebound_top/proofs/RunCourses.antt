@@ -1,4 +1,4 @@
--- Each command has a course. Its schema is read; then either this reading ended early, or the command ran over the schema.
+-- Each command has a course (`CallHistory`). Reading its schema ended early, or the command ran over the schema.
 use Rattle.std.proofs.Common.{◌≡◌, ℕ, inl, inr, List, Option, None, Some, Result, Ok, Err, refl, ap, sym, ◌∙◌, subst}
 use Rattle.std.specs.Prelude.{IsOk, codes}
 use Rattle.base_io.specs.Files.{Files}
@@ -14,7 +14,7 @@ use Rattle.outcomes.specs.declared.refusal.Refusal.{Refusal}
 use Rattle.outcomes.specs.declared.refusal.Refusal.TheVariants as refusal
 use Rattle.outcomes.specs.declared.status.Status.{Status}
 use Rattle.outcomes.specs.declared.status.Status.TheVariants as status
-use Rattle.outcomes.proofs.ReadFacts.{Meets, joined, reads_as, then_reads, then_stops}
+use Rattle.outcomes.proofs.ReadFacts.{IsFollowedBy, joined, reads_as, then_reads, then_stops}
 use Rattle.printed_texts.specs.Faults.{error_line, fault_line}
 use Rattle.prepared_runs.specs.RunOutcome.{RunOutcome}
 use Rattle.safebound_top.specs.Call.{Call}
@@ -43,7 +43,7 @@ pub course_unasked : (call : Call) → call.status ≡ status.Refused refusal.Us
     → StatusReported call.notes (status_line call.status None None) → CallHistory call
 course_unasked call is words misses out told = record {
   line = status_line call.status None None;
-  is_line = λ files _. ap (λ (s : Status). status_line s None None) is ∙ same files ∙ ap (λ (s : Status). fault_text s call.words files) (sym is);
+  is_line = λ files _. ap (λ (s : Status). status_line s None None) is ∙ line_is_fault_text files ∙ ap (λ (s : Status). fault_text s call.words files) (sym is);
   memory = memory_told call.status None None;
   how = Unasked (record { status = is; words = words; misses = misses; out = out; told = told });
 }
@@ -52,8 +52,8 @@ course_unasked call is words misses out told = record {
     by None schema = refl
     by (Some ask) schema = refl
 
-    same : (files : Files) → status_line (status.Refused refusal.Usage) None None ≡ fault_text (status.Refused refusal.Usage) call.words files
-    same files = by (ok_value (command_stage call.words)) (ok_value (schema_read call.words files))
+    line_is_fault_text : (files : Files) → status_line (status.Refused refusal.Usage) None None ≡ fault_text (status.Refused refusal.Usage) call.words files
+    line_is_fault_text files = by (ok_value (command_stage call.words)) (ok_value (schema_read call.words files))
 
 module _ (ask : Command) (words : List (List ℕ)) (command : command_stage words ≡ Ok ask) where
   verdict_of : (files : Files) → verdict words files ≡ command_run ask files
@@ -75,7 +75,7 @@ module _ (ask : Command) (words : List (List ℕ)) (command : command_stage word
   reached_later : (schema : Schema) (files : Files) (id : FileId) → schema_stage ask.schema_file files ≡ Ok schema → IsAimFile ask.aim schema files id → IsReached words files id
   reached_later schema files id is at' = rw (command, is) (inr at')
 
-  -- ---- the fault text of a command, when its schema was read or wasn't
+  -- ---- the fault text of a command whose schema was read, or wasn't read
 
   line_of : (s : Status) (files : Files) (r : Result Schema Refusal) → schema_stage ask.schema_file files ≡ r → status_line s (Some ask) (ok_value r) ≡ fault_text s words files
   line_of s files r is =
@@ -91,8 +91,8 @@ module _ (ask : Command) (words : List (List ℕ)) (command : command_stage word
         ends_as : (f : Failure) → e ≡ f → EndsEarly store (schema_stage ask.schema_file) (AtFile file.Schema) f
         ends_as f same = subst (EndsEarly store (schema_stage ask.schema_file) (AtFile file.Schema)) same reads.gives
 
-        any : (t : Status) → s ≡ t → ((r : Option Schema) → status_line t (Some ask) None ≡ status_line t (Some ask) r) → status_line s (Some ask) None ≡ fault_text s words files
-        any t same_as none =
+        line_by_status : (t : Status) → s ≡ t → ((r : Option Schema) → status_line t (Some ask) None ≡ status_line t (Some ask) r) → status_line s (Some ask) None ≡ fault_text s words files
+        line_by_status t same_as none =
             ap (λ (x : Status). status_line x (Some ask) None) same_as ∙ none (ok_value (schema_stage ask.schema_file files))
             ∙ line_of t files (schema_stage ask.schema_file files) refl ∙ ap (λ (x : Status). fault_text x words files) (sym same_as)
 
@@ -100,8 +100,8 @@ module _ (ask : Command) (words : List (List ℕ)) (command : command_stage word
         by (failure.Refused r) same = line_of s files (Err r) ((ends_as (failure.Refused r) same).0 files told)
         by (failure.Fault id) same =
             let at' : id ≡ file.Schema = (ends_as (failure.Fault id) same).1 files told in
-            any (status.ReadFault file.Schema) (is ∙ ap status_of_failure same ∙ ap (λ (x : FileId). status.ReadFault x) at') (schema_line ask.schema_file ask.aim)
-        by failure.NoMemory same = any status.NoMemory (is ∙ ap status_of_failure same) (λ r. refl)
+            line_by_status (status.ReadFault file.Schema) (is ∙ ap status_of_failure same ∙ ap (λ (x : FileId). status.ReadFault x) at') (schema_line ask.schema_file ask.aim)
+        by failure.NoMemory same = line_by_status status.NoMemory (is ∙ ap status_of_failure same) (λ r. refl)
 
     stopped_reads : Reads store (verdict words) (IsReached words) (Err e)
     unfolding command_run
@@ -119,7 +119,7 @@ module _ (ask : Command) (words : List (List ℕ)) (command : command_stage word
 
   -- ---- the schema was read
 
-  module _ (s : Status) (first second : Reading) (out notes : Growth) (schema : Schema) (meets : Meets first second)
+  module _ (s : Status) (first second : Reading) (out notes : Growth) (schema : Schema) (meets : IsFollowedBy first second)
       (reads : Reads first (schema_stage ask.schema_file) (AtFile file.Schema) (Ok schema)) where
     ran_reads : (answer : Result RunOutcome Failure) → Reads second (aim_run ask.aim schema) (IsAimFile ask.aim schema) answer → Reads (joined first second) (verdict words) (IsReached words) answer
     unfolding command_run

@@ -1,4 +1,4 @@
--- A command that reads the files of a shop has a course.
+-- A command that reads the files of a shop (`demo`) has a course (`CallHistory`).
 use Rattle.std.proofs.Common.{◌≡◌, ℕ, List, Option, None, Some, Result, Ok, Err, refl, sym, ◌∙◌, subst, arith}
 use Rattle.base_io.specs.Causes.{Rose}
 use Rattle.base_io.specs.Files.{Files}
@@ -28,24 +28,24 @@ module _ (number : ℕ) (store : Reading) (is : store.files ≡ Some (demo_files
   reads_shop : {A : Type 0} (stage : Files → Result A Refusal) (C : Files → FileId → Type 0) (answer : Result A Failure)
       → Reads store stage C answer → Reads (shop_store number) stage C answer
   reads_shop {A} stage C answer h = record {
-    gives = given answer h.gives;
+    gives = gives_over_shop answer h.gives;
     misses = λ files told missed. refl;
     later = omega arith;
     same = refl;
   }
     where
-      ends : (e : Failure) → EndsEarly store stage C e → EndsEarly (shop_store number) stage C e
-      ends (failure.Refused r) w = (
+      ends_over_shop : (e : Failure) → EndsEarly store stage C e → EndsEarly (shop_store number) stage C e
+      ends_over_shop (failure.Refused r) w = (
         (λ files told. w.0 files (is ∙ told)),
         (λ none. absurd (let no : ◌≡◌ {A = Option Files} (Some (demo_files number)) None = none in cc)),
         w.2,
       )
-      ends (failure.Fault file) w = absurd (calm w.0)
-      ends failure.NoMemory w = tt
+      ends_over_shop (failure.Fault file) w = absurd (calm w.0)
+      ends_over_shop failure.NoMemory w = tt
 
-      given : (answer : Result A Failure) → Gives store stage C answer → Gives (shop_store number) stage C answer
-      given (Ok x) w = λ files told. w files (is ∙ told)
-      given (Err e) w = ends e w
+      gives_over_shop : (answer : Result A Failure) → Gives store stage C answer → Gives (shop_store number) stage C answer
+      gives_over_shop (Ok x) w = λ files told. w files (is ∙ told)
+      gives_over_shop (Err e) w = ends_over_shop e w
 
   ran_shop : (s : Status) (out notes : Growth) (stage : Files → Result RunOutcome Refusal) (C : Files → FileId → Type 0) (line : List ℕ)
       → StageRan s store out notes stage C line → StageRan s (shop_store number) out notes stage C line
@@ -83,7 +83,7 @@ course_unmade ask words command number s out notes is still told = record {
   });
 }
 
--- ---- the course of a call, whose words say whether a shop's store or the caller's store is read
+-- ---- the course of a call over a shop's store or over the caller's store, as its words say
 
 abbrev of_words : List (List ℕ) → Status → Reading → Growth → Growth → Option ℕ → Call
 of_words words s handed_in out notes shop = record {

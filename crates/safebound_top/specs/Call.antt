@@ -16,7 +16,7 @@ pub record CutThenTold (old new : Option (List ℕ)) (text line : List ℕ) : Ty
   pub cut : GrewByPrefix old mid text
   pub told : GrewByPrefix mid new line
 
--- a call: its words, its status, the store that it read (`demo` reads a store of its own), and the two sinks that it wrote. `run` writes its plan to
+-- a call: its words, its status, the store that it read, and the two sinks that it wrote. `demo` reads a store of its own. `run` writes its plan to
 -- `notes` and its rows to `out`
 pub record Call : Type 0 where
   pub words : List (List ℕ)

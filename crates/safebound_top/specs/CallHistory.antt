@@ -26,7 +26,8 @@ pub record StatusReported (notes : Growth) (line : List ℕ) : Type 0 where
   pub tells : GrewByLine notes line
   pub later : notes.faults_before ≤ notes.faults_after
 
--- an outcome's text for notes was written, if there is one, and then its text for out, if there is one. After a failed write nothing more was written
+-- first the outcome's text for notes was written, and then its text for out. An outcome may lack either text. After a failed write nothing more was
+-- written
 abbrev pub AreWritten : Growth → Growth → RunOutcome → Result (Unit {0}) SinkId → Type 0
 AreWritten out notes outcome (Ok u) = GrewWhole notes (notes_text outcome) × GrewWhole out (out_text outcome)
 AreWritten out notes outcome (Err sink.Notes) = FaultsRose notes × DidNotGrow out × TookPrefix notes (notes_text outcome)

@@ -95,13 +95,13 @@ pub record WriteFaultsHaveTheirCause (call : Call) : Type 0 where
       (fault_text call.status call.words files)))
 
 -- 6. A call ends with a refusal only if the verdict is this refusal, with the same fields. The notes grew by the refusal's line, and out didn't grow.
---    Whether the refusal is Usage depends on the words alone.
+--    Whether the refusal is Usage depends only on the words.
 pub record RefusalsAreTheVerdict (call : Call) : Type 0 where
   pub usage : (call.status ≡ status.Refused refusal.Usage) ↔ (command_stage call.words ≡ Err refusal.Usage)
   pub told : (r : Refusal) → call.status ≡ status.Refused r → DidNotGrow call.out
       × OverFiles call (λ files v. (v ≡ Err r) × GrewByLine call.notes (fault_text call.status call.words files))
   -- a file is refused as missing only if the store tells its files
-  pub untold : (file : FileId) → call.status ≡ status.Refused (refusal.Missing file) → call.store.files ≢ None
+  pub missing_only_if_told : (file : FileId) → call.status ≡ status.Refused (refusal.Missing file) → call.store.files ≢ None
 
 -- 7. A call ends with a read fault only if the store's count of faults rose and the verdict reads the named file. The notes grew by the fault's line,
 --    and out didn't grow. The store that `demo` reads never counts a fault.

@@ -6,7 +6,7 @@ use Rattle.safebound_top.specs.Texts.{out_text_of, plan_text, plan_text_of}
 
 -- the plan text of a plan from a statistics file
 abbrev pub stats_file_plan_text : PlanFromStatsFile → List ℕ
-stats_file_plan_text made = plan_text_of made.query.from made.plan made.memory
+stats_file_plan_text made = plan_text_of made.query.from made.shape made.plan made.memory
 
 -- the text for notes, if there is one: the plan text
 abbrev pub notes_text : RunOutcome → Option (List ℕ)

@@ -1,5 +1,5 @@
--- What `run` promises, stated from its words, its files and SQL alone. Only the line that `--memory` adds is about the program: its number is
--- computed from the plan's bounds and the sizes of the program's own buffers and their items.
+-- What `run` promises, stated only from its words, its files and SQL. One number is the program's own: the line that `--memory` adds is computed
+-- from the plan's bounds and the sizes of the program's buffers and their items.
 --
 -- Suppose that a call of `run` ends with Done, over files that the store tells. Then the schema's file declares one schema, the query's file asks one
 -- query of it, and each FROM entry has the rows in its table's file. A plan was printed in which no bound is too low. The printed rows are those of
@@ -22,8 +22,8 @@
 -- - Nothing is promised over a store that doesn't tell its files. If a sink doesn't tell its bytes, `Grew` says only that the sink doesn't tell its
 --   bytes afterwards. The contract of stores says that a read gives the bytes of a told file (`read_at` of base_io, by `ReadsAt`). The program's own
 --   folder and streams tell nothing; docs/PROVED.md says what is trusted of this folder and these streams.
--- - Plan and rows are promised separately. The clause `buffers` (`KeepsItsBuffers`, in Kept.antt) says that the rows were found along the printed
---   plan.
+-- - Plan and rows are promised separately. The clause `buffers` (`KeepsItsBuffers`, in KeptBuffers.antt of prepared_runs) says that the rows were
+--   found along the printed plan.
 -- - The promise is only about calls that end with Done, and only about words that ask for `run`. Words ask for nothing if they have a flag or
 --   an option twice, or two flags or options that exclude each other, or a number out of its range. The headline says in which cases a call
 --   ends otherwise, and what the other commands print. A clause of the top call says that each call keeps the promise (`promise` of
@@ -47,10 +47,10 @@ use Rattle.join_steps.specs.Lists.{list_at, scans_of}
 use Rattle.reduced_scans.specs.Scans.{AreReducedScans}
 use Rattle.plans.specs.LeftDeep.{IsPlan}
 use Rattle.plans.specs.declared.left_deep.Plan.{Plan}
-use Rattle.tree_plans.specs.Orders.{tree_of_order}
-use Rattle.tree_plans.specs.TreePlans.{IsTreePlan}
-use Rattle.tree_plans.specs.declared.bushy.BushyPlan.{BushyPlan}
-use Rattle.tree_plans.specs.declared.bushy.Join.{Join}
+use Rattle.plans.specs.Orders.{tree_of_order}
+use Rattle.plans.specs.TreePlans.{IsTreePlan}
+use Rattle.plans.specs.declared.bushy.BushyPlan.{BushyPlan}
+use Rattle.plans.specs.declared.bushy.Join.{Join}
 use Rattle.tree_rows.specs.Memory.{tree_bytes}
 use Rattle.tree_rows.specs.Trees.{entries_at}
 use Rattle.printed_texts.specs.Memory.{memory_text}
@@ -110,7 +110,7 @@ AreScans sources.Keyed query tables scans = scans ≡ scans_of query tables
 AreScans sources.Reduced query tables scans = AreReducedScans query tables scans
 AreScans sources.Counted query tables scans = AreReducedScans query tables scans
 
--- the choices, of one row from the scan of each of these entries, that satisfy every conjunct which names only these entries
+-- A choice takes one row from the scan of each of these entries. These are the choices that satisfy every conjunct which names only these entries
 abbrev pub choices_over : Query → Tables → List (List ℕ) → List ℕ → List (List ℕ)
 choices_over query tables scans entries = level_over (conjuncts_of query tables) (list_at scans) entries
 
@@ -134,9 +134,9 @@ pub record HoldsOver (query : Query) (tables : Tables) (scans : List (List ℕ))
   pub nodes_fit : (k : ℕ) (join : Join) → slice_get plan.joins k ≡ Some join
       → length (choices_over query tables scans (entries_at plan (length query.from + k))) ≤ join.bound
 
--- a plan with its text: an order, or with `--bushy` a join tree. With `--memory` a last line has the number that `tree_bytes` counts from the plan; an
--- order takes the bytes of its join tree. That number is at most the limit. The clause `buffers` (`KeepsItsBuffers`, in Kept.antt) says that the buffers of the joins
--- hold exactly this number of bytes. The number doesn't count memory for reading and planning
+-- a plan with its text: an order, or with `--bushy` a join tree. With `--memory` the last line has the number of bytes that `tree_bytes` computes
+-- from the plan; an order takes the bytes of its join tree. This number is at most the limit. The clause `buffers` (`KeepsItsBuffers`) says that the
+-- buffers of the joins hold exactly this number of bytes. The number doesn't count memory for reading and planning
 pub record PrintsOrder (limit : Option ℕ) (query : Query) (tables : Tables) (scans : List (List ℕ)) (text : List ℕ) : Type 0 where
   pub plan : Plan
   pub holds : HoldsAlong query tables scans plan

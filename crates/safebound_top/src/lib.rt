@@ -7,12 +7,12 @@
 //!
 //! `safebound` has four clauses:
 //!
-//! - `promise` says what `run` has printed when it ends with Done. The clause speaks of words, files and SQL alone (`Promise` in
+//! - `promise` says what `run` has printed when it ends with Done. The clause speaks only of words, files and SQL (`Promise` in
 //!   `specs/Promise.antt`).
 //! - `headline` says what any call writes and returns, and why (`Headline` in `specs/Headline.antt`).
 //! - `untouched` says that `demo` doesn't change the caller's store.
-//! - `buffers` says that the joins wrote into the buffers of the plan, and that these have exactly the plan's bytes
-//!   (`KeepsItsBuffers` of prepared_runs). The call hands them out.
+//! - `buffers` says that the joins wrote into the buffers of the plan, and that these buffers have exactly the plan's bytes
+//!   (`KeepsItsBuffers` of prepared_runs). The call hands the buffers out.
 //!
 //! The headline speaks of `verdict` (of prepared_runs): what the words and the files determine. Each step that reads has the clause `Reads`
 //! over its stage of the verdict, and `StageRan` and `CallHistory` (in `specs/CallHistory.antt`) put the stages together.

@@ -10,10 +10,10 @@ ghost use Rattle.stats_file.specs.FileText.{file_text};
 ghost use Rattle.stats_file.specs.Rules.{KeepsRules};
 ghost use Rattle.safebound_top.specs.CallHistory.{TextsWritten, WroteIfAny};
 ghost use Rattle.safebound_top.specs.Headline.{DidNotGrow};
-ghost use Rattle.prepared_runs.specs.KeptBuffers.{HasParts, IsJoined, HasBuffersOf, KeepsPending, counts_in, plan_joined};
+ghost use Rattle.prepared_runs.specs.KeptBuffers.{HasParts, IsJoined, HasBuffersOf, KeepsPending, counts_in};
 ghost use Rattle.prepared_runs.specs.RunOutcome.{RunOutcome};
 ghost use Rattle.safebound_top.specs.OutcomeTexts.{notes_text, out_text};
-ghost use Rattle.prepared_runs.specs.PreparedQuery.{HasRoom, IsPrepared, plan_in, pending_plan, text_from};
+ghost use Rattle.prepared_runs.specs.PreparedQuery.{HasRoom, IsPrepared, pending_plan, text_from};
 ghost use Rattle.prepared_runs.specs.PreparedRun.{CanBeWritten, IsPlanned, outcome_of, plan_from, planned_outcome};
 ghost use Rattle.prepared_runs.specs.Shapes.{IsShapedPlan, joined_entries, shape_audits, shape_lines};
 
@@ -21,11 +21,13 @@ use base_io::{Failed, Sink};
 use csv_tables::Database;
 use joined_texts::{write_audit, write_rows, write_tree_audit};
 use outcomes::SinkId;
+use plans::BushyPlan;
 use prepared_runs::{
-    AnyPlan, Joined, PendingOutput, PreparedQuery, PreparedRun, PreparedStatsFilePlan, Room, join,
+    Joined, PendingOutput, PreparedQuery, PreparedRun, PreparedStatsFilePlan, join,
 };
 use printed_texts::{write_memory, write_plan, write_tree};
 use query_types::{Query, Source};
+use safebound_words::Shape;
 use schema_types::Schema;
 use stats_file::{StatsFile, write_stats};
 
@@ -39,7 +41,7 @@ fn write_joined<O: Sink>(
     requires database { IsDatabaseOf query.now db.now }
     requires joined { (lists : List (List ℕ)) × IsJoined query.now db.now lists joined.now }
     ensures { Wrote (growth O.taken O.faults out.old out.new)
-        (rows_lines query.now.select (printed_rows query.now db.now (joined_entries (plan_joined joined.now)))) result }
+        (rows_lines query.now.select (printed_rows query.now db.now (joined_entries joined.now.plan))) result }
 {
     write_rows(&joined.done, query, db, out)
 }
@@ -47,34 +49,37 @@ fn write_joined<O: Sink>(
 // Writes the audit text of a plan that was joined: how many rows each level or inner node has.
 fn write_audit_text<O: Sink>(
     joined: &Joined,
+    shape: Shape,
     query: &Query,
     db: &Database,
     out: &mut O,
 ) -> Result<(), Failed>
     requires database { IsDatabaseOf query.now db.now }
-    requires parts { HasParts (length query.now.from) joined.now }
+    requires parts { HasParts (length query.now.from) shape joined.now }
     ensures { Wrote (growth O.taken O.faults out.old out.new)
-        (shape_audits query.now.from (plan_joined joined.now) (counts_in query.now db.now joined.now)) result }
+        (shape_audits query.now.from shape joined.now.plan (counts_in query.now db.now shape joined.now)) result }
 {
-    match &joined.order {
-        Some(plan) => write_audit(&joined.done, plan, query, db, out),
-        None => write_tree_audit(&joined.done, &joined.tree, out),
+    match shape {
+        Shape::Order => write_audit(&joined.done, &joined.plan, query, db, out),
+        Shape::Tree => write_tree_audit(&joined.done, &joined.plan, out),
     }
 }
 
 // If joins are pending, does them, writes the rows text or the audit text, and hands out the buffers with the rows.
 fn join_and_write<O: Sink>(
     rest: PendingOutput,
+    shape: Shape,
     query: &Query,
     db: &Database,
     out: &mut O,
     kept: &mut Option<Joined>,
 ) -> Result<(), Failed>
     requires database { IsDatabaseOf query.now db.now }
+    requires plan { IsShapedPlan (length query.now.from) shape (pending_plan rest) }
     requires room { HasRoom query.now db.now rest }
     requires none { kept.old ≡ None }
-    ensures text { WroteIfAny (growth O.taken O.faults out.old out.new) (text_from rest query.now db.now) result }
-    ensures kept { KeepsPending query.now db.now rest kept.new }
+    ensures text { WroteIfAny (growth O.taken O.faults out.old out.new) (text_from shape rest query.now db.now) result }
+    ensures kept { KeepsPending query.now db.now shape rest kept.new }
 {
     match rest {
         PendingOutput::Rows(joins) => {
@@ -85,7 +90,7 @@ fn join_and_write<O: Sink>(
         }
         PendingOutput::Audit(joins) => {
             let joined = join(joins, query, db);
-            let result = write_audit_text(&joined, query, db, out);
+            let result = write_audit_text(&joined, shape, query, db, out);
             *kept = Some(joined);
             result
         }
@@ -93,57 +98,46 @@ fn join_and_write<O: Sink>(
     }
 }
 
-// Writes the plan text of a plan with buffers.
-fn write_plan_of_room<N: Sink>(room: &Room, sources: &[Source], notes: &mut N) -> Result<(), Failed>
-    requires { IsShapedPlan (length sources.now) (plan_in room.now) }
-    ensures { Wrote (growth N.taken N.faults notes.old notes.new) (shape_lines sources.now (plan_in room.now)) result }
+// The plan of the output that is pending.
+fn plan_of(rest: &PendingOutput) -> &BushyPlan
+    ensures { result.now ≡ pending_plan rest.now }
 {
-    match &room.order {
-        Some(plan) => write_plan(plan, sources, notes),
-        None => write_tree(&room.tree, sources, notes),
+    match rest {
+        PendingOutput::Rows(joins) => &joins.room.plan,
+        PendingOutput::Audit(joins) => &joins.room.plan,
+        PendingOutput::Nothing(plan) => plan,
     }
 }
 
-// Writes the plan text of an order or of a tree.
-fn write_shaped<N: Sink>(plan: &AnyPlan, sources: &[Source], notes: &mut N) -> Result<(), Failed>
-    requires { IsShapedPlan (length sources.now) plan.now }
-    ensures { Wrote (growth N.taken N.faults notes.old notes.new) (shape_lines sources.now plan.now) result }
-{
-    match plan {
-        AnyPlan::OrderPlan(plan) => write_plan(plan, sources, notes),
-        AnyPlan::TreePlan(plan) => write_tree(plan, sources, notes),
-    }
-}
-
-// Writes the plan text of the plan in `rest`, without the line of its bytes.
+// Writes the plan text of an order or of a tree, without the line of its bytes.
 fn write_plan_lines<N: Sink>(
-    rest: &PendingOutput,
+    shape: Shape,
+    plan: &BushyPlan,
     sources: &[Source],
     notes: &mut N,
 ) -> Result<(), Failed>
-    requires { IsShapedPlan (length sources.now) (pending_plan rest.now) }
-    ensures { Wrote (growth N.taken N.faults notes.old notes.new) (shape_lines sources.now (pending_plan rest.now)) result }
+    requires { IsShapedPlan (length sources.now) shape plan.now }
+    ensures { Wrote (growth N.taken N.faults notes.old notes.new) (shape_lines sources.now shape plan.now) result }
 {
-    match rest {
-        PendingOutput::Rows(joins) => write_plan_of_room(&joins.room, sources, notes),
-        PendingOutput::Audit(joins) => write_plan_of_room(&joins.room, sources, notes),
-        PendingOutput::Nothing(plan) => write_shaped(plan, sources, notes),
+    match shape {
+        Shape::Order => write_plan(plan, sources, notes),
+        Shape::Tree => write_tree(plan, sources, notes),
     }
 }
 
-// Writes the plan text of the plan in `rest`. If memory is limited, it adds the line with the bytes of the plan.
+// Writes the plan text of a plan. If memory is limited, it adds the line with the bytes of the plan.
 fn write_plan_text<N: Sink>(
-    rest: &PendingOutput,
+    shape: Shape,
+    plan: &BushyPlan,
     memory: Option<u64>,
     bytes: u128,
     sources: &[Source],
     notes: &mut N,
 ) -> Result<(), Failed>
-    requires { IsShapedPlan (length sources.now) (pending_plan rest.now) }
-    ensures { Wrote (growth N.taken N.faults notes.old notes.new)
-        (shape_lines sources.now (pending_plan rest.now) ++ memory_text memory bytes) result }
+    requires { IsShapedPlan (length sources.now) shape plan.now }
+    ensures { Wrote (growth N.taken N.faults notes.old notes.new) (shape_lines sources.now shape plan.now ++ memory_text memory bytes) result }
 {
-    write_plan_lines(rest, sources, notes)?;
+    write_plan_lines(shape, plan, sources, notes)?;
     write_memory(memory, bytes, notes)
 }
 
@@ -164,15 +158,17 @@ fn write_texts<O: Sink, N: Sink>(
         query,
         db,
         source: _,
+        shape,
         memory,
         bytes,
         rest,
     } = prepared;
-    match write_plan_text(&rest, memory, bytes, query.from.as_slice(), notes) {
+    let plan = plan_of(&rest);
+    match write_plan_text(shape, plan, memory, bytes, query.from.as_slice(), notes) {
         Ok(()) => {}
         Err(Failed) => return Err(SinkId::Notes),
     }
-    match join_and_write(rest, &query, &db, out, kept) {
+    match join_and_write(rest, shape, &query, &db, out, kept) {
         Ok(()) => Ok(()),
         Err(Failed) => Err(SinkId::Out),
     }
@@ -198,19 +194,19 @@ fn write_stats_file_plan<N: Sink>(made: PreparedStatsFilePlan, notes: &mut N) ->
     let PreparedStatsFilePlan {
         query,
         file: _,
+        shape,
         plan,
         memory,
         bytes,
     } = made;
-    let left = PendingOutput::Nothing(plan);
-    match write_plan_text(&left, memory, bytes, query.from.as_slice(), notes) {
+    match write_plan_text(shape, &plan, memory, bytes, query.from.as_slice(), notes) {
         Ok(()) => Ok(()),
         Err(Failed) => Err(SinkId::Notes),
     }
 }
 
-/// Writes the texts of a run: first the text for `notes`, if the run has such a text, and then the text for `out`, if the run has such a text. If the
-/// run joins, the call hands out the buffers with the rows of the joins.
+/// Writes the texts of a run: first its text for `notes`, and then its text for `out`. A run may have only one of the two. If the run joins, the call
+/// hands out the buffers with the rows of the joins.
 pub fn write_outcome<O: Sink, N: Sink>(
     ready: PreparedRun,
     schema: &Schema,

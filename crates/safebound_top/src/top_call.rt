@@ -144,7 +144,7 @@ fn run_shop<O: Sink, N: Sink>(
     }
 }
 
-// Runs a command over the files of its shop, if it asks for a shop, and otherwise over the files of this store.
+// Runs a command over the files of its shop, if it asks for one (`demo`), and otherwise over the files of this store.
 fn run_command<S: Store, O: Sink, N: Sink>(
     alloc: Global,
     command: &Command,
@@ -186,12 +186,12 @@ pub fn refuse_words<N: Sink>(notes: &mut N) -> Status
 /// words ask for the rows text or the audit text, it writes this text to `out`. If the command can't be run, one line in `notes` says why.
 ///
 /// Some commands differ. `stats` writes a statistics file to `out` and no plan. `plan --stats` reads a statistics file and no table. `append`
-/// reads a statistics file and new rows, and writes the file with these rows to `out`. `demo` reads files that it makes in memory, and
-/// leaves `store` as it is.
+/// reads a statistics file and new rows, and writes a statistics file to `out` that also counts these rows. `demo` reads files that it makes in
+/// memory, and leaves `store` as it is.
 ///
-/// After `run`, `audit` or `demo`, `kept` has the buffers of the joins, with the rows of each level or of each inner node. Their capacities
-/// times the sizes of their items sum to exactly the bytes of the plan. With `--memory N` the plan text prints these bytes, and they are at
-/// most N (sentences 1 and 9 of the headline). No other command takes buffers for joins. The caller frees them.
+/// After `run`, `audit` or `demo`, `kept` has the buffers of the joins, with the rows of each level or of each inner node. The buffers hold exactly
+/// the bytes of the plan (each capacity times the size of an item). With `--memory N` the plan text prints this number, and it is at most N
+/// (sentences 1 and 9 of the headline). No other command takes buffers for joins. The caller frees them.
 ///
 /// The contract says what `run` promises (`specs/Promise.antt`), what comes out of any call (`specs/Headline.antt`, sentence by sentence),
 /// and what the buffers hold (`KeepsItsBuffers` of prepared_runs).

@@ -9,7 +9,7 @@ use Rattle.safebound_words.specs.Table.{command_row, option_row, ◌>>=◌}
 use Rattle.safebound_words.specs.Words.{Word}
 use Rattle.safebound_words.specs.declared.table.CommandName.{CommandName}
 use Rattle.safebound_words.specs.declared.table.OptionName.{OptionName}
-use Rattle.safebound_words.proofs.WordKinds.{KindSpells, kind_spells, kind-ends, kind-gives, kind-place, kind-sets, kind-wants, named_so, names_itself}
+use Rattle.safebound_words.proofs.WordKinds.{KindSpells, kind_spells, kind-ends, kind-gives, kind-positional, kind-sets, kind-wants, word_of_named_command, names_itself}
 
 -- ---- `parts_from` reads the items and the end that words spell
 
@@ -21,7 +21,7 @@ spelled_read name [] rest after_dashes all end = elim end [
   | inr e ↦ rw (e, kind-ends name) refl
 ]
 spelled_read name (Positional word ∷ items) rest after_dashes all end =
-    rw (kind-place name word all.0, spelled_read name items rest after_dashes all.1 end) refl
+    rw (kind-positional name word all.0, spelled_read name items rest after_dashes all.1 end) refl
 spelled_read name (Flag f ∷ items) rest after_dashes all end =
     rw (kind-sets name f all.0, spelled_read name items rest after_dashes all.1 end) refl
 spelled_read name (WithNextWord o value ∷ items) rest after_dashes all end =
@@ -47,16 +47,16 @@ pub record InFront (item : Item) (from : Option ItemsAndAfterDashes) (parts : It
   pub from_is : from ≡ Some inner
   pub parts_are : parts ≡ (item ∷ inner.0, inner.1)
 
-front_so : (item : Item) (from : Option ItemsAndAfterDashes) (parts : ItemsAndAfterDashes) → in_front item from ≡ Some parts → InFront item from parts
-front_so item None parts e = cc
-front_so item (Some inner) parts e = record { inner = inner; from_is = refl; parts_are = cc }
+in_front_inversion : (item : Item) (from : Option ItemsAndAfterDashes) (parts : ItemsAndAfterDashes) → in_front item from ≡ Some parts → InFront item from parts
+in_front_inversion item None parts e = cc
+in_front_inversion item (Some inner) parts e = record { inner = inner; from_is = refl; parts_are = cc }
 
 one_more_item : (name : CommandName) (item : Item) (words inner_words : List Word) (from : Option ItemsAndAfterDashes) (parts : ItemsAndAfterDashes)
     → words ≡ spelling item ++ inner_words → IsItemOf name item
     → ((inner : ItemsAndAfterDashes) → from ≡ Some inner → IsSpelled name inner_words inner)
     → in_front item from ≡ Some parts → IsSpelled name words parts
 one_more_item name item words inner_words from parts spelled of read_on e =
-    let front = front_so item from parts e in
+    let front = in_front_inversion item from parts e in
     let inner = read_on front.inner front.from_is in
     rw front.parts_are record {
       rest = inner.rest;
@@ -91,18 +91,18 @@ value_spelled : (name : CommandName) (o : OptionName) (value : Word) (words : Li
 value_spelled name o value words parts has read_on e =
     one_more_item name (WithNextWord o value) ((option_row o).word ∷ value ∷ words) words (parts_from name None words) parts refl has read_on e
 
--- if an option waits for its value, the option's word was read just before `words`
+-- `words`, preceded by the word of the option that waits for its value, if there is one
 with_option_word : Option OptionName → List Word → List Word
 with_option_word None words = words
 with_option_word (Some o) words = (option_row o).word ∷ words
 
-Has : CommandName → Option OptionName → Type 0
-Has name None = Unit {0}
-Has name (Some o) = IsTrue (has_option name o)
+WaitingOptionIsOfCommand : CommandName → Option OptionName → Type 0
+WaitingOptionIsOfCommand name None = Unit {0}
+WaitingOptionIsOfCommand name (Some o) = IsTrue (has_option name o)
 
-spelled_from : (name : CommandName) (wanting : Option OptionName) (words : List Word) (parts : ItemsAndAfterDashes) → Has name wanting
+spelled_from : (name : CommandName) (wanting : Option OptionName) (words : List Word) (parts : ItemsAndAfterDashes) → WaitingOptionIsOfCommand name wanting
     → parts_from name wanting words ≡ Some parts → IsSpelled name (with_option_word wanting words) parts
-unfolding parts_from with_option_word Has
+unfolding parts_from with_option_word WaitingOptionIsOfCommand
 spelled_from name None [] parts has e =
     let at_end : Some ([], []) ≡ Some parts = e in
     let parts_are : parts ≡ ([], []) = cc in
@@ -116,27 +116,27 @@ spelled_from name None (word ∷ words) parts has e =
     (λ o inner h is. spelled_from name (Some o) words inner h is) e
 
 pub read_spelled : (name : CommandName) (words : List Word) (parts : ItemsAndAfterDashes) → parts_from name None words ≡ Some parts → IsSpelled name words parts
-unfolding with_option_word Has
+unfolding with_option_word WaitingOptionIsOfCommand
 read_spelled name words parts e = spelled_from name None words parts tt e
 
 -- ---- `reading_of` computes the only reading
 
-pub bind_so : {A B : Type 0} (from : Option A) (rest : A → Option B) (b : B) → from >>= rest ≡ Some b → (a : A) × (from ≡ Some a) × (rest a ≡ Some b)
-bind_so None rest b e = cc
-bind_so (Some a) rest b e = (a, refl, e)
+pub bind_inversion : {A B : Type 0} (from : Option A) (rest : A → Option B) (b : B) → from >>= rest ≡ Some b → (a : A) × (from ≡ Some a) × (rest a ≡ Some b)
+bind_inversion None rest b e = cc
+bind_inversion (Some a) rest b e = (a, refl, e)
 
 pub computed_reads : (words : List Word) (reading : CommandReading) → reading_of words ≡ Some reading → AreReadAs words reading
 unfolding reading_of
 computed_reads [] reading e = cc
 computed_reads (first ∷ words) reading e =
-    let name = bind_so (command_named first) _ reading e in
-    let parts = bind_so (parts_from name.0 None words) _ reading name.2 in
+    let name = bind_inversion (command_named first) _ reading e in
+    let parts = bind_inversion (parts_from name.0 None words) _ reading name.2 in
     let is = read_spelled name.0 words parts.0 parts.1 in
     let made : Some (record { command = name.0; items = parts.0.0; after_dashes = parts.0.1 }) ≡ Some reading = parts.2 in
     let reading_is : reading ≡ record { command = name.0; items = parts.0.0; after_dashes = parts.0.1 } = cc in
     rw reading_is record {
       rest = is.rest;
-      spelled = ap (λ w. w ∷ words) (named_so first name.0 name.1) ∙ ap (λ ws. (command_row name.0).word ∷ ws) is.spelled;
+      spelled = ap (λ w. w ∷ words) (word_of_named_command first name.0 name.1) ∙ ap (λ ws. (command_row name.0).word ∷ ws) is.spelled;
       end = is.end;
       items = is.items;
     }
@@ -153,5 +153,5 @@ asked_computed words request (reading, is, asks) = rw (reads_computed words read
 pub computed_asked : (words : List Word) (request : Command) → command_of words ≡ Some request → AskFor words request
 unfolding command_of
 computed_asked words request e =
-    let read = bind_so (reading_of words) requested request e in
+    let read = bind_inversion (reading_of words) requested request e in
     (read.0, computed_reads words read.0 read.1, read.2)

@@ -11,9 +11,9 @@ use Rattle.std.specs.List.{flat_map}
 use Rattle.std.specs.Result.{OnErr}
 use Rattle.safebound_words.specs.Answer.{WordKind, Ends, IsPositional, Sets, Wants, Gives, Unknown, ItemsAndAfterDashes, in_front, kind_of_word, parts_from, read_by}
 use Rattle.safebound_words.specs.Collected.{asked_by, asked_from, asked_with, collected, given_of, given_to, given_with, times_of, words_of}
-use Rattle.safebound_words.specs.CommandLines.{Flag, WithNextWord, Item, WithEquals, Positional, given_by, given_in, has_flag, has_option, positional_words, same_flag, same_option, set_by}
+use Rattle.safebound_words.specs.CommandLines.{Flag, WithNextWord, Item, WithEquals, Positional, given_by, given_of_items, has_flag, has_option, positional_words, same_flag, same_option, times_set_by}
 use Rattle.safebound_words.specs.Commands.{most_budget_of, over_query, shape_by, source_by, terms_by}
-use Rattle.safebound_words.specs.Table.{Given, command_row, count_alone, file_alone, flag_word, from_file, from_file_or_tables, is_set, limit_of, of_append, of_number, of_stats, option_file, option_row, over_files, over_tables, terms_given, value_of, work_given, ◌>>=◌}
+use Rattle.safebound_words.specs.Table.{Given, command_row, count_is_compatible, stats_file_is_compatible, flag_word, from_file, from_file_or_tables, flag_value, limit_of, append_request, demo_request, stats_request, option_file, option_row, over_files, over_tables, terms_given, value_of, work_given, ◌>>=◌}
 use Rattle.safebound_words.specs.Words.{Word}
 use Rattle.safebound_words.specs.declared.command.Command.{Command}
 use Rattle.safebound_words.specs.declared.command.OutText.{OutText}
@@ -43,19 +43,19 @@ same_asks name positionals positionals' given given' same values times =
     ∙ ap (λ (t : FlagName → ℕ). (command_row name).asks positionals' (record { values = given'.values; times = t })) (fun_ext times)
 
 -- the two lines have the same options and flags. They may have different positional words
-pub record IsSameBeside (new old : Line) : Type 0 where
+pub record HasSameOptionsAndFlags (new old : Line) : Type 0 where
   pub values : (o : OptionName) → given_to new o ≡ given_to old o
   pub times : (f : FlagName) → times_of new f ≡ times_of old f
 
 no_more_times : (new old : Line) (item : Item) (items : List Item) → ((f : FlagName) → times_of new f ≡ times_of old f)
-    → ((f : FlagName) → set_by f item ≡ 0) → (f : FlagName) → (given_with new items).times f ≡ (given_with old (item ∷ items)).times f
-no_more_times new old item items same none f = rw (same f) (omega (arith, sum_by-cons (set_by f) item items, none f))
+    → ((f : FlagName) → times_set_by f item ≡ 0) → (f : FlagName) → (given_with new items).times f ≡ (given_with old (item ∷ items)).times f
+no_more_times new old item items same none f = rw (same f) (omega (arith, sum_by-cons (times_set_by f) item items, none f))
 
-pub one_more_place : (name : CommandName) (new old : Line) (word : Word) (parts : ItemsAndAfterDashes)
-    → words_of new.positionals ≡ words_of old.positionals ++ word ∷ [] → IsSameBeside new old
+pub one_more_positional : (name : CommandName) (new old : Line) (word : Word) (parts : ItemsAndAfterDashes)
+    → words_of new.positionals ≡ words_of old.positionals ++ word ∷ [] → HasSameOptionsAndFlags new old
     → asked_with name new parts ≡ asked_with name old (Positional word ∷ parts.0, parts.1)
 unfolding asked_with
-one_more_place name new old word parts positionals same =
+one_more_positional name new old word parts positionals same =
     same_asks name
     (words_of new.positionals ++ (flat_map positional_words parts.0 ++ parts.1))
     (words_of old.positionals ++ (word ∷ (flat_map positional_words parts.0 ++ parts.1)))
@@ -65,11 +65,11 @@ one_more_place name new old word parts positionals same =
     (λ o. ap (λ ws. ws ++ flat_map (given_by o) parts.0) (same.values o))
     (no_more_times new old (Positional word) parts.0 same.times (λ f. refl))
 
-pub one_more_behind : (name : CommandName) (new old : Line) (word : Word) (words : List Word)
-    → words_of new.positionals ≡ words_of old.positionals ++ word ∷ [] → IsSameBeside new old
+pub one_more_after_dashes : (name : CommandName) (new old : Line) (word : Word) (words : List Word)
+    → words_of new.positionals ≡ words_of old.positionals ++ word ∷ [] → HasSameOptionsAndFlags new old
     → asked_with name new ([], words) ≡ asked_with name old ([], word ∷ words)
 unfolding asked_with
-one_more_behind name new old word words positionals same =
+one_more_after_dashes name new old word words positionals same =
     same_asks name
     (words_of new.positionals ++ words)
     (words_of old.positionals ++ (word ∷ words))
@@ -79,13 +79,13 @@ one_more_behind name new old word words positionals same =
     (λ o. ap (λ ws. ws ++ []) (same.values o))
     (λ f. ap (λ n. n + 0) (same.times f))
 
-SetsMore : Line → Line → FlagName → Type 0
-SetsMore new old f = (other : FlagName) → times_of new other ≡ times_of old other + (if same_flag other f then 1 else 0)
+AddsFlag : Line → Line → FlagName → Type 0
+AddsFlag new old f = (other : FlagName) → times_of new other ≡ times_of old other + (if same_flag other f then 1 else 0)
 
 one_more_flag : (name : CommandName) (new old : Line) (f : FlagName) (parts : ItemsAndAfterDashes)
-    → new.positionals ≡ old.positionals → ((o : OptionName) → given_to new o ≡ given_to old o) → SetsMore new old f
+    → new.positionals ≡ old.positionals → ((o : OptionName) → given_to new o ≡ given_to old o) → AddsFlag new old f
     → asked_with name new parts ≡ asked_with name old (Flag f ∷ parts.0, parts.1)
-unfolding asked_with SetsMore
+unfolding asked_with AddsFlag
 one_more_flag name new old f parts positionals values more =
     same_asks name
     (words_of new.positionals ++ (flat_map positional_words parts.0 ++ parts.1))
@@ -94,17 +94,17 @@ one_more_flag name new old f parts positionals values more =
     (given_with old (Flag f ∷ parts.0))
     (rw positionals refl)
     (λ o. ap (λ ws. ws ++ flat_map (given_by o) parts.0) (values o))
-    (λ other. omega (arith, more other, sum_by-cons (set_by other) (Flag f) parts.0))
+    (λ other. omega (arith, more other, sum_by-cons (times_set_by other) (Flag f) parts.0))
 
-GivesMore : Line → Line → OptionName → Word → Type 0
-GivesMore new old o value = (other : OptionName) → given_to new other ≡ given_to old other ++ (if same_option other o then value ∷ [] else [])
+AddsValue : Line → Line → OptionName → Word → Type 0
+AddsValue new old o value = (other : OptionName) → given_to new other ≡ given_to old other ++ (if same_option other o then value ∷ [] else [])
 
 one_more_value : (name : CommandName) (new old : Line) (item : Item) (o : OptionName) (value : Word) (parts : ItemsAndAfterDashes)
-    → positional_words item ≡ [] → ((f : FlagName) → set_by f item ≡ 0)
+    → positional_words item ≡ [] → ((f : FlagName) → times_set_by f item ≡ 0)
     → ((other : OptionName) → given_by other item ≡ (if same_option other o then value ∷ [] else []))
-    → new.positionals ≡ old.positionals → ((f : FlagName) → times_of new f ≡ times_of old f) → GivesMore new old o value
+    → new.positionals ≡ old.positionals → ((f : FlagName) → times_of new f ≡ times_of old f) → AddsValue new old o value
     → asked_with name new parts ≡ asked_with name old (item ∷ parts.0, parts.1)
-unfolding asked_with GivesMore
+unfolding asked_with AddsValue
 one_more_value name new old item o value parts none unset by positionals times given =
     same_asks name
     (words_of new.positionals ++ (flat_map positional_words parts.0 ++ parts.1))
@@ -116,58 +116,58 @@ one_more_value name new old item o value parts none unset by positionals times g
     ∙ append_assoc (given_to old other) (given_by other item) (flat_map (given_by other) parts.0))
     (no_more_times new old item parts.0 times unset)
 
-none_first : {A B : Type 0} (first : Option A) (rest : A → Option B) → first ≡ None → first >>= rest ≡ None
-none_first first rest is = rw is refl
+none_if_first_none : {A B : Type 0} (first : Option A) (rest : A → Option B) → first ≡ None → first >>= rest ≡ None
+none_if_first_none first rest is = rw is refl
 
-none_behind : {A B : Type 0} (first : Option A) (rest : A → Option B) → ((a : A) → rest a ≡ None) → first >>= rest ≡ None
-none_behind None rest all = refl
-none_behind (Some a) rest all = all a
+none_if_rest_none : {A B : Type 0} (first : Option A) (rest : A → Option B) → ((a : A) → rest a ≡ None) → first >>= rest ≡ None
+none_if_rest_none None rest all = refl
+none_if_rest_none (Some a) rest all = all a
 
 -- ---- no command has more than four positional words, or an option or flag twice
 
-files_of_two : (out : OutText) (positionals : List Word) (given : Given) → 4 < length positionals → over_files out positionals given ≡ None
+over_files_refuses_five : (out : OutText) (positionals : List Word) (given : Given) → 4 < length positionals → over_files out positionals given ≡ None
 unfolding over_files
-files_of_two out [] given many = absurd (omega arith)
-files_of_two out (a ∷ []) given many = absurd (omega arith)
-files_of_two out (a ∷ b ∷ []) given many = absurd (omega arith)
-files_of_two out (a ∷ b ∷ d ∷ rest) given many = refl
+over_files_refuses_five out [] given many = absurd (omega arith)
+over_files_refuses_five out (a ∷ []) given many = absurd (omega arith)
+over_files_refuses_five out (a ∷ b ∷ []) given many = absurd (omega arith)
+over_files_refuses_five out (a ∷ b ∷ d ∷ rest) given many = refl
 
-one_at_most : (positionals : List Word) (given : Given) → 4 < length positionals → of_number positionals given ≡ None
-one_at_most [] given many = absurd (omega arith)
-one_at_most (a ∷ []) given many = absurd (omega arith)
-one_at_most (a ∷ b ∷ rest) given many = refl
+demo_refuses_five : (positionals : List Word) (given : Given) → 4 < length positionals → demo_request positionals given ≡ None
+demo_refuses_five [] given many = absurd (omega arith)
+demo_refuses_five (a ∷ []) given many = absurd (omega arith)
+demo_refuses_five (a ∷ b ∷ rest) given many = refl
 
-stats_of_two : (positionals : List Word) (given : Given) → 4 < length positionals → of_stats positionals given ≡ None
-stats_of_two [] given many = absurd (omega arith)
-stats_of_two (a ∷ []) given many = absurd (omega arith)
-stats_of_two (a ∷ b ∷ []) given many = absurd (omega arith)
-stats_of_two (a ∷ b ∷ d ∷ rest) given many = refl
+stats_refuses_five : (positionals : List Word) (given : Given) → 4 < length positionals → stats_request positionals given ≡ None
+stats_refuses_five [] given many = absurd (omega arith)
+stats_refuses_five (a ∷ []) given many = absurd (omega arith)
+stats_refuses_five (a ∷ b ∷ []) given many = absurd (omega arith)
+stats_refuses_five (a ∷ b ∷ d ∷ rest) given many = refl
 
-append_of_four : (positionals : List Word) (given : Given) → 4 < length positionals → of_append positionals given ≡ None
-append_of_four [] given many = absurd (omega arith)
-append_of_four (a ∷ []) given many = absurd (omega arith)
-append_of_four (a ∷ b ∷ []) given many = absurd (omega arith)
-append_of_four (a ∷ b ∷ d ∷ []) given many = absurd (omega arith)
-append_of_four (a ∷ b ∷ d ∷ e ∷ []) given many = absurd (omega arith)
-append_of_four (a ∷ b ∷ d ∷ e ∷ f ∷ rest) given many = refl
+append_refuses_five : (positionals : List Word) (given : Given) → 4 < length positionals → append_request positionals given ≡ None
+append_refuses_five [] given many = absurd (omega arith)
+append_refuses_five (a ∷ []) given many = absurd (omega arith)
+append_refuses_five (a ∷ b ∷ []) given many = absurd (omega arith)
+append_refuses_five (a ∷ b ∷ d ∷ []) given many = absurd (omega arith)
+append_refuses_five (a ∷ b ∷ d ∷ e ∷ []) given many = absurd (omega arith)
+append_refuses_five (a ∷ b ∷ d ∷ e ∷ f ∷ rest) given many = refl
 
-too_many : (name : CommandName) (positionals : List Word) (given : Given) → 4 < length positionals → (command_row name).asks positionals given ≡ None
-too_many command.Run = files_of_two out_text.Rows
-too_many command.Plan = files_of_two out_text.Nothing
-too_many command.Audit = files_of_two out_text.Audit
-too_many command.Stats = stats_of_two
-too_many command.Append = append_of_four
-too_many command.Demo = one_at_most
+none_if_five_positionals : (name : CommandName) (positionals : List Word) (given : Given) → 4 < length positionals → (command_row name).asks positionals given ≡ None
+none_if_five_positionals command.Run = over_files_refuses_five out_text.Rows
+none_if_five_positionals command.Plan = over_files_refuses_five out_text.Nothing
+none_if_five_positionals command.Audit = over_files_refuses_five out_text.Audit
+none_if_five_positionals command.Stats = stats_refuses_five
+none_if_five_positionals command.Append = append_refuses_five
+none_if_five_positionals command.Demo = demo_refuses_five
 
-too_often : (o : OptionName) (words : List Word) → 1 < length words → value_of o words ≡ None
-too_often o [] many = absurd (omega arith)
-too_often o (a ∷ []) many = absurd (omega arith)
-too_often o (a ∷ b ∷ rest) many = refl
+no_value_if_given_twice : (o : OptionName) (words : List Word) → 1 < length words → value_of o words ≡ None
+no_value_if_given_twice o [] many = absurd (omega arith)
+no_value_if_given_twice o (a ∷ []) many = absurd (omega arith)
+no_value_if_given_twice o (a ∷ b ∷ rest) many = refl
 
-no_file : (words : List Word) → 1 < length words → option_file words ≡ None
-no_file [] many = absurd (omega arith)
-no_file (a ∷ []) many = absurd (omega arith)
-no_file (a ∷ b ∷ rest) many = refl
+no_file_if_given_twice : (words : List Word) → 1 < length words → option_file words ≡ None
+no_file_if_given_twice [] many = absurd (omega arith)
+no_file_if_given_twice (a ∷ []) many = absurd (omega arith)
+no_file_if_given_twice (a ∷ b ∷ rest) many = refl
 
 -- whether a flag names a source of bounds
 abbrev IsSource : FlagName → Type 0
@@ -176,7 +176,7 @@ IsSource flag.Reduce = Unit {0}
 IsSource flag.Keys = Unit {0}
 IsSource flag.Count = Unit {0}
 
-none_if_set_twice : (n : ℕ) → 1 < n → is_set n ≡ None
+none_if_set_twice : (n : ℕ) → 1 < n → flag_value n ≡ None
 none_if_set_twice zero many = absurd (omega arith)
 none_if_set_twice (suc zero) many = absurd (omega arith)
 none_if_set_twice (suc (suc more)) many = refl
@@ -187,107 +187,107 @@ module _ (given : Given) where
   by_bushy bytes budget bushy = if nat_le budget (most_budget_of (shape_by bushy)) then Some (terms_by budget bushy (limit_of bytes)) else None
 
   abbrev by_budget : ℕ → ℕ → Option PlanTerms
-  by_budget bytes budget = is_set (given.times flag.Bushy) >>= λ bushy. by_bushy bytes budget bushy
+  by_budget bytes budget = flag_value (given.times flag.Bushy) >>= λ bushy. by_bushy bytes budget bushy
 
   abbrev by_memory : ℕ → Option PlanTerms
   by_memory bytes = value_of option.Budget (given.values option.Budget) >>= λ budget. by_budget bytes budget
 
-  no_limit : 1 < length (given.values option.Memory) → terms_given given ≡ None
-  no_limit many = none_first (value_of option.Memory (given.values option.Memory)) (λ bytes. by_memory bytes) (too_often option.Memory (given.values option.Memory) many)
+  no_terms_if_memory_twice : 1 < length (given.values option.Memory) → terms_given given ≡ None
+  no_terms_if_memory_twice many = none_if_first_none (value_of option.Memory (given.values option.Memory)) (λ bytes. by_memory bytes) (no_value_if_given_twice option.Memory (given.values option.Memory) many)
 
-  no_budget : 1 < length (given.values option.Budget) → terms_given given ≡ None
-  no_budget many =
-      none_behind (value_of option.Memory (given.values option.Memory)) (λ bytes. by_memory bytes)
-      (λ bytes. none_first (value_of option.Budget (given.values option.Budget)) (λ budget. by_budget bytes budget) (too_often option.Budget (given.values option.Budget) many))
+  no_terms_if_budget_twice : 1 < length (given.values option.Budget) → terms_given given ≡ None
+  no_terms_if_budget_twice many =
+      none_if_rest_none (value_of option.Memory (given.values option.Memory)) (λ bytes. by_memory bytes)
+      (λ bytes. none_if_first_none (value_of option.Budget (given.values option.Budget)) (λ budget. by_budget bytes budget) (no_value_if_given_twice option.Budget (given.values option.Budget) many))
 
-  no_shape : 1 < given.times flag.Bushy → terms_given given ≡ None
-  no_shape many =
-      none_behind (value_of option.Memory (given.values option.Memory)) (λ bytes. by_memory bytes)
-      (λ bytes. none_behind (value_of option.Budget (given.values option.Budget)) (λ budget. by_budget bytes budget)
-      (λ budget. none_first (is_set (given.times flag.Bushy)) (λ bushy. by_bushy bytes budget bushy) (none_if_set_twice (given.times flag.Bushy) many)))
+  no_terms_if_bushy_twice : 1 < given.times flag.Bushy → terms_given given ≡ None
+  no_terms_if_bushy_twice many =
+      none_if_rest_none (value_of option.Memory (given.values option.Memory)) (λ bytes. by_memory bytes)
+      (λ bytes. none_if_rest_none (value_of option.Budget (given.values option.Budget)) (λ budget. by_budget bytes budget)
+      (λ budget. none_if_first_none (flag_value (given.times flag.Bushy)) (λ bushy. by_bushy bytes budget bushy) (none_if_set_twice (given.times flag.Bushy) many)))
 
 -- ---- `over_tables` is None if `--accuracy` or a flag for a source of bounds is given twice
 module _ (out : OutText) (terms : PlanTerms) (given : Given) where
   abbrev by_count : ℕ → Bool → Bool → Bool → Option QueryTask
   by_count accuracy reduce keys count = if keys && reduce then None
-      else if count && not (count_alone given reduce keys) then None
+      else if count && not (count_is_compatible given reduce keys) then None
       else Some (works.Plan (record { terms = terms; accuracy = accuracy; source = source_by reduce keys count; out = out }))
 
   abbrev by_keys : ℕ → Bool → Bool → Option QueryTask
-  by_keys accuracy reduce keys = is_set (given.times flag.Count) >>= λ count. by_count accuracy reduce keys count
+  by_keys accuracy reduce keys = flag_value (given.times flag.Count) >>= λ count. by_count accuracy reduce keys count
 
   abbrev by_reduce : ℕ → Bool → Option QueryTask
-  by_reduce accuracy reduce = is_set (given.times flag.Keys) >>= λ keys. by_keys accuracy reduce keys
+  by_reduce accuracy reduce = flag_value (given.times flag.Keys) >>= λ keys. by_keys accuracy reduce keys
 
   abbrev by_accuracy : ℕ → Option QueryTask
-  by_accuracy accuracy = is_set (given.times flag.Reduce) >>= λ reduce. by_reduce accuracy reduce
+  by_accuracy accuracy = flag_value (given.times flag.Reduce) >>= λ reduce. by_reduce accuracy reduce
 
-  tables_without_accuracy : 1 < length (given.values option.Accuracy) → over_tables out terms given ≡ None
-  tables_without_accuracy many =
-      none_first (value_of option.Accuracy (given.values option.Accuracy)) (λ accuracy. by_accuracy accuracy) (too_often option.Accuracy (given.values option.Accuracy) many)
+  tables_refuse_second_accuracy : 1 < length (given.values option.Accuracy) → over_tables out terms given ≡ None
+  tables_refuse_second_accuracy many =
+      none_if_first_none (value_of option.Accuracy (given.values option.Accuracy)) (λ accuracy. by_accuracy accuracy) (no_value_if_given_twice option.Accuracy (given.values option.Accuracy) many)
 
-  many_keys : (accuracy : ℕ) (reduce : Bool) → 1 < given.times flag.Keys → by_reduce accuracy reduce ≡ None
-  many_keys accuracy reduce many = none_first (is_set (given.times flag.Keys)) (λ keys. by_keys accuracy reduce keys) (none_if_set_twice (given.times flag.Keys) many)
+  none_if_keys_twice : (accuracy : ℕ) (reduce : Bool) → 1 < given.times flag.Keys → by_reduce accuracy reduce ≡ None
+  none_if_keys_twice accuracy reduce many = none_if_first_none (flag_value (given.times flag.Keys)) (λ keys. by_keys accuracy reduce keys) (none_if_set_twice (given.times flag.Keys) many)
 
-  many_counts : (accuracy : ℕ) (reduce : Bool) → 1 < given.times flag.Count → by_reduce accuracy reduce ≡ None
-  many_counts accuracy reduce many =
-      none_behind (is_set (given.times flag.Keys)) (λ keys. by_keys accuracy reduce keys)
-      (λ keys. none_first (is_set (given.times flag.Count)) (λ count. by_count accuracy reduce keys count) (none_if_set_twice (given.times flag.Count) many))
+  none_if_count_twice : (accuracy : ℕ) (reduce : Bool) → 1 < given.times flag.Count → by_reduce accuracy reduce ≡ None
+  none_if_count_twice accuracy reduce many =
+      none_if_rest_none (flag_value (given.times flag.Keys)) (λ keys. by_keys accuracy reduce keys)
+      (λ keys. none_if_first_none (flag_value (given.times flag.Count)) (λ count. by_count accuracy reduce keys count) (none_if_set_twice (given.times flag.Count) many))
 
-  many_sources : (accuracy : ℕ) (f : FlagName) → IsSource f → 1 < given.times f → by_accuracy accuracy ≡ None
-  many_sources accuracy flag.Reduce is many = none_first (is_set (given.times flag.Reduce)) (λ reduce. by_reduce accuracy reduce) (none_if_set_twice (given.times flag.Reduce) many)
-  many_sources accuracy flag.Bushy is many = absurd is
-  many_sources accuracy flag.Keys is many =
-      none_behind (is_set (given.times flag.Reduce)) (λ reduce. by_reduce accuracy reduce) (λ reduce. many_keys accuracy reduce many)
-  many_sources accuracy flag.Count is many =
-      none_behind (is_set (given.times flag.Reduce)) (λ reduce. by_reduce accuracy reduce) (λ reduce. many_counts accuracy reduce many)
+  none_if_source_twice : (accuracy : ℕ) (f : FlagName) → IsSource f → 1 < given.times f → by_accuracy accuracy ≡ None
+  none_if_source_twice accuracy flag.Reduce is many = none_if_first_none (flag_value (given.times flag.Reduce)) (λ reduce. by_reduce accuracy reduce) (none_if_set_twice (given.times flag.Reduce) many)
+  none_if_source_twice accuracy flag.Bushy is many = absurd is
+  none_if_source_twice accuracy flag.Keys is many =
+      none_if_rest_none (flag_value (given.times flag.Reduce)) (λ reduce. by_reduce accuracy reduce) (λ reduce. none_if_keys_twice accuracy reduce many)
+  none_if_source_twice accuracy flag.Count is many =
+      none_if_rest_none (flag_value (given.times flag.Reduce)) (λ reduce. by_reduce accuracy reduce) (λ reduce. none_if_count_twice accuracy reduce many)
 
-  tables_without_flag : (f : FlagName) → IsSource f → 1 < given.times f → over_tables out terms given ≡ None
-  tables_without_flag f is many =
-      none_behind (value_of option.Accuracy (given.values option.Accuracy)) (λ accuracy. by_accuracy accuracy) (λ accuracy. many_sources accuracy f is many)
+  tables_refuse_second_flag : (f : FlagName) → IsSource f → 1 < given.times f → over_tables out terms given ≡ None
+  tables_refuse_second_flag f is many =
+      none_if_rest_none (value_of option.Accuracy (given.values option.Accuracy)) (λ accuracy. by_accuracy accuracy) (λ accuracy. none_if_source_twice accuracy f is many)
 
 -- ---- `from_file` is None if a flag for a source of bounds is given twice, since it excludes these flags
 
-nowhere : (b : Bool) → (b && false) ≡ false
-nowhere true = refl
-nowhere false = refl
+and_false : (b : Bool) → (b && false) ≡ false
+and_false true = refl
+and_false false = refl
 
-flag_twice : (n : ℕ) → 1 < n → (n == 0) ≡ false
-flag_twice n many = ne_eqb n 0 (λ e. absurd (omega (arith, e, many)))
+not_zero_if_twice : (n : ℕ) → 1 < n → (n == 0) ≡ false
+not_zero_if_twice n many = ne_eqb n 0 (λ e. absurd (omega (arith, e, many)))
 
 flags_twice : (given : Given) (f : FlagName) → IsSource f → 1 < given.times f → (given.times flag.Reduce == 0 && (given.times flag.Keys == 0 && given.times flag.Count == 0)) ≡ false
-flags_twice given flag.Reduce is many = let some = flag_twice (given.times flag.Reduce) many in rw some refl
+flags_twice given flag.Reduce is many = let some = not_zero_if_twice (given.times flag.Reduce) many in rw some refl
 flags_twice given flag.Bushy is many = absurd is
-flags_twice given flag.Keys is many = let some = flag_twice (given.times flag.Keys) many in rw some (nowhere (given.times flag.Reduce == 0))
+flags_twice given flag.Keys is many = let some = not_zero_if_twice (given.times flag.Keys) many in rw some (and_false (given.times flag.Reduce == 0))
 flags_twice given flag.Count is many =
-    let some = flag_twice (given.times flag.Count) many in rw some (rw (nowhere (given.times flag.Keys == 0)) (nowhere (given.times flag.Reduce == 0)))
+    let some = not_zero_if_twice (given.times flag.Count) many in rw some (rw (and_false (given.times flag.Keys == 0)) (and_false (given.times flag.Reduce == 0)))
 
-times_twice : (given : Given) (f : FlagName) → IsSource f → 1 < given.times f → file_alone given ≡ false
-times_twice given f is many = let some = flags_twice given f is many in rw some (nowhere (length (given.values option.Accuracy) == 0))
+times_twice : (given : Given) (f : FlagName) → IsSource f → 1 < given.times f → stats_file_is_compatible given ≡ false
+times_twice given f is many = let some = flags_twice given f is many in rw some (and_false (length (given.values option.Accuracy) == 0))
 
 words_twice : (words : List Word) (b : Bool) → 1 < length words → (length words == 0 && b) ≡ false
 words_twice words b many = let some : (length words == 0) ≡ false = ne_eqb (length words) 0 (λ e. absurd (omega (arith, e, many))) in rw some refl
 
-not_alone : (file : Word) (terms : PlanTerms) (given : Given) → file_alone given ≡ false → from_file file terms given ≡ None
-not_alone file terms given beside = rw beside refl
+incompatible_file_is_none : (file : Word) (terms : PlanTerms) (given : Given) → stats_file_is_compatible given ≡ false → from_file file terms given ≡ None
+incompatible_file_is_none file terms given beside = rw beside refl
 
 -- ---- `over_files` is None if an option or flag is given twice, with a statistics file or without
 
 module _ (out : OutText) (terms : PlanTerms) (given : Given) where
-  either_without_accuracy : (file : Option Word) → 1 < length (given.values option.Accuracy) → from_file_or_tables out file terms given ≡ None
-  either_without_accuracy None many = tables_without_accuracy out terms given many
-  either_without_accuracy (Some file) many =
-      not_alone file terms given (words_twice (given.values option.Accuracy) (given.times flag.Reduce == 0 && (given.times flag.Keys == 0 && given.times flag.Count == 0)) many)
+  either_refuses_second_accuracy : (file : Option Word) → 1 < length (given.values option.Accuracy) → from_file_or_tables out file terms given ≡ None
+  either_refuses_second_accuracy None many = tables_refuse_second_accuracy out terms given many
+  either_refuses_second_accuracy (Some file) many =
+      incompatible_file_is_none file terms given (words_twice (given.values option.Accuracy) (given.times flag.Reduce == 0 && (given.times flag.Keys == 0 && given.times flag.Count == 0)) many)
 
-  either_without_flag : (file : Option Word) (f : FlagName) → IsSource f → 1 < given.times f → from_file_or_tables out file terms given ≡ None
-  either_without_flag None f is many = tables_without_flag out terms given f is many
-  either_without_flag (Some file) f is many = not_alone file terms given (times_twice given f is many)
+  either_refuses_second_flag : (file : Option Word) (f : FlagName) → IsSource f → 1 < given.times f → from_file_or_tables out file terms given ≡ None
+  either_refuses_second_flag None f is many = tables_refuse_second_flag out terms given f is many
+  either_refuses_second_flag (Some file) f is many = incompatible_file_is_none file terms given (times_twice given f is many)
 
   no_work : ((file : Option Word) → from_file_or_tables out file terms given ≡ None) → work_given out terms given ≡ None
-  no_work none = none_behind (option_file (given.values option.Stats)) (λ file. from_file_or_tables out file terms given) none
+  no_work none = none_if_rest_none (option_file (given.values option.Stats)) (λ file. from_file_or_tables out file terms given) none
 
   no_second_file : 1 < length (given.values option.Stats) → work_given out terms given ≡ None
-  no_second_file many = none_first (option_file (given.values option.Stats)) (λ file. from_file_or_tables out file terms given) (no_file (given.values option.Stats) many)
+  no_second_file many = none_if_first_none (option_file (given.values option.Stats)) (λ file. from_file_or_tables out file terms given) (no_file_if_given_twice (given.values option.Stats) many)
 
 module _ (out : OutText) (given : Given) where
   abbrev by_terms : Word → Word → PlanTerms → Option Command
@@ -297,7 +297,7 @@ module _ (out : OutText) (given : Given) where
   unfolding over_files
   without_terms none [] = refl
   without_terms none (a ∷ []) = refl
-  without_terms none (a ∷ b ∷ []) = none_first (terms_given given) (λ terms. by_terms a b terms) none
+  without_terms none (a ∷ b ∷ []) = none_if_first_none (terms_given given) (λ terms. by_terms a b terms) none
   without_terms none (a ∷ b ∷ d ∷ rest) = refl
 
   without_work : ((terms : PlanTerms) → work_given out terms given ≡ None) → (positionals : List Word) → over_files out positionals given ≡ None
@@ -305,83 +305,83 @@ module _ (out : OutText) (given : Given) where
   without_work none [] = refl
   without_work none (a ∷ []) = refl
   without_work none (a ∷ b ∷ []) =
-      none_behind (terms_given given) (λ terms. by_terms a b terms)
-      (λ terms. none_first (work_given out terms given) (λ work. Some (over_query None a b work)) (none terms))
+      none_if_rest_none (terms_given given) (λ terms. by_terms a b terms)
+      (λ terms. none_if_first_none (work_given out terms given) (λ work. Some (over_query None a b work)) (none terms))
   without_work none (a ∷ b ∷ d ∷ rest) = refl
 
-  files_without_flag : (f : FlagName) → 1 < given.times f → (positionals : List Word) → over_files out positionals given ≡ None
-  files_without_flag flag.Bushy many = without_terms (no_shape given many)
-  files_without_flag flag.Reduce many = without_work (λ terms. no_work out terms given (λ file. either_without_flag out terms given file flag.Reduce tt many))
-  files_without_flag flag.Keys many = without_work (λ terms. no_work out terms given (λ file. either_without_flag out terms given file flag.Keys tt many))
-  files_without_flag flag.Count many = without_work (λ terms. no_work out terms given (λ file. either_without_flag out terms given file flag.Count tt many))
+  files_refuse_second_flag : (f : FlagName) → 1 < given.times f → (positionals : List Word) → over_files out positionals given ≡ None
+  files_refuse_second_flag flag.Bushy many = without_terms (no_terms_if_bushy_twice given many)
+  files_refuse_second_flag flag.Reduce many = without_work (λ terms. no_work out terms given (λ file. either_refuses_second_flag out terms given file flag.Reduce tt many))
+  files_refuse_second_flag flag.Keys many = without_work (λ terms. no_work out terms given (λ file. either_refuses_second_flag out terms given file flag.Keys tt many))
+  files_refuse_second_flag flag.Count many = without_work (λ terms. no_work out terms given (λ file. either_refuses_second_flag out terms given file flag.Count tt many))
 
-  files_without_option : (o : OptionName) → 1 < length (given.values o) → (positionals : List Word) → over_files out positionals given ≡ None
-  files_without_option option.Budget many = without_terms (no_budget given many)
-  files_without_option option.Memory many = without_terms (no_limit given many)
-  files_without_option option.Accuracy many = without_work (λ terms. no_work out terms given (λ file. either_without_accuracy out terms given file many))
-  files_without_option option.Stats many = without_work (λ terms. no_second_file out terms given many)
+  files_refuse_second_option : (o : OptionName) → 1 < length (given.values o) → (positionals : List Word) → over_files out positionals given ≡ None
+  files_refuse_second_option option.Budget many = without_terms (no_terms_if_budget_twice given many)
+  files_refuse_second_option option.Memory many = without_terms (no_terms_if_memory_twice given many)
+  files_refuse_second_option option.Accuracy many = without_work (λ terms. no_work out terms given (λ file. either_refuses_second_accuracy out terms given file many))
+  files_refuse_second_option option.Stats many = without_work (λ terms. no_second_file out terms given many)
 
-no_accuracy : (positionals : List Word) (given : Given) → 1 < length (given.values option.Accuracy) → of_stats positionals given ≡ None
-no_accuracy [] given many = refl
-no_accuracy (a ∷ []) given many = refl
-no_accuracy (a ∷ b ∷ []) given many = ap (option_map (λ accuracy. over_query None a b (works.WriteStats accuracy))) (too_often option.Accuracy (given.values option.Accuracy) many)
-no_accuracy (a ∷ b ∷ d ∷ rest) given many = refl
+stats_refuse_second_accuracy : (positionals : List Word) (given : Given) → 1 < length (given.values option.Accuracy) → stats_request positionals given ≡ None
+stats_refuse_second_accuracy [] given many = refl
+stats_refuse_second_accuracy (a ∷ []) given many = refl
+stats_refuse_second_accuracy (a ∷ b ∷ []) given many = ap (option_map (λ accuracy. over_query None a b (works.WriteStats accuracy))) (no_value_if_given_twice option.Accuracy (given.values option.Accuracy) many)
+stats_refuse_second_accuracy (a ∷ b ∷ d ∷ rest) given many = refl
 
 flag_refused : (name : CommandName) (f : FlagName) (positionals : List Word) (given : Given) → IsTrue (has_flag name f) → 1 < given.times f
     → (command_row name).asks positionals given ≡ None
-flag_refused command.Run f positionals given has many = files_without_flag out_text.Rows given f many positionals
-flag_refused command.Plan f positionals given has many = files_without_flag out_text.Nothing given f many positionals
-flag_refused command.Audit f positionals given has many = files_without_flag out_text.Audit given f many positionals
+flag_refused command.Run f positionals given has many = files_refuse_second_flag out_text.Rows given f many positionals
+flag_refused command.Plan f positionals given has many = files_refuse_second_flag out_text.Nothing given f many positionals
+flag_refused command.Audit f positionals given has many = files_refuse_second_flag out_text.Audit given f many positionals
 flag_refused command.Stats f positionals given has many = absurd (false≢true has)
 flag_refused command.Append f positionals given has many = absurd (false≢true has)
 flag_refused command.Demo f positionals given has many = absurd (false≢true has)
 
-refused : (name : CommandName) (o : OptionName) (positionals : List Word) (given : Given) → IsTrue (has_option name o) → 1 < length (given.values o)
+option_refused : (name : CommandName) (o : OptionName) (positionals : List Word) (given : Given) → IsTrue (has_option name o) → 1 < length (given.values o)
     → (command_row name).asks positionals given ≡ None
-refused command.Run o positionals given has many = files_without_option out_text.Rows given o many positionals
-refused command.Plan o positionals given has many = files_without_option out_text.Nothing given o many positionals
-refused command.Audit o positionals given has many = files_without_option out_text.Audit given o many positionals
-refused command.Stats option.Budget positionals given has many = absurd (false≢true has)
-refused command.Stats option.Accuracy positionals given has many = no_accuracy positionals given many
-refused command.Stats option.Memory positionals given has many = absurd (false≢true has)
-refused command.Stats option.Stats positionals given has many = absurd (false≢true has)
-refused command.Append o positionals given has many = absurd (false≢true has)
-refused command.Demo o positionals given has many = absurd (false≢true has)
+option_refused command.Run o positionals given has many = files_refuse_second_option out_text.Rows given o many positionals
+option_refused command.Plan o positionals given has many = files_refuse_second_option out_text.Nothing given o many positionals
+option_refused command.Audit o positionals given has many = files_refuse_second_option out_text.Audit given o many positionals
+option_refused command.Stats option.Budget positionals given has many = absurd (false≢true has)
+option_refused command.Stats option.Accuracy positionals given has many = stats_refuse_second_accuracy positionals given many
+option_refused command.Stats option.Memory positionals given has many = absurd (false≢true has)
+option_refused command.Stats option.Stats positionals given has many = absurd (false≢true has)
+option_refused command.Append o positionals given has many = absurd (false≢true has)
+option_refused command.Demo o positionals given has many = absurd (false≢true has)
 
-full_place : (name : CommandName) (line : Line) (word : Word) (parts : ItemsAndAfterDashes) → length (words_of line.positionals) ≡ 4
+fifth_positional_refused : (name : CommandName) (line : Line) (word : Word) (parts : ItemsAndAfterDashes) → length (words_of line.positionals) ≡ 4
     → asked_with name line (Positional word ∷ parts.0, parts.1) ≡ None
 unfolding asked_with
-full_place name line word parts full =
-    too_many name _ _ (omega (arith, length-append (words_of line.positionals) (word ∷ (flat_map positional_words parts.0 ++ parts.1))))
+fifth_positional_refused name line word parts full =
+    none_if_five_positionals name _ _ (omega (arith, length-append (words_of line.positionals) (word ∷ (flat_map positional_words parts.0 ++ parts.1))))
 
-pub full_after_dashes : (name : CommandName) (line : Line) (word : Word) (words : List Word) → length (words_of line.positionals) ≡ 4
+pub fifth_after_dashes_refused : (name : CommandName) (line : Line) (word : Word) (words : List Word) → length (words_of line.positionals) ≡ 4
     → asked_with name line ([], word ∷ words) ≡ None
 unfolding asked_with
-full_after_dashes name line word words full =
-    too_many name _ _ (omega (arith, length-append (words_of line.positionals) (word ∷ words)))
+fifth_after_dashes_refused name line word words full =
+    none_if_five_positionals name _ _ (omega (arith, length-append (words_of line.positionals) (word ∷ words)))
 
 same_itself : (o : OptionName) → same_option o o ≡ true
 same_itself o = (bytes_eq-Decides (option_row o).word (option_row o).word).1 refl
 
-twice : (name : CommandName) (line : Line) (item : Item) (o : OptionName) (value : Word) (parts : ItemsAndAfterDashes) → IsTrue (has_option name o)
+second_value_refused : (name : CommandName) (line : Line) (item : Item) (o : OptionName) (value : Word) (parts : ItemsAndAfterDashes) → IsTrue (has_option name o)
     → given_by o item ≡ (if same_option o o then value ∷ [] else [])
     → length (given_to line o) ≡ 1 → asked_with name line (item ∷ parts.0, parts.1) ≡ None
 unfolding asked_with
-twice name line item o value parts has by again =
+second_value_refused name line item o value parts has by again =
     let gives : given_by o item ≡ value ∷ [] = by ∙ rw (same_itself o) refl in
     let words : given_by o item ++ flat_map (given_by o) parts.0 ≡ value ∷ flat_map (given_by o) parts.0 = ap (λ ws. ws ++ flat_map (given_by o) parts.0) gives in
-    refused name o _ (given_with line (item ∷ parts.0)) has
+    option_refused name o _ (given_with line (item ∷ parts.0)) has
     (rw words (omega (arith, length-append (given_to line o) (value ∷ flat_map (given_by o) parts.0))))
 
 flag_itself : (f : FlagName) → same_flag f f ≡ true
 flag_itself f = (bytes_eq-Decides (flag_word f) (flag_word f)).1 refl
 
-twice_set : (name : CommandName) (line : Line) (f : FlagName) (parts : ItemsAndAfterDashes) → IsTrue (has_flag name f)
+second_flag_refused : (name : CommandName) (line : Line) (f : FlagName) (parts : ItemsAndAfterDashes) → IsTrue (has_flag name f)
     → times_of line f ≡ 1 → asked_with name line (Flag f ∷ parts.0, parts.1) ≡ None
 unfolding asked_with
-twice_set name line f parts has again =
-    let one : set_by f (Flag f) ≡ 1 = rw (flag_itself f) refl in
-    flag_refused name f _ (given_with line (Flag f ∷ parts.0)) has (omega (arith, again, one, sum_by-cons (set_by f) (Flag f) parts.0))
+second_flag_refused name line f parts has again =
+    let one : times_set_by f (Flag f) ≡ 1 = rw (flag_itself f) refl in
+    flag_refused name f _ (given_with line (Flag f ∷ parts.0)) has (omega (arith, again, one, sum_by-cons (times_set_by f) (Flag f) parts.0))
 
 -- ---- steps of the walk, by the kind of the word
 
@@ -404,11 +404,11 @@ read_so name word words kind is = ap (λ k. read_by k word words (λ wanted. par
 pub wanted : (name : CommandName) (word : Word) (o : OptionName) → Wants o ≡ kind_of_word name word → IsTrue (has_option name o)
 wanted name word o is = let so = kind_spells name word in (rw (← is) at so).1
 
-pub gives_own : (name : CommandName) (word : Word) (o : OptionName) (value : Word) → Gives o value ≡ kind_of_word name word → IsTrue (has_option name o)
-gives_own name word o value is = let so = kind_spells name word in (rw (← is) at so).1
+pub given_is_of_command : (name : CommandName) (word : Word) (o : OptionName) (value : Word) → Gives o value ≡ kind_of_word name word → IsTrue (has_option name o)
+given_is_of_command name word o value is = let so = kind_spells name word in (rw (← is) at so).1
 
-sets_own : (name : CommandName) (word : Word) (f : FlagName) → Sets f ≡ kind_of_word name word → IsTrue (has_flag name f)
-sets_own name word f is = let so = kind_spells name word in (rw (← is) at so).1
+set_is_of_command : (name : CommandName) (word : Word) (f : FlagName) → Sets f ≡ kind_of_word name word → IsTrue (has_flag name f)
+set_is_of_command name word f is = let so = kind_spells name word in (rw (← is) at so).1
 
 pub end_step : (name : CommandName) (line : Line) (word : Word) → Ends ≡ kind_of_word name word → (words : List Word)
     → asked_from name line next.Positional words ≡ asked_from name line next.Item (word ∷ words)
@@ -425,26 +425,26 @@ pub unknown_refused : (name : CommandName) (line : Line) (word : Word) → Unkno
 unfolding asked_from
 unknown_refused name line word is words = rw (read_so name word words Unknown is) refl
 
-pub place_step : (name : CommandName) (new old : Line) (word : Word) → IsPositional ≡ kind_of_word name word
-    → words_of new.positionals ≡ words_of old.positionals ++ word ∷ [] → IsSameBeside new old → (words : List Word)
+pub positional_step : (name : CommandName) (new old : Line) (word : Word) → IsPositional ≡ kind_of_word name word
+    → words_of new.positionals ≡ words_of old.positionals ++ word ∷ [] → HasSameOptionsAndFlags new old → (words : List Word)
     → asked_from name new next.Item words ≡ asked_from name old next.Item (word ∷ words)
 unfolding asked_from
-place_step name new old word is positionals same words =
+positional_step name new old word is positionals same words =
     rw (read_so name word words IsPositional is)
-    (front_asked name new old (Positional word) (parts_from name None words) (λ p. one_more_place name new old word p positionals same))
+    (front_asked name new old (Positional word) (parts_from name None words) (λ p. one_more_positional name new old word p positionals same))
 
-pub place_refused : (name : CommandName) (line : Line) (word : Word) → IsPositional ≡ kind_of_word name word → length (words_of line.positionals) ≡ 4
+pub positional_refused : (name : CommandName) (line : Line) (word : Word) → IsPositional ≡ kind_of_word name word → length (words_of line.positionals) ≡ 4
     → (words : List Word) → asked_from name line next.Item (word ∷ words) ≡ None
 unfolding asked_from
-place_refused name line word is full words =
+positional_refused name line word is full words =
     rw (read_so name word words IsPositional is)
-    (front_refused name line (Positional word) (parts_from name None words) (λ p. full_place name line word p full))
+    (front_refused name line (Positional word) (parts_from name None words) (λ p. fifth_positional_refused name line word p full))
 
 pub flag_step : (name : CommandName) (new old : Line) (word : Word) (f : FlagName) → Sets f ≡ kind_of_word name word
     → new.positionals ≡ old.positionals → ((o : OptionName) → given_to new o ≡ given_to old o)
     → ((other : FlagName) → times_of new other ≡ times_of old other + (if same_flag other f then 1 else 0))
     → (words : List Word) → asked_from name new next.Item words ≡ asked_from name old next.Item (word ∷ words)
-unfolding asked_from SetsMore
+unfolding asked_from AddsFlag
 flag_step name new old word f is positionals values more words =
     rw (read_so name word words (Sets f) is)
     (front_asked name new old (Flag f) (parts_from name None words) (λ p. one_more_flag name new old f p positionals values more))
@@ -454,13 +454,13 @@ pub flag_again : (name : CommandName) (line : Line) (word : Word) (f : FlagName)
 unfolding asked_from
 flag_again name line word f is again words =
     rw (read_so name word words (Sets f) is)
-    (front_refused name line (Flag f) (parts_from name None words) (λ p. twice_set name line f p (sets_own name word f is) again))
+    (front_refused name line (Flag f) (parts_from name None words) (λ p. second_flag_refused name line f p (set_is_of_command name word f is) again))
 
 pub joined_step : (name : CommandName) (new old : Line) (word : Word) (o : OptionName) (value : Word) → Gives o value ≡ kind_of_word name word
     → new.positionals ≡ old.positionals → ((f : FlagName) → times_of new f ≡ times_of old f)
     → ((other : OptionName) → given_to new other ≡ given_to old other ++ (if same_option other o then value ∷ [] else []))
     → (words : List Word) → asked_from name new next.Item words ≡ asked_from name old next.Item (word ∷ words)
-unfolding asked_from GivesMore
+unfolding asked_from AddsValue
 joined_step name new old word o value is positionals times given words =
     rw (read_so name word words (Gives o value) is)
     (front_asked name new old (WithEquals o value) (parts_from name None words)
@@ -472,13 +472,13 @@ unfolding asked_from
 joined_refused name line word o value is again words =
     rw (read_so name word words (Gives o value) is)
     (front_refused name line (WithEquals o value) (parts_from name None words)
-    (λ p. twice name line (WithEquals o value) o value p (gives_own name word o value is) refl again))
+    (λ p. second_value_refused name line (WithEquals o value) o value p (given_is_of_command name word o value is) refl again))
 
 pub value_step : (name : CommandName) (new old : Line) (o : OptionName) (value : Word)
     → new.positionals ≡ old.positionals → ((f : FlagName) → times_of new f ≡ times_of old f)
     → ((other : OptionName) → given_to new other ≡ given_to old other ++ (if same_option other o then value ∷ [] else []))
     → (words : List Word) → asked_from name new next.Item words ≡ asked_from name old (next.Value o) (value ∷ words)
-unfolding asked_from parts_from GivesMore
+unfolding asked_from parts_from AddsValue
 value_step name new old o value positionals times given words =
     front_asked name new old (WithNextWord o value) (parts_from name None words)
     (λ p. one_more_value name new old (WithNextWord o value) o value p refl (λ f. refl) (λ other. refl) positionals times given)
@@ -488,22 +488,22 @@ pub value_refused : (name : CommandName) (line : Line) (o : OptionName) (value :
 unfolding asked_from parts_from
 value_refused name line o value has again words =
     front_refused name line (WithNextWord o value) (parts_from name None words)
-    (λ p. twice name line (WithNextWord o value) o value p has refl again)
+    (λ p. second_value_refused name line (WithNextWord o value) o value p has refl again)
 
 pub after_dashes_step : (name : CommandName) (new old : Line) (word : Word)
-    → words_of new.positionals ≡ words_of old.positionals ++ word ∷ [] → IsSameBeside new old → (words : List Word)
+    → words_of new.positionals ≡ words_of old.positionals ++ word ∷ [] → HasSameOptionsAndFlags new old → (words : List Word)
     → asked_from name new next.Positional words ≡ asked_from name old next.Positional (word ∷ words)
 unfolding asked_from
-after_dashes_step name new old word positionals same words = one_more_behind name new old word words positionals same
+after_dashes_step name new old word positionals same words = one_more_after_dashes name new old word words positionals same
 
-pub behind_refused : (name : CommandName) (line : Line) (word : Word) → length (words_of line.positionals) ≡ 4
+pub after_dashes_refused : (name : CommandName) (line : Line) (word : Word) → length (words_of line.positionals) ≡ 4
     → (words : List Word) → asked_from name line next.Positional (word ∷ words) ≡ None
 unfolding asked_from
-behind_refused name line word full words = full_after_dashes name line word words full
+after_dashes_refused name line word full words = fifth_after_dashes_refused name line word words full
 
-pub anyway : {T E P : Type 0} (r : Result T E) → P → OnErr r P
-anyway (Ok value) holds = tt
-anyway (Err error) holds = holds
+pub true_on_err : {T E P : Type 0} (r : Result T E) → P → OnErr r P
+true_on_err (Ok value) holds = tt
+true_on_err (Err error) holds = holds
 
 -- ---- the start and the end of the walk
 
@@ -522,7 +522,7 @@ start_asked name line words positionals given times =
     (words_of line.positionals ++ (flat_map positional_words parts.0 ++ parts.1))
     (flat_map positional_words parts.0 ++ parts.1)
     (given_with line parts.0)
-    (given_in parts.0)
+    (given_of_items parts.0)
     (ap (λ ws. ws ++ (flat_map positional_words parts.0 ++ parts.1)) positionals)
     (λ o. ap (λ ws. ws ++ flat_map (given_by o) parts.0) (given o))
     (λ f. omega (arith, times f))))
@@ -539,8 +539,8 @@ never_set flag.Count = refl
 pub first_asked : (name : CommandName) (words : List Word) → asked_from name no_words next.Item words ≡ asked_by name words
 first_asked name words = start_asked name no_words words refl (nothing_given no_words refl refl refl refl) never_set
 
-none_left : (words : List (Bor (List ℕ))) (i : ℕ) → length words ≤ i → map (λ w. w.now) (drop i words) ≡ []
-none_left words i past = rw (drop_all i words past) refl
+no_words_left : (words : List (Bor (List ℕ))) (i : ℕ) → length words ≤ i → map (λ w. w.now) (drop i words) ≡ []
+no_words_left words i past = rw (drop_all i words past) refl
 
 nothing_more : (name : CommandName) (line : Line) → collected name line ≡ asked_with name line ([], [])
 unfolding asked_with
@@ -551,14 +551,14 @@ nothing_more name line =
 pub line_ended : (name : CommandName) (line : Line) (words : List (Bor (List ℕ))) (i : ℕ) (all : Option Command) → length words ≤ i
     → asked_from name line next.Item (map (λ w. w.now) (drop i words)) ≡ all → collected name line ≡ all
 unfolding asked_from parts_from
-line_ended name line words i all past is = let none = none_left words i past in nothing_more name line ∙ rw none at is
+line_ended name line words i all past is = let none = no_words_left words i past in nothing_more name line ∙ rw none at is
 
-pub behind_ended : (name : CommandName) (line : Line) (words : List (Bor (List ℕ))) (i : ℕ) (all : Option Command) → length words ≤ i
+pub line_ended_after_dashes : (name : CommandName) (line : Line) (words : List (Bor (List ℕ))) (i : ℕ) (all : Option Command) → length words ≤ i
     → asked_from name line next.Positional (map (λ w. w.now) (drop i words)) ≡ all → collected name line ≡ all
 unfolding asked_from parts_from
-behind_ended name line words i all past is = let none = none_left words i past in nothing_more name line ∙ rw none at is
+line_ended_after_dashes name line words i all past is = let none = no_words_left words i past in nothing_more name line ∙ rw none at is
 
 pub value_missing : (name : CommandName) (line : Line) (o : OptionName) (words : List (Bor (List ℕ))) (i : ℕ) (all : Option Command) → length words ≤ i
     → asked_from name line (next.Value o) (map (λ w. w.now) (drop i words)) ≡ all → all ≡ None
 unfolding asked_from parts_from
-value_missing name line o words i all past is = let none = none_left words i past in sym (rw none at is)
+value_missing name line o words i all past is = let none = no_words_left words i past in sym (rw none at is)

@@ -1,4 +1,4 @@
--- Kinds of words (`kind_of_word`). The lemmas give the kind of each word in the table of commands. Conversely, they say what a word of each kind is.
+-- Kinds of words (`kind_of_word`). The lemmas give the kind of each word in the table of commands. They also say what a word of each kind is.
 use Rattle.std.proofs.Common.{◌≡◌, ◌⊎◌, ℕ, ◌==◌, Bool, true, false, cond, if◌then◌else◌, List, [], ◌∷◌, ◌++◌, Option, Some, None, MatchOption, sym, refl, ap, ◌∙◌, codes, inl, inr, append_assoc}
 use Rattle.std.proofs.lemmas.Bool.{eqb-true, false≢true, or_left, or_right}
 use Rattle.std.proofs.lemmas.Slice.Eq.{bytes_eq-Decides}
@@ -16,7 +16,7 @@ use Rattle.safebound_words.specs.declared.table.FlagName.TheVariants as flag
 use Rattle.safebound_words.specs.declared.table.OptionName.{OptionName}
 use Rattle.safebound_words.specs.declared.table.OptionName.TheVariants as option
 
--- ---- the kind of a word in the table. A new command, option or flag takes a line in each of these lemmas
+-- ---- the kind of a word in the table. For a new command, option or flag, each of these lemmas needs one more line
 
 pub names_itself : (name : CommandName) → command_named (command_row name).word ≡ Some name
 names_itself command.Run = refl
@@ -112,15 +112,15 @@ pub kind-ends : (name : CommandName) → kind_of_word name (codes "--") ≡ Ends
 unfolding kind_of_word
 kind-ends name = refl
 
-place_of_two : (name : CommandName) (word : Word) (same : Bool) → (same ≡ true → word ≡ codes "--") → is_dashed word ≡ false
+positional_if_not_dashes : (name : CommandName) (word : Word) (same : Bool) → (same ≡ true → word ≡ codes "--") → is_dashed word ≡ false
     → cond same Ends (cond (is_dashed word) (dashed_kind (flag_named name word) (option_kind (option_named name (split_value word).0) (split_value word).1)) IsPositional)
     ≡ IsPositional
-place_of_two name word true two place = absurd (false≢true (sym place ∙ ap is_dashed (two refl)))
-place_of_two name word false two place = rw place refl
+positional_if_not_dashes name word true two place = absurd (false≢true (sym place ∙ ap is_dashed (two refl)))
+positional_if_not_dashes name word false two place = rw place refl
 
-pub kind-place : (name : CommandName) (word : Word) → is_dashed word ≡ false → kind_of_word name word ≡ IsPositional
+pub kind-positional : (name : CommandName) (word : Word) → is_dashed word ≡ false → kind_of_word name word ≡ IsPositional
 unfolding kind_of_word
-kind-place name word place = place_of_two name word (bytes_eq word (codes "--")) (bytes_eq-Decides word (codes "--")).0 place
+kind-positional name word place = positional_if_not_dashes name word (bytes_eq word (codes "--")) (bytes_eq-Decides word (codes "--")).0 place
 
 -- ---- the row of the table for a word of a given kind
 
@@ -128,25 +128,25 @@ chosen : {X : Type 0} (b : Bool) (x y : X) (rest : Option X) → cond b (Some x)
 chosen true x y rest e = inl (refl, cc)
 chosen false x y rest e = inr (refl, e)
 
-found_so : {X : Type 0} (p q : X → Bool) (xs : List X) (x : X) → find p xs ≡ Some x → (p x ≡ true) × (q x ≡ true → list_any q xs ≡ true)
-found_so p q [] x e = cc
-found_so p q (y ∷ ys) x e = elim (chosen (p y) y x (find p ys) e) [
+found_inversion : {X : Type 0} (p q : X → Bool) (xs : List X) (x : X) → find p xs ≡ Some x → (p x ≡ true) × (q x ≡ true → list_any q xs ≡ true)
+found_inversion p q [] x e = cc
+found_inversion p q (y ∷ ys) x e = elim (chosen (p y) y x (find p ys) e) [
   | inl w ↦ (ap p (sym w.1) ∙ w.0, λ passes. or_left (q y) (list_any q ys) (ap q w.1 ∙ passes))
-  | inr w ↦ let rest = found_so p q ys x w.1 in (rest.0, λ passes. or_right (q y) (list_any q ys) (rest.1 passes))
+  | inr w ↦ let rest = found_inversion p q ys x w.1 in (rest.0, λ passes. or_right (q y) (list_any q ys) (rest.1 passes))
 ]
 
-pub named_so : (word : Word) (name : CommandName) → command_named word ≡ Some name → word ≡ (command_row name).word
-named_so word name found =
-    (bytes_eq-Decides word (command_row name).word).0 (found_so (λ n. bytes_eq word (command_row n).word) (λ n. true) (command.Run ∷ command.Plan ∷ command.Audit ∷ command.Stats ∷ command.Append ∷ command.Demo ∷ []) name found).0
+pub word_of_named_command : (word : Word) (name : CommandName) → command_named word ≡ Some name → word ≡ (command_row name).word
+word_of_named_command word name found =
+    (bytes_eq-Decides word (command_row name).word).0 (found_inversion (λ n. bytes_eq word (command_row n).word) (λ n. true) (command.Run ∷ command.Plan ∷ command.Audit ∷ command.Stats ∷ command.Append ∷ command.Demo ∷ []) name found).0
 
-option_so : (name : CommandName) (word : Word) (o : OptionName) → option_named name word ≡ Some o → (word ≡ (option_row o).word) × IsTrue (has_option name o)
-option_so name word o found =
-    let so = found_so (λ other. bytes_eq word (option_row other).word) (same_option o) (command_row name).options o found in
+word_of_named_option : (name : CommandName) (word : Word) (o : OptionName) → option_named name word ≡ Some o → (word ≡ (option_row o).word) × IsTrue (has_option name o)
+word_of_named_option name word o found =
+    let so = found_inversion (λ other. bytes_eq word (option_row other).word) (same_option o) (command_row name).options o found in
     ((bytes_eq-Decides word (option_row o).word).0 so.0, so.1 ((bytes_eq-Decides (option_row o).word (option_row o).word).1 refl))
 
-flag_so : (name : CommandName) (word : Word) (f : FlagName) → flag_named name word ≡ Some f → (word ≡ flag_word f) × IsTrue (has_flag name f)
-flag_so name word f found =
-    let so = found_so (λ other. bytes_eq word (flag_word other)) (same_flag f) (command_row name).flags f found in
+word_of_named_flag : (name : CommandName) (word : Word) (f : FlagName) → flag_named name word ≡ Some f → (word ≡ flag_word f) × IsTrue (has_flag name f)
+word_of_named_flag name word f found =
+    let so = found_inversion (λ other. bytes_eq word (flag_word other)) (same_flag f) (command_row name).flags f found in
     ((bytes_eq-Decides word (flag_word f)).0 so.0, so.1 ((bytes_eq-Decides (flag_word f) (flag_word f)).1 refl))
 
 IsOfParts : Word → Word → Option Word → Type 0
@@ -177,26 +177,26 @@ KindSpells name word (Wants o) = (word ≡ (option_row o).word) × IsTrue (has_o
 KindSpells name word (Gives o value) = (word ≡ (option_row o).word ++ codes "=" ++ value) × IsTrue (has_option name o)
 KindSpells name word Unknown = Unit {0}
 
-told_option : (name : CommandName) (word front : Word) (found : Option OptionName) (value : Option Word)
+option_kind_spells : (name : CommandName) (word front : Word) (found : Option OptionName) (value : Option Word)
     → found ≡ option_named name front → IsOfParts word front value → KindSpells name word (option_kind found value)
 unfolding IsOfParts
-told_option name word front None value found is = tt
-told_option name word front (Some o) None found is = let so = option_so name front o (sym found) in (is ∙ so.0, so.1)
-told_option name word front (Some o) (Some v) found is =
-    let so = option_so name front o (sym found) in
+option_kind_spells name word front None value found is = tt
+option_kind_spells name word front (Some o) None found is = let so = word_of_named_option name front o (sym found) in (is ∙ so.0, so.1)
+option_kind_spells name word front (Some o) (Some v) found is =
+    let so = word_of_named_option name front o (sym found) in
     (is ∙ ap (λ w. w ++ 61 ∷ v) so.0 ∙ sym (append_assoc (option_row o).word (codes "=") v), so.1)
 
-told_dashed : (name : CommandName) (word : Word) (found : Option FlagName) → found ≡ flag_named name word
+dashed_kind_spells : (name : CommandName) (word : Word) (found : Option FlagName) → found ≡ flag_named name word
     → KindSpells name word (dashed_kind found (option_kind (option_named name (split_value word).0) (split_value word).1))
-told_dashed name word None found = told_option name word (split_value word).0 (option_named name (split_value word).0) (split_value word).1 refl (are_parts word)
-told_dashed name word (Some f) found = flag_so name word f (sym found)
+dashed_kind_spells name word None found = option_kind_spells name word (split_value word).0 (option_named name (split_value word).0) (split_value word).1 refl (are_parts word)
+dashed_kind_spells name word (Some f) found = word_of_named_flag name word f (sym found)
 
-told_branch : (name : CommandName) (word : Word) (same dashed : Bool) → (same ≡ true → word ≡ codes "--") → dashed ≡ is_dashed word
+branch_kind_spells : (name : CommandName) (word : Word) (same dashed : Bool) → (same ≡ true → word ≡ codes "--") → dashed ≡ is_dashed word
     → KindSpells name word (cond same Ends (cond dashed (dashed_kind (flag_named name word) (option_kind (option_named name (split_value word).0) (split_value word).1)) IsPositional))
-told_branch name word true dashed two is = two refl
-told_branch name word false true two is = told_dashed name word (flag_named name word) refl
-told_branch name word false false two is = sym is
+branch_kind_spells name word true dashed two is = two refl
+branch_kind_spells name word false true two is = dashed_kind_spells name word (flag_named name word) refl
+branch_kind_spells name word false false two is = sym is
 
 pub kind_spells : (name : CommandName) (word : Word) → KindSpells name word (kind_of_word name word)
 unfolding kind_of_word
-kind_spells name word = told_branch name word (bytes_eq word (codes "--")) (is_dashed word) (bytes_eq-Decides word (codes "--")).0 refl
+kind_spells name word = branch_kind_spells name word (bytes_eq word (codes "--")) (is_dashed word) (bytes_eq-Decides word (codes "--")).0 refl

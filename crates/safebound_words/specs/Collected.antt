@@ -5,7 +5,7 @@ use Rattle.std.specs.Bool.{IsTrue}
 use Rattle.std.specs.List.{flat_map, sum_by}
 use Rattle.std.specs.Option.{option_map, option_to_list}
 use Rattle.safebound_words.specs.Answer.{ItemsAndAfterDashes, parts_from}
-use Rattle.safebound_words.specs.CommandLines.{Item, given_by, has_option, positional_words, requested, set_by}
+use Rattle.safebound_words.specs.CommandLines.{Item, given_by, has_option, positional_words, requested, times_set_by}
 use Rattle.safebound_words.specs.declared.command.Command.{Command}
 use Rattle.safebound_words.specs.Table.{Given, command_row, ◌>>=◌}
 use Rattle.safebound_words.specs.Words.{Word}
@@ -51,16 +51,16 @@ given_of line = record { values = given_to line; times = times_of line }
 abbrev pub given_with : Line → List Item → Given
 given_with line items = record {
   values = λ option. given_to line option ++ flat_map (given_by option) items;
-  times = λ flag. times_of line flag + sum_by (set_by flag) items;
+  times = λ flag. times_of line flag + sum_by (times_set_by flag) items;
 }
 
--- the reading of the remaining words. `next` says what the first of them may be
+-- the reading of the remaining words. `next` says what the first of these words may be
 abbrev pub parts_next : CommandName → Next → List Word → Option ItemsAndAfterDashes
 parts_next name next.Item words = parts_from name None words
 parts_next name (next.Value option) words = parts_from name (Some option) words
 parts_next name next.Positional words = Some ([], words)
 
--- the command that a line alone asks for, if any
+-- the command that a line asks for if no words remain, if any
 abbrev pub collected : CommandName → Line → Option Command
 collected name line = (command_row name).asks (words_of line.positionals) (given_of line)
 

@@ -10,7 +10,8 @@ use Rattle.safebound_words.specs.declared.table.CommandName.{CommandName}
 use Rattle.safebound_words.specs.declared.table.FlagName.{FlagName}
 use Rattle.safebound_words.specs.declared.table.OptionName.{OptionName}
 
--- an item comes before `--`. It is a positional word, a flag, or an option and its value. These two are two words, or one word with =
+-- an item comes before `--`. It is a positional word, a flag, or an option and its value. An option and its value are two words, or one word with
+-- `=` between them
 pub data Item : Type 0 where
   Positional : Word → Item
   Flag : FlagName → Item
@@ -77,22 +78,22 @@ given_by option (Flag flag) = []
 given_by option (WithNextWord other value) = if same_option option other then value ∷ [] else []
 given_by option (WithEquals other value) = if same_option option other then value ∷ [] else []
 
-abbrev pub set_by : FlagName → Item → ℕ
-set_by flag (Positional word) = 0
-set_by flag (Flag other) = if same_flag flag other then 1 else 0
-set_by flag (WithNextWord option value) = 0
-set_by flag (WithEquals option value) = 0
+abbrev pub times_set_by : FlagName → Item → ℕ
+times_set_by flag (Positional word) = 0
+times_set_by flag (Flag other) = if same_flag flag other then 1 else 0
+times_set_by flag (WithNextWord option value) = 0
+times_set_by flag (WithEquals option value) = 0
 
 -- the values that items give to each option, and how often they have each flag
-abbrev pub given_in : List Item → Given
-given_in items = record {
+abbrev pub given_of_items : List Item → Given
+given_of_items items = record {
   values = λ option. flat_map (given_by option) items;
-  times = λ flag. sum_by (set_by flag) items;
+  times = λ flag. sum_by (times_set_by flag) items;
 }
 
 -- the command that a reading asks for, if any
 abbrev pub requested : CommandReading → Option Command
-requested reading = (command_row reading.command).asks (flat_map positional_words reading.items ++ reading.after_dashes) (given_in reading.items)
+requested reading = (command_row reading.command).asks (flat_map positional_words reading.items ++ reading.after_dashes) (given_of_items reading.items)
 
 -- the words ask for this command: some reading of them requests it
 abbrev pub AskFor : List Word → Command → Type 0

@@ -15,8 +15,8 @@ use Rattle.safebound_words.specs.declared.command.Shape.TheVariants as shapes
 use Rattle.safebound_words.specs.declared.command.QueryTask.{QueryTask}
 use Rattle.safebound_words.specs.declared.command.QueryTask.TheVariants as works
 
--- the command to do `work` on the query in a file, over the schema in a file. If `shop` is Some n, both are generated files, of the example shop
--- number n
+-- the command to do `work` on the query in a file, over the schema in a file. If `shop` is Some n, both files are generated, for the example
+-- shop number n
 abbrev pub over_query : Option ℕ → Word → Word → QueryTask → Command
 over_query shop schema query work = record { schema_file = schema; aim = aims.Query query work; shop = shop }
 
@@ -41,7 +41,8 @@ shape_by true = shapes.Tree
 abbrev pub terms_by : ℕ → Bool → Option ℕ → PlanTerms
 terms_by budget bushy memory = record { budget = budget; shape = shape_by bushy; memory = memory }
 
--- planning over tables. Its parts are the text for `out`, a budget, an accuracy, a source of bounds, `--bushy` and the limit of memory, if any
+-- planning over tables. The arguments are the text for `out`, a budget, an accuracy, a source of bounds, whether `--bushy` is given, and the limit of
+-- memory, if there is one
 abbrev pub plan_work : OutText → ℕ → ℕ → ListSource → Bool → Option ℕ → QueryTask
 plan_work out budget accuracy source bushy memory =
     works.Plan (record { terms = terms_by budget bushy memory; accuracy = accuracy; source = source; out = out })

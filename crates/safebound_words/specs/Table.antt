@@ -1,5 +1,5 @@
--- The table of commands, options and flags, with one row for each. A positional word (in names: `place`) is an argument that isn't an option, an
--- option's value, or a flag.
+-- The table of commands, options and flags, with one row for each. A positional word is an argument that is neither an option nor
+-- a flag, and no option's value.
 use Rattle.std.specs.Prelude.{ℕ, ◌^◌, ◌-◌, ◌==◌, ◌&&◌, ◌||◌, not, nat_le, if◌then◌else◌, suc, zero, Bool, true, false, List, [], ◌∷◌, length, Option, Some, None, codes}
 use Rattle.std.specs.Option.{option_map}
 use Rattle.limits.specs.Profile.{least_accuracy, least_budget, most_accuracy, most_budget, most_memory, default_accuracy, default_budget}
@@ -68,21 +68,22 @@ abbrev pub limit_of : ℕ → Option ℕ
 limit_of bytes = if bytes == 0 then None else Some bytes
 
 -- whether a word may be a file's name: it isn't empty, and doesn't begin with a dash
-abbrev pub is_file : Word → Bool
-is_file [] = false
-is_file (first ∷ rest) = not (first == 45)
+abbrev pub is_file_name : Word → Bool
+is_file_name [] = false
+is_file_name (first ∷ rest) = not (first == 45)
 
--- the file that an option names: Some None without the option. It is None if the option is given twice or its word can't be a file's name
+-- the file that an option names, or Some None without the option. The result is None if the option is given twice, or if its word can't be a file's
+-- name
 abbrev pub option_file : List Word → Option (Option Word)
 option_file [] = Some None
-option_file (word ∷ []) = if is_file word then Some (Some word) else None
+option_file (word ∷ []) = if is_file_name word then Some (Some word) else None
 option_file (word ∷ another ∷ words) = None
 
 -- whether a flag is given. There is no result if it is given twice or more
-abbrev pub is_set : ℕ → Option Bool
-is_set zero = Some false
-is_set (suc zero) = Some true
-is_set (suc (suc more)) = None
+abbrev pub flag_value : ℕ → Option Bool
+flag_value zero = Some false
+flag_value (suc zero) = Some true
+flag_value (suc (suc more)) = None
 
 -- a command: its word, its options and its flags. `asks` is the command that it asks for, from the positional words, values and flags of the line
 pub record CommandRow : Type 0 where
@@ -105,32 +106,32 @@ abbrev pub terms_given : Given → Option PlanTerms
 terms_given given = do
   bytes ← value_of option.Memory (given.values option.Memory)
   budget ← value_of option.Budget (given.values option.Budget)
-  bushy ← is_set (given.times flag.Bushy)
+  bushy ← flag_value (given.times flag.Bushy)
   if nat_le budget (most_budget_of (shape_by bushy)) then Some (terms_by budget bushy (limit_of bytes)) else None
 
 -- whether neither another source of bounds nor an accuracy is given. `--count` requires this. It compresses nothing, so an accuracy makes no sense
-abbrev pub count_alone : Given → Bool → Bool → Bool
-count_alone given reduce keys = not (reduce || (keys || not (length (given.values option.Accuracy) == 0)))
+abbrev pub count_is_compatible : Given → Bool → Bool → Bool
+count_is_compatible given reduce keys = not (reduce || (keys || not (length (given.values option.Accuracy) == 0)))
 
 -- a plan over tables. At most one of `--reduce`, `--keys` and `--count` may be given, and `--count` only without an accuracy
 abbrev pub over_tables : OutText → PlanTerms → Given → Option QueryTask
 over_tables out terms given = do
   accuracy ← value_of option.Accuracy (given.values option.Accuracy)
-  reduce ← is_set (given.times flag.Reduce)
-  keys ← is_set (given.times flag.Keys)
-  count ← is_set (given.times flag.Count)
+  reduce ← flag_value (given.times flag.Reduce)
+  keys ← flag_value (given.times flag.Keys)
+  count ← flag_value (given.times flag.Count)
   if keys && reduce then None
-      else if count && not (count_alone given reduce keys) then None
+      else if count && not (count_is_compatible given reduce keys) then None
       else Some (works.Plan (record { terms = terms; accuracy = accuracy; source = source_by reduce keys count; out = out }))
 
 -- whether neither an accuracy nor another source of bounds is given: a statistics file has its own accuracy
-abbrev pub file_alone : Given → Bool
-file_alone given =
+abbrev pub stats_file_is_compatible : Given → Bool
+stats_file_is_compatible given =
     length (given.values option.Accuracy) == 0 && (given.times flag.Reduce == 0 && (given.times flag.Keys == 0 && given.times flag.Count == 0))
 
 -- a plan from a statistics file
 abbrev pub from_file : Word → PlanTerms → Given → Option QueryTask
-from_file file terms given = if file_alone given then Some (works.PlanFromStats file terms) else None
+from_file file terms given = if stats_file_is_compatible given then Some (works.PlanFromStats file terms) else None
 
 -- a plan from a statistics file if one is given, otherwise a plan over tables
 abbrev pub from_file_or_tables : OutText → Option Word → PlanTerms → Given → Option QueryTask
@@ -149,25 +150,25 @@ over_files out (schema ∷ query ∷ []) given = do
 over_files out positionals given = None
 
 -- `stats` takes exactly two positional words, SCHEMA and QUERY. It may have an accuracy
-abbrev pub of_stats : List Word → Given → Option Command
-of_stats (schema ∷ query ∷ []) given = option_map (λ accuracy. over_query None schema query (works.WriteStats accuracy)) (value_of option.Accuracy (given.values option.Accuracy))
-of_stats positionals given = None
+abbrev pub stats_request : List Word → Given → Option Command
+stats_request (schema ∷ query ∷ []) given = option_map (λ accuracy. over_query None schema query (works.WriteStats accuracy)) (value_of option.Accuracy (given.values option.Accuracy))
+stats_request positionals given = None
 
 -- `append` takes exactly four positional words: SCHEMA, STATS, TABLE and ROWS
-abbrev pub of_append : List Word → Given → Option Command
-of_append (schema ∷ file ∷ table ∷ rows ∷ []) given = Some (append_command schema (record { stats_file = file; table = table; rows_file = rows }))
-of_append positionals given = None
+abbrev pub append_request : List Word → Given → Option Command
+append_request (schema ∷ file ∷ table ∷ rows ∷ []) given = Some (append_command schema (record { stats_file = file; table = table; rows_file = rows }))
+append_request positionals given = None
 
 -- `demo` takes exactly one positional word, NUMBER
-abbrev pub of_number : List Word → Given → Option Command
-of_number (number ∷ []) given = option_map demo_of (number_within 0 (2 ^ 32 - 1) number)
-of_number positionals given = None
+abbrev pub demo_request : List Word → Given → Option Command
+demo_request (number ∷ []) given = option_map demo_of (number_within 0 (2 ^ 32 - 1) number)
+demo_request positionals given = None
 
 -- one row for each command
 abbrev pub command_row : CommandName → CommandRow
 command_row command.Run = table_row (codes "run") (option.Budget ∷ option.Accuracy ∷ option.Memory ∷ []) (flag.Reduce ∷ flag.Bushy ∷ flag.Keys ∷ flag.Count ∷ []) (over_files out_text.Rows)
 command_row command.Plan = table_row (codes "plan") (option.Budget ∷ option.Accuracy ∷ option.Memory ∷ option.Stats ∷ []) (flag.Reduce ∷ flag.Bushy ∷ flag.Keys ∷ flag.Count ∷ []) (over_files out_text.Nothing)
 command_row command.Audit = table_row (codes "audit") (option.Budget ∷ option.Accuracy ∷ option.Memory ∷ []) (flag.Reduce ∷ flag.Bushy ∷ flag.Keys ∷ flag.Count ∷ []) (over_files out_text.Audit)
-command_row command.Stats = table_row (codes "stats") (option.Accuracy ∷ []) [] of_stats
-command_row command.Append = table_row (codes "append") [] [] of_append
-command_row command.Demo = table_row (codes "demo") [] [] of_number
+command_row command.Stats = table_row (codes "stats") (option.Accuracy ∷ []) [] stats_request
+command_row command.Append = table_row (codes "append") [] [] append_request
+command_row command.Demo = table_row (codes "demo") [] [] demo_request

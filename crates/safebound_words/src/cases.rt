@@ -6,7 +6,7 @@ ghost use Rattle.safebound_words.specs.declared.command.ListSource.TheVariants a
 ghost use Rattle.safebound_words.specs.declared.command.OutText.TheVariants as out_text;
 ghost use Rattle.safebound_words.specs.declared.command.QueryTask.TheVariants as works;
 
-/// Command lines with positional words: arguments that aren't options, values of options or flags. This function does nothing.
+/// Command lines with positional words: arguments that are neither options nor flags, and no option's value. This function does nothing.
 pub fn small_commands()
     ensures run { command_of (codes "run" ∷ codes "s" ∷ codes "q" ∷ []) ≡ Some (over_query None (codes "s") (codes "q") (plan_by out_text.Rows 1000000 1 false false false None)) }
     ensures audit { command_of (codes "audit" ∷ codes "s" ∷ codes "q" ∷ []) ≡ Some (over_query None (codes "s") (codes "q") (plan_by out_text.Audit 1000000 1 false false false None)) }
@@ -72,7 +72,7 @@ pub fn small_flags()
         ≡ Some (over_query None (codes "s") (codes "q") (plan_by out_text.Nothing 5 1 true false false None)) }
     ensures between { command_of (codes "audit" ∷ codes "s" ∷ codes "--accuracy=8" ∷ codes "--reduce" ∷ codes "q" ∷ [])
         ≡ Some (over_query None (codes "s") (codes "q") (plan_by out_text.Audit 1000000 8 true false false None)) }
-    ensures a_place_word { command_of (codes "run" ∷ codes "--" ∷ codes "--reduce" ∷ codes "q" ∷ [])
+    ensures positional_word { command_of (codes "run" ∷ codes "--" ∷ codes "--reduce" ∷ codes "q" ∷ [])
         ≡ Some (over_query None (codes "--reduce") (codes "q") (plan_by out_text.Rows 1000000 1 false false false None)) }
     ensures twice { command_of (codes "run" ∷ codes "--reduce" ∷ codes "s" ∷ codes "q" ∷ codes "--reduce" ∷ []) ≡ None }
     ensures value { command_of (codes "run" ∷ codes "s" ∷ codes "q" ∷ codes "--reduce=1" ∷ []) ≡ None }

@@ -1,4 +1,4 @@
-//! The values of a command: which text is written to `out`, what bounds are made from, and whether a plan is an order or a tree.
+//! The values of a command: the text written to `out`, the source of bounds, and the shape of the plan.
 
 use crate::word::Word;
 
@@ -7,7 +7,7 @@ use crate::word::Word;
 pub enum OutText {
     /// The rows of the query.
     Rows,
-    /// Each level's bound and number of rows. If the plan is a tree, those of each inner node.
+    /// The bound and the number of rows of each level, or of each inner node if the plan is a tree.
     Audit,
     /// No text: `out` isn't written.
     Nothing,
@@ -18,7 +18,7 @@ pub enum OutText {
 pub enum ListSource {
     /// Bounds are made from statistics of whole columns, and whole scans are joined.
     Columns,
-    /// Bounds are made from statistics of whole columns, with conditions that are carried along references to keys, and whole scans are joined.
+    /// Bounds are made from statistics of whole columns, and conditions are carried along references to keys. Whole scans are joined.
     Keyed,
     /// Bounds are made from reduced scans, and reduced scans are joined.
     Reduced,
@@ -35,7 +35,7 @@ pub enum Shape {
     Tree,
 }
 
-/// What a command says of any plan, whatever bounds are made from. `budget` is the greatest cost that the plan may have, in rows. `shape` says how
+/// What a command says about a plan, for every source of bounds. `budget` is the greatest cost that the plan may have, in rows. `shape` says how
 /// entries are joined. `memory` is the most bytes that the plan's buffers may take, if there is a limit.
 #[derive(Clone, Copy, Debug)]
 pub struct PlanTerms {
@@ -44,8 +44,8 @@ pub struct PlanTerms {
     pub memory: Option<u64>,
 }
 
-/// How a query is planned over its tables. `terms` are those of any plan, and `accuracy` is the accuracy of compression. `source` says what bounds
-/// are made from, and `out` says which text is written.
+/// How a query is planned over its tables. `terms` has the budget, the shape and the limit of memory. `accuracy` is the accuracy of compression.
+/// `source` is the source of bounds, and `out` says which text is written.
 #[derive(Clone, Copy, Debug)]
 pub struct PlanWork {
     pub terms: PlanTerms,

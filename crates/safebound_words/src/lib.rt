@@ -1,7 +1,8 @@
 //! Reads the words of a command line into a command: the first stage of a run.
 //!
 //! `read_words` takes the words after the program's own name. It returns a `Command`, or `Usage` if the words ask for no command. It allocates no
-//! memory. A command says which text is written to `out` and what bounds are made from. It also says whether the plan is an order or a tree.
+//! memory. A command says which text is written to `out`, and from which source bounds are computed. It also says whether the plan is an order or a
+//! tree.
 //!
 //! Contracts see a word as its bytes. `AskFor` (in `specs/CommandLines.antt`) says which command words ask for, and `command_of` computes it.
 //! `HasRanges` (in `specs/InRange.antt`) gives the ranges of a command's values. All commands, options and flags are in one table,

@@ -8,7 +8,7 @@ use crate::command::WordsError;
 use crate::kind::{WordKind, kind_of_word};
 use crate::table::{CommandName, FlagName, OptionName};
 
-/// The positional words so far: arguments that aren't options, values of options or flags. No command takes more than four.
+/// The positional words so far: arguments that are neither options nor flags, and no option's value. No command takes more than four.
 #[derive(Clone, Copy)]
 pub(crate) enum Positionals<'a> {
     Nothing,
@@ -41,7 +41,7 @@ pub(crate) struct Line<'a> {
 }
 
 // Sets `given` to the word. If `given` is set already, the result is `Usage`.
-fn put<'a>(given: &mut Option<&'a str>, word: &'a str) -> Result<(), WordsError>
+fn set_word_once<'a>(given: &mut Option<&'a str>, word: &'a str) -> Result<(), WordsError>
     ensures ok { OnOk result (option_words given.new ≡ option_words given.old ++ word.now ∷ []) }
     ensures again { OnErr result (length (option_words given.old) ≡ 1) }
 {
@@ -53,7 +53,7 @@ fn put<'a>(given: &mut Option<&'a str>, word: &'a str) -> Result<(), WordsError>
 }
 
 // Sets `marked`. If it is set already, the result is `Usage`.
-fn mark(marked: &mut bool) -> Result<(), WordsError>
+fn set_flag_once(marked: &mut bool) -> Result<(), WordsError>
     ensures ok { OnOk result ((marked.old ≡ false) × (marked.new ≡ true)) }
     ensures again { OnErr result (marked.old ≡ true) }
 {
@@ -93,10 +93,10 @@ impl<'a> Line<'a> {
         ensures again { OnErr result (length (given_to self.old option) ≡ 1) }
     {
         match option {
-            OptionName::Budget => put(&mut self.budget, word),
-            OptionName::Accuracy => put(&mut self.accuracy, word),
-            OptionName::Memory => put(&mut self.memory, word),
-            OptionName::Stats => put(&mut self.stats, word),
+            OptionName::Budget => set_word_once(&mut self.budget, word),
+            OptionName::Accuracy => set_word_once(&mut self.accuracy, word),
+            OptionName::Memory => set_word_once(&mut self.memory, word),
+            OptionName::Stats => set_word_once(&mut self.stats, word),
         }
     }
 
@@ -109,10 +109,10 @@ impl<'a> Line<'a> {
         ensures again { OnErr result (times_of self.old flag ≡ 1) }
     {
         match flag {
-            FlagName::Reduce => mark(&mut self.reduce),
-            FlagName::Bushy => mark(&mut self.bushy),
-            FlagName::Keys => mark(&mut self.keys),
-            FlagName::Count => mark(&mut self.count),
+            FlagName::Reduce => set_flag_once(&mut self.reduce),
+            FlagName::Bushy => set_flag_once(&mut self.bushy),
+            FlagName::Keys => set_flag_once(&mut self.keys),
+            FlagName::Count => set_flag_once(&mut self.count),
         }
     }
 

@@ -13,7 +13,7 @@ fn are_digits(word: &str) -> bool
 }
 
 // The number that a word spells in digits, if it fits in 64 bits.
-fn spelled(word: &str) -> Option<u64>
+fn spelled_number(word: &str) -> Option<u64>
     ensures { SomeIff result (IsTrue (is_number word.now) × (number_of word.now < 2 ^ 64)) (number_of word.now) }
 {
     if !are_digits(word) {
@@ -30,7 +30,7 @@ pub(crate) fn number_within(least: u64, most: u64, word: &str) -> Option<u64>
     ensures value { result ≡ within least most word.now }
     ensures most { IfSome result (λ number. number ≤ most) }
 {
-    let number = spelled(word)?;
+    let number = spelled_number(word)?;
     if least <= number && number <= most {
         Some(number)
     } else {

@@ -3,7 +3,7 @@ ghost use Rattle.std.specs.Prelude.{◌≡◌, ◌≤◌, IfSome, None, Some};
 ghost use Rattle.std.specs.Option.{option_map};
 ghost use Rattle.safebound_words.specs.Collected.{collected, given_of, option_words, words_of};
 ghost use Rattle.safebound_words.specs.Commands.{demo_of, most_budget_of, over_query, shape_by, source_by};
-ghost use Rattle.safebound_words.specs.Table.{from_file as plan_from_file, is_file, limit_of, of_append as asked_of_append, of_number as asked_of_number, of_stats, option_row, over_files as asked_over_files, over_tables as plan_over_tables, terms_given, value_of as option_value, work_given};
+ghost use Rattle.safebound_words.specs.Table.{from_file as plan_from_file, is_file_name, limit_of, append_request as asked_of_append, demo_request as asked_of_number, stats_request, option_row, over_files as asked_over_files, over_tables as plan_over_tables, terms_given, value_of as option_value, work_given};
 ghost use Rattle.safebound_words.specs.declared.table.OptionName.TheVariants as option;
 
 use crate::command::{
@@ -58,7 +58,7 @@ fn shape_of(bushy: bool) -> Shape
     if bushy { Shape::Tree } else { Shape::Order }
 }
 
-// The greatest budget of a plan of this shape. A node of a join tree may have no more rows than a table.
+// The greatest budget for this shape. For a join tree it is the most rows that a table may have.
 fn most_budget(shape: Shape) -> u64
     ensures { result ≡ most_budget_of shape }
 {
@@ -68,8 +68,8 @@ fn most_budget(shape: Shape) -> u64
     }
 }
 
-// The command to do this work with the query file and the schema file.
-fn over<'a>(schema: &'a str, query: &'a str, work: QueryTask<'a>) -> Command<'a>
+// The command that does this work on the query file, over the schema file.
+fn query_command<'a>(schema: &'a str, query: &'a str, work: QueryTask<'a>) -> Command<'a>
     ensures { result ≡ over_query None schema.now query.now work.entry }
 {
     Command {
@@ -119,8 +119,8 @@ fn over_tables<'a>(out: OutText, terms: PlanTerms, line: &Line<'a>) -> Option<Qu
 }
 
 // Whether an option's value may be a file's name: it isn't empty, and doesn't begin with a dash.
-fn is_file(word: &str) -> bool
-    ensures { result ≡ is_file word.now }
+fn is_file_name(word: &str) -> bool
+    ensures { result ≡ is_file_name word.now }
 {
     match word.as_bytes() {
         [] => false,
@@ -148,13 +148,13 @@ fn work_in<'a>(out: OutText, terms: PlanTerms, line: &Line<'a>) -> Option<QueryT
     let Some(stats) = line.stats else {
         return over_tables(out, terms, line);
     };
-    if is_file(stats) {
+    if is_file_name(stats) {
         return from_file(stats, terms, line);
     }
     None
 }
 
-// A plan for SCHEMA and QUERY. The result is `None` if these aren't all positional words, or if options or flags are refused.
+// A plan for SCHEMA and QUERY. The result is `None` if the positional words aren't exactly SCHEMA and QUERY, or options or flags are refused.
 #[tactic(auto, unfolding(crate::specs::Table::over_files))]
 fn over_files<'a>(out: OutText, line: &Line<'a>) -> Option<Command<'a>>
     ensures { result ≡ asked_over_files out (words_of line.now.positionals) (given_of line.now) }
@@ -164,18 +164,18 @@ fn over_files<'a>(out: OutText, line: &Line<'a>) -> Option<Command<'a>>
     };
     let terms = terms_in(line)?;
     let work = work_in(out, terms, line)?;
-    Some(over(schema, query, work))
+    Some(query_command(schema, query, work))
 }
 
 // The command `stats`. The result is `None` if the positional words aren't SCHEMA and QUERY, or if the accuracy is refused.
 fn stats_of<'a>(line: &Line<'a>) -> Option<Command<'a>>
-    ensures { result ≡ of_stats (words_of line.now.positionals) (given_of line.now) }
+    ensures { result ≡ stats_request (words_of line.now.positionals) (given_of line.now) }
 {
     let Positionals::Two(schema, query) = line.positionals else {
         return None;
     };
     let accuracy = value_of(OptionName::Accuracy, line.accuracy)?;
-    Some(over(
+    Some(query_command(
         schema,
         query,
         QueryTask::WriteStats {
@@ -218,11 +218,11 @@ fn demo<'a>(number: u32) -> Command<'a>
     };
     Command {
         shop: Some(number),
-        ..over("schema.sql", "query.sql", QueryTask::Plan(plan))
+        ..query_command("schema.sql", "query.sql", QueryTask::Plan(plan))
     }
 }
 
-// The command `demo`. The result is `None` if the positional words aren't NUMBER alone, or if the number needs more than 32 bits.
+// The command `demo`. The result is `None` unless NUMBER is the only positional word, or if the number needs more than 32 bits.
 fn demo_of_number<'a>(line: &Line<'a>) -> Option<Command<'a>>
     ensures { result ≡ asked_of_number (words_of line.now.positionals) (given_of line.now) }
 {

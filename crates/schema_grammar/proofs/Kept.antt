@@ -21,59 +21,59 @@ module _ (P : Lexeme → Type 0) where
   a_word : (t : Terminal) → Preserves P (word t) (IsOneOf (t ∷ []) P)
   a_word t = preserves_one P (t ∷ [])
 
-  name : Preserves P Name (IsNameWith P)
-  name = preserves_one P name_terminals
+  preserves_name : Preserves P Name (IsNameWith P)
+  preserves_name = preserves_one P name_terminals
 
-  names : Preserves P (in_parentheses Names) (All (IsNameWith P))
-  names = preserves_inside (preserves_listed name)
+  preserves_name_list : Preserves P (in_parentheses Names) (All (IsNameWith P))
+  preserves_name_list = preserves_inside (preserves_listed preserves_name)
 
-  length : Preserves P Length (IsOneOf (terminal.Number ∷ []) P)
-  length = preserves_inside (a_word terminal.Number)
+  preserves_length : Preserves P Length (IsOneOf (terminal.Number ∷ []) P)
+  preserves_length = preserves_inside (a_word terminal.Number)
 
-  data_type : Preserves P DataType (IsTypeWith P)
-  data_type =
+  preserves_data_type : Preserves P DataType (IsTypeWith P)
+  preserves_data_type =
       preserves_union (preserves_mapped number_type (IsTypeWith P) (preserves_one P number_types) (λ parts q. tt))
-      (preserves_union (preserves_mapped text_type (IsTypeWith P) (preserves_then (a_word terminal.Varchar) length) (λ parts q. q.1))
-      (preserves_mapped varying_type (IsTypeWith P) (preserves_then (preserves_one P (terminal.Char ∷ terminal.Character ∷ [])) (preserves_then (a_word terminal.Varying) length)) (λ parts q. q.1.1)))
+      (preserves_union (preserves_mapped text_type (IsTypeWith P) (preserves_then (a_word terminal.Varchar) preserves_length) (λ parts q. q.1))
+      (preserves_mapped varying_type (IsTypeWith P) (preserves_then (preserves_one P (terminal.Char ∷ terminal.Character ∷ [])) (preserves_then (a_word terminal.Varying) preserves_length)) (λ parts q. q.1.1)))
 
-  target_of : Preserves P Target (IsTargetWith P)
-  target_of = preserves_mapped target (IsTargetWith P) (preserves_then name (preserves_then (preserves_maybe names) (preserves_any {L = mapped drop_value (many TriggeredAction)}))) (λ parts q. (q.0, q.1.0))
+  preserves_target : Preserves P Target (IsTargetWith P)
+  preserves_target = preserves_mapped target (IsTargetWith P) (preserves_then preserves_name (preserves_then (preserves_maybe preserves_name_list) (preserves_any {L = mapped drop_value (many TriggeredAction)}))) (λ parts q. (q.0, q.1.0))
 
-  named_of : {A : Type 0} {L : Language A} {Q : A → Type 0} → Preserves P L Q → Preserves P (with_constraint_name L) Q
-  named_of {Q = Q} rule = preserves_mapped second Q (preserves_then (preserves_any {L = ConstraintName}) rule) (λ parts q. q.1)
+  preserves_constraint : {A : Type 0} {L : Language A} {Q : A → Type 0} → Preserves P L Q → Preserves P (with_constraint_name L) Q
+  preserves_constraint {Q = Q} rule = preserves_mapped second Q (preserves_then (preserves_any {L = ConstraintName}) rule) (λ parts q. q.1)
 
-  column_rule : Preserves P ColumnConstraint (IsColumnConstraintWith P)
-  column_rule =
+  preserves_column_constraint : Preserves P ColumnConstraint (IsColumnConstraintWith P)
+  preserves_column_constraint =
       preserves_union (preserves_mapped not_null (IsColumnConstraintWith P) (preserves_then (a_word terminal.Not) (a_word terminal.Null)) (λ parts q. tt))
       (preserves_union (preserves_mapped primary_key (IsColumnConstraintWith P) (preserves_then (a_word terminal.Primary) (a_word terminal.Key)) (λ parts q. q.0))
       (preserves_union (preserves_mapped unique (IsColumnConstraintWith P) (a_word terminal.Unique) (λ parts q. tt))
-      (preserves_mapped references (IsColumnConstraintWith P) (preserves_then (a_word terminal.References) target_of) (λ parts q. q.1))))
+      (preserves_mapped references (IsColumnConstraintWith P) (preserves_then (a_word terminal.References) preserves_target) (λ parts q. q.1))))
 
-  table_rule : Preserves P TableConstraint (IsTableConstraintWith P)
-  table_rule =
-      preserves_union (preserves_mapped primary_key_over (IsTableConstraintWith P) (preserves_then (a_word terminal.Primary) (preserves_then (a_word terminal.Key) names)) (λ parts q. (q.0, q.1.1)))
-      (preserves_union (preserves_mapped unique_over (IsTableConstraintWith P) (preserves_then (a_word terminal.Unique) names) (λ parts q. q.1))
-      (preserves_mapped foreign_key (IsTableConstraintWith P) (preserves_then (a_word terminal.Foreign) (preserves_then (a_word terminal.Key) (preserves_then names (preserves_then (a_word terminal.References) target_of)))) (λ parts q. (q.1.1.0, q.1.1.1.1))))
+  preserves_table_constraint : Preserves P TableConstraint (IsTableConstraintWith P)
+  preserves_table_constraint =
+      preserves_union (preserves_mapped primary_key_over (IsTableConstraintWith P) (preserves_then (a_word terminal.Primary) (preserves_then (a_word terminal.Key) preserves_name_list)) (λ parts q. (q.0, q.1.1)))
+      (preserves_union (preserves_mapped unique_over (IsTableConstraintWith P) (preserves_then (a_word terminal.Unique) preserves_name_list) (λ parts q. q.1))
+      (preserves_mapped foreign_key (IsTableConstraintWith P) (preserves_then (a_word terminal.Foreign) (preserves_then (a_word terminal.Key) (preserves_then preserves_name_list (preserves_then (a_word terminal.References) preserves_target)))) (λ parts q. (q.1.1.0, q.1.1.1.1))))
 
-  column_of : Preserves P ColumnDefinition (IsColumnWith P)
-  column_of = preserves_mapped column (IsColumnWith P) (preserves_then name (preserves_then data_type (preserves_many (named_of column_rule)))) (λ parts q. (q.0, q.1.0, q.1.1))
+  preserves_column : Preserves P ColumnDefinition (IsColumnWith P)
+  preserves_column = preserves_mapped column (IsColumnWith P) (preserves_then preserves_name (preserves_then preserves_data_type (preserves_many (preserves_constraint preserves_column_constraint)))) (λ parts q. (q.0, q.1.0, q.1.1))
 
-  element_of : Preserves P TableElement (IsElementWith P)
-  element_of = preserves_union (preserves_mapped of_column (IsElementWith P) column_of (λ parts q. q)) (preserves_mapped of_rule (IsElementWith P) (named_of table_rule) (λ parts q. q))
+  preserves_element : Preserves P TableElement (IsElementWith P)
+  preserves_element = preserves_union (preserves_mapped of_column (IsElementWith P) preserves_column (λ parts q. q)) (preserves_mapped of_rule (IsElementWith P) (preserves_constraint preserves_table_constraint) (λ parts q. q))
 
-  table_of : Preserves P TableDefinition (IsTableWith P)
-  table_of =
-      preserves_mapped table (IsTableWith P) (preserves_then (a_word terminal.Create) (preserves_then (a_word terminal.Table) (preserves_then name (preserves_inside (preserves_listed element_of))))) (λ parts q. (q.1.1.0, q.1.1.1))
+  preserves_table : Preserves P TableDefinition (IsTableWith P)
+  preserves_table =
+      preserves_mapped table (IsTableWith P) (preserves_then (a_word terminal.Create) (preserves_then (a_word terminal.Table) (preserves_then preserves_name (preserves_inside (preserves_listed preserves_element))))) (λ parts q. (q.1.1.0, q.1.1.1))
 
-  pub tables_of : Preserves P SchemaText (AreTablesWith P)
+  pub preserves_schema_text : Preserves P SchemaText (AreTablesWith P)
   unfolding SchemaText AreTablesWith
-  tables_of =
+  preserves_schema_text =
       preserves_mapped tables (AreTablesWith P)
-      (preserves_then table_of (preserves_then (preserves_many (preserves_mapped second (IsTableWith P) (preserves_then (a_word terminal.Semicolon) table_of) (λ parts q. q.1))) (preserves_maybe (a_word terminal.Semicolon))))
+      (preserves_then preserves_table (preserves_then (preserves_many (preserves_mapped second (IsTableWith P) (preserves_then (a_word terminal.Semicolon) preserves_table) (λ parts q. q.1))) (preserves_maybe (a_word terminal.Semicolon))))
       (λ parts q. All-cons (IsTableWith P) parts.0 parts.1.0 q.0 q.1.0)
 
-pub from_text : (tokens : List Lexeme) (trees : List TableNode) → SchemaText tokens trees → AreTablesWith (Contains tokens) trees
-from_text tokens trees l = kept_of_text AreTablesWith tables_of tokens trees l
+pub trees_have_text_tokens : (tokens : List Lexeme) (trees : List TableNode) → SchemaText tokens trees → AreTablesWith (Contains tokens) trees
+trees_have_text_tokens tokens trees l = kept_of_text AreTablesWith preserves_schema_text tokens trees l
 
-pub are_of : (P : Lexeme → Type 0) (tokens : List Lexeme) (trees : List TableNode) → SchemaText tokens trees → All P tokens → AreTablesWith P trees
-are_of P tokens trees l h = (tables_of P).kept tokens trees l h
+pub tables_with : (P : Lexeme → Type 0) (tokens : List Lexeme) (trees : List TableNode) → SchemaText tokens trees → All P tokens → AreTablesWith P trees
+tables_with P tokens trees l h = (preserves_schema_text P).kept tokens trees l h

@@ -24,14 +24,14 @@ read_empty : read_all_tables [] ≡ (None, [])
 unfolding read_many read_tails read_name read_next_name read_names read_name_list read_length read_type read_action read_triggered_action read_triggered_actions read_target read_constraint_name read_column_constraint read_column_rule read_column_rules read_foreign_key read_table_constraint read_table_rule read_column read_element read_next_element read_elements read_element_list read_table read_other_tables read_all_tables
 read_empty = refl
 
-pub spells : SchemaText whole_text (table_of_whole ∷ [])
-spells = spelled whole_text (table_of_whole ∷ []) [] read_whole refl
+pub whole_text_spells : SchemaText whole_text (table_of_whole ∷ [])
+whole_text_spells = spelled whole_text (table_of_whole ∷ []) [] read_whole refl
 
-pub needs_more : IsSyntaxErrorAt SchemaText unfinished_text 16 16
-needs_more = wrong_at unfinished_text [] 16 16 read_head refl
+pub unfinished_text_error : IsSyntaxErrorAt SchemaText unfinished_text 16 16
+unfinished_text_error = wrong_at unfinished_text [] 16 16 read_head refl
 
-pub has_zero_length : IsSyntaxErrorAt SchemaText zero_length 29 26
-has_zero_length = wrong_at zero_length (token terminal.Zero 26 27 ∷ token terminal.Close 27 28 ∷ token terminal.Close 28 29 ∷ []) 29 26 read_zero_length refl
+pub zero_length_error : IsSyntaxErrorAt SchemaText zero_length 29 26
+zero_length_error = wrong_at zero_length (token terminal.Zero 26 27 ∷ token terminal.Close 27 28 ∷ token terminal.Close 28 29 ∷ []) 29 26 read_zero_length refl
 
-pub is_empty : IsSyntaxErrorAt SchemaText [] 0 0
-is_empty = wrong_at [] [] 0 0 read_empty refl
+pub empty_text_error : IsSyntaxErrorAt SchemaText [] 0 0
+empty_text_error = wrong_at [] [] 0 0 read_empty refl

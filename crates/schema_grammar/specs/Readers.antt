@@ -117,7 +117,8 @@ read_other_tables = read_tails (terminal.Semicolon ∷ []) (terminal.Create ∷ 
 unfoldable pub read_all_tables : Parser (List TableNode)
 read_all_tables = read_mapped first_and_others (read_then read_table read_other_tables)
 
--- whether another table follows. A semicolon before this table, or at the end of the text, was read
+-- whether another table follows. The step reads a semicolon, if there is one. `old` has the remaining tokens before the step, and `new` those after
+-- it
 abbrev pub Follows : Bool → List Lexeme → List Lexeme → Type 0
 Follows true old new = (read_other_tables old ≡ (read_table new >>= read_others read_other_tables)) × (length new < length old)
 Follows false old new = read_other_tables old ≡ (Some [], new)

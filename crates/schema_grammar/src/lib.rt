@@ -1,8 +1,8 @@
-//! The grammar of schema texts. Tokens (`Lexeme`) come in. The syntax trees of tables go out, or the byte of the syntax error. This crate doesn't
-//! look at what the names in the trees mean; its caller does.
+//! The grammar of schema texts. A call takes tokens (`Lexeme`). It gives the syntax trees of the tables, or the byte of the syntax error. This crate
+//! doesn't look at what the names in the trees mean; its caller does.
 //!
-//! Contracts use `SchemaText` (which lists of tokens spell which tables), `IsSyntaxError` of `ll_grammars`, and `AreTablesWith` (the trees' tokens are
-//! tokens of the list).
+//! Contracts use `SchemaText` (which lists of tokens spell which tables), `IsSyntaxError` of `ll_grammars`, and `AreTablesWith` (the tokens of the
+//! trees are tokens of the list).
 //!
 //! ```text
 //! let tables = read_tables(alloc, lexemes.as_slice(), text_len)?;
@@ -34,8 +34,8 @@ pub use tree::{
 /// The tables that the tokens spell, in the order of the text. `text_len` is the length of the text in bytes.
 ///
 /// Unless memory runs out, the result is `SyntaxError::At` exactly if the tokens spell no schema. Its offset is the start of the first token that
-/// can't follow the tokens before it in any schema. If the tokens end too early, it is `text_len`. The tokens are read in one pass, with one token of
-/// lookahead.
+/// can't follow the tokens before it in any schema. If the tokens end too early, the offset is `text_len`.
+/// The tokens are read in one pass, with one token of lookahead.
 #[tactic(auto, using(crate::proofs::Ends::spelled, crate::proofs::Ends::wrong_at, crate::proofs::Ends::all_found))]
 pub fn read_tables(
     alloc: Global,

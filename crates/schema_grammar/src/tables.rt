@@ -107,7 +107,7 @@ fn table(reader: &mut Reader<'_>) -> Result<TableNode, Stop>
 
 // Reads a semicolon, if it is the next token, and returns whether another table follows it.
 #[tactic(auto, using(crate::proofs::TableLoop::follows, crate::proofs::TableLoop::follows_not))]
-fn another(reader: &mut Reader<'_>) -> bool
+fn another_table_follows(reader: &mut Reader<'_>) -> bool
     ensures { Follows result reader.old reader.new }
 {
     reader.reads_if_one_of(SEMICOLON) && reader.starts(CREATE)
@@ -121,7 +121,7 @@ pub fn tables(reader: &mut Reader<'_>) -> Result<Seq<TableNode>, Stop>
     let mut tables = Seq::new(reader.allocator());
     let first = table(reader)?;
     tables.push(first)?;
-    'others: while another(reader) {
+    'others: while another_table_follows(reader) {
         let table = table(reader)?;
         tables.push(table)?;
     }

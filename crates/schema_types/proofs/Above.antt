@@ -1,4 +1,4 @@
--- The code looks for numbers above a limit table by table. It finds the numbers above the limit in the complete text, in the same order.
+-- Table by table, the code looks for numbers above a limit. It finds those of the whole text, in the same order.
 use Rattle.std.proofs.Common.{◌≡◌, ℕ, suc, ◌<◌, ◌≤◌, Bool, true, false, cond, inl, inr, get_or, take, drop, List, [], ◌∷◌, ◌++◌, length, map, refl, sym, ◌∙◌, ap, arith}
 use Rattle.std.specs.Prelude.{nat_lt}
 use Rattle.std.specs.List.{flat_map}
@@ -10,35 +10,35 @@ use Rattle.std.proofs.lemmas.List.Elements.{filter-append}
 use Rattle.schema_grammar.specs.declared.tree.TableNode.{TableNode}
 use Rattle.schema_types.specs.Declarations.{columns, column_names}
 use Rattle.schema_types.specs.Index.{table_index}
-use Rattle.schema_types.specs.Refusals.{above, column_counts, element_lengths, text_lengths}
+use Rattle.schema_types.specs.Refusals.{numbers_above, column_counts, element_lengths, text_lengths}
 
 kept_front : (b : Bool) (x : ℕ) (xs ys : List ℕ) → cond b (x ∷ (xs ++ ys)) (xs ++ ys) ≡ cond b (x ∷ xs) xs ++ ys
 kept_front true x xs ys = refl
 kept_front false x xs ys = refl
 
-pub above-flat_map : {X : Type 0} (most : ℕ) (f : X → List ℕ) (xs : List X) → above most (flat_map f xs) ≡ flat_map (λ x. above most (f x)) xs
+pub above-flat_map : {X : Type 0} (most : ℕ) (f : X → List ℕ) (xs : List X) → numbers_above most (flat_map f xs) ≡ flat_map (λ x. numbers_above most (f x)) xs
 above-flat_map most f [] = refl
-above-flat_map most f (x ∷ xs) = filter-append (nat_lt most) (f x) (flat_map f xs) ∙ ap (λ rest. above most (f x) ++ rest) (above-flat_map most f xs)
+above-flat_map most f (x ∷ xs) = filter-append (nat_lt most) (f x) (flat_map f xs) ∙ ap (λ rest. numbers_above most (f x) ++ rest) (above-flat_map most f xs)
 
-pub column_counts_above : (text : List ℕ) (most : ℕ) (tables : List TableNode) → flat_map (λ index. above most (length index.columns ∷ [])) (map (table_index text) tables) ≡ above most (column_counts tables)
+pub column_counts_above : (text : List ℕ) (most : ℕ) (tables : List TableNode) → flat_map (λ index. numbers_above most (length index.columns ∷ [])) (map (table_index text) tables) ≡ numbers_above most (column_counts tables)
 unfolding table_index
 column_counts_above text most [] = refl
 column_counts_above text most (table ∷ tables) =
     let same : length (column_names text table.elements) ≡ length (columns table.elements) = simp length-map in
-    rw (same, column_counts_above text most tables) (sym (kept_front (nat_lt most (length (columns table.elements))) (length (columns table.elements)) [] (above most (column_counts tables))))
+    rw (same, column_counts_above text most tables) (sym (kept_front (nat_lt most (length (columns table.elements))) (length (columns table.elements)) [] (numbers_above most (column_counts tables))))
 
-pub text_lengths_above : (text : List ℕ) (most : ℕ) (tables : List TableNode) → flat_map (λ table. flat_map (λ element. above most (element_lengths text element)) table.elements) tables ≡ above most (text_lengths text tables)
+pub text_lengths_above : (text : List ℕ) (most : ℕ) (tables : List TableNode) → flat_map (λ table. flat_map (λ element. numbers_above most (element_lengths text element)) table.elements) tables ≡ numbers_above most (text_lengths text tables)
 unfolding text_lengths
 text_lengths_above text most [] = refl
 text_lengths_above text most (table ∷ tables) =
-    ap (λ front. front ++ flat_map (λ (t : TableNode). flat_map (λ element. above most (element_lengths text element)) t.elements) tables) (sym (above-flat_map most (element_lengths text) table.elements))
-    ∙ ap (λ rest. above most (flat_map (element_lengths text) table.elements) ++ rest) (text_lengths_above text most tables)
+    ap (λ front. front ++ flat_map (λ (t : TableNode). flat_map (λ element. numbers_above most (element_lengths text element)) t.elements) tables) (sym (above-flat_map most (element_lengths text) table.elements))
+    ∙ ap (λ rest. numbers_above most (flat_map (element_lengths text) table.elements) ++ rest) (text_lengths_above text most tables)
     ∙ sym (filter-append (nat_lt most) (flat_map (element_lengths text) table.elements) (flat_map (λ (t : TableNode). flat_map (element_lengths text) t.elements) tables))
 
-pub not_above : (most n : ℕ) → above most (n ∷ []) ≡ [] → n ≤ most
+pub not_above : (most n : ℕ) → numbers_above most (n ∷ []) ≡ [] → n ≤ most
 not_above most n none = elim (cases_lt most n) [ inl more ↦ absurd (passed more none) | inr fits ↦ fits ]
   where
-    passed : most < n → above most (n ∷ []) ≡ [] → ⊥
+    passed : most < n → numbers_above most (n ∷ []) ≡ [] → ⊥
     passed more e = let test : nat_lt most n ≡ true = grind arith in (let kept : n ∷ [] ≡ [] = rw test at e in cc)
 
 pub empty_left : (front rest : List ℕ) → front ++ rest ≡ [] → front ≡ []

@@ -51,36 +51,36 @@ all_flat_map P f each (x ∷ xs) = All-append P (f x) (flat_map f xs) (each x) (
 
 -- ---- keys
 
-abbrev Within : ℕ → List ℕ → Type 0
-Within count numbers = All (λ n. n < count) numbers
+abbrev AreBelow : ℕ → List ℕ → Type 0
+AreBelow count numbers = All (λ n. n < count) numbers
 
-rule_keys_within : (count number : ℕ) (rule : ColumnConstraintNode) → number < count → All (Within count) (rule_keys number rule)
-rule_keys_within count number column_rule.NotNull h = All-nil (Within count)
-rule_keys_within count number (column_rule.PrimaryKey word) h = All-cons (Within count) (number ∷ []) [] (All-cons (λ n. n < count) number [] h (All-nil (λ n. n < count))) (All-nil (Within count))
-rule_keys_within count number column_rule.Unique h = All-cons (Within count) (number ∷ []) [] (All-cons (λ n. n < count) number [] h (All-nil (λ n. n < count))) (All-nil (Within count))
-rule_keys_within count number (column_rule.References target) h = All-nil (Within count)
+rule_keys_within : (count number : ℕ) (rule : ColumnConstraintNode) → number < count → All (AreBelow count) (rule_keys number rule)
+rule_keys_within count number column_rule.NotNull h = All-nil (AreBelow count)
+rule_keys_within count number (column_rule.PrimaryKey word) h = All-cons (AreBelow count) (number ∷ []) [] (All-cons (λ n. n < count) number [] h (All-nil (λ n. n < count))) (All-nil (AreBelow count))
+rule_keys_within count number column_rule.Unique h = All-cons (AreBelow count) (number ∷ []) [] (All-cons (λ n. n < count) number [] h (All-nil (λ n. n < count))) (All-nil (AreBelow count))
+rule_keys_within count number (column_rule.References target) h = All-nil (AreBelow count)
 
-element_keys_within : (text : List ℕ) (declared : List (List ℕ)) (e : Element) → 0 < length declared → All (Within (length declared)) (element_keys text declared e)
+element_keys_within : (text : List ℕ) (declared : List (List ℕ)) (e : Element) → 0 < length declared → All (AreBelow (length declared)) (element_keys text declared e)
 element_keys_within text declared (element.Column column) some =
-    all_flat_map (Within (length declared)) (rule_keys (number_of_column text declared column.name)) (λ rule. rule_keys_within (length declared) (number_of_column text declared column.name) rule (number_within declared _ some)) column.rules
+    all_flat_map (AreBelow (length declared)) (rule_keys (number_of_column text declared column.name)) (λ rule. rule_keys_within (length declared) (number_of_column text declared column.name) rule (number_within declared _ some)) column.rules
 element_keys_within text declared (element.Rule (table_rule.PrimaryKey word columns)) some =
-    All-cons (Within (length declared)) (numbers_of_columns text declared columns) [] (numbers_within text declared columns some) (All-nil (Within (length declared)))
+    All-cons (AreBelow (length declared)) (numbers_of_columns text declared columns) [] (numbers_within text declared columns some) (All-nil (AreBelow (length declared)))
 element_keys_within text declared (element.Rule (table_rule.Unique columns)) some =
-    All-cons (Within (length declared)) (numbers_of_columns text declared columns) [] (numbers_within text declared columns some) (All-nil (Within (length declared)))
-element_keys_within text declared (element.Rule (table_rule.ForeignKey columns target)) some = All-nil (Within (length declared))
+    All-cons (AreBelow (length declared)) (numbers_of_columns text declared columns) [] (numbers_within text declared columns some) (All-nil (AreBelow (length declared)))
+element_keys_within text declared (element.Rule (table_rule.ForeignKey columns target)) some = All-nil (AreBelow (length declared))
 
 pub keys_valid : (text : List ℕ) (tables : List TableNode) (table : TableNode) → 0 < length (column_names text table.elements) → All (AreColumnsOf (table_of text tables table)) (table_of text tables table).keys
 unfolding table_of
 keys_valid text tables table some =
     rw (count_of_columns text table.elements)
-    (all_flat_map (Within (length (column_names text table.elements))) (element_keys text (column_names text table.elements)) (λ e. element_keys_within text (column_names text table.elements) e some) table.elements)
+    (all_flat_map (AreBelow (length (column_names text table.elements))) (element_keys text (column_names text table.elements)) (λ e. element_keys_within text (column_names text table.elements) e some) table.elements)
 
 -- ---- references
 
 abbrev pub HasColumns : List ℕ → TableNode → Type 0
 HasColumns text table = 0 < length (column_names text table.elements)
 
-resolved_within : (text : List ℕ) (declared : List (List ℕ)) (chosen : Option (List Lexeme)) → 0 < length declared → Within (length declared) (unwrap_or (option_map (numbers_of_columns text declared) chosen) [])
+resolved_within : (text : List ℕ) (declared : List (List ℕ)) (chosen : Option (List Lexeme)) → 0 < length declared → AreBelow (length declared) (unwrap_or (option_map (numbers_of_columns text declared) chosen) [])
 resolved_within text declared None some = All-nil (λ n. n < length declared)
 resolved_within text declared (Some tokens) some = numbers_within text declared tokens some
 
@@ -138,16 +138,16 @@ element_references_valid text tables table declared (element.Rule (table_rule.Fo
     (reference_valid text tables table (numbers_of_columns text declared listed) target some all (rw same (numbers_within text declared listed columns)))
     (All-nil (IsReference (map (table_of text tables) tables) table))
 
-counted : (text : List ℕ) (tables : List TableNode) (table : TableNode) → length (table_of text tables table).columns ≡ length (column_names text table.elements)
+column_counts_agree : (text : List ℕ) (tables : List TableNode) (table : TableNode) → length (table_of text tables table).columns ≡ length (column_names text table.elements)
 unfolding table_of
-counted text tables table = count_of_columns text table.elements
+column_counts_agree text tables table = count_of_columns text table.elements
 
 listed_references : (text : List ℕ) (tables : List TableNode) (table : TableNode) → (table_of text tables table).references ≡ flat_map (element_references text tables (column_names text table.elements)) table.elements
 unfolding table_of
 listed_references text tables table = refl
 
 pub references_valid : (text : List ℕ) (tables : List TableNode) (table : TableNode) → 0 < length tables → All (HasColumns text) tables → HasColumns text table → All (IsReference (map (table_of text tables) tables) (table_of text tables table)) (table_of text tables table).references
-references_valid text tables table some all filled = of_table (table_of text tables table) (counted text tables table) (listed_references text tables table)
+references_valid text tables table some all filled = of_table (table_of text tables table) (column_counts_agree text tables table) (listed_references text tables table)
   where
     of_table : (t : Table) → length t.columns ≡ length (column_names text table.elements) → t.references ≡ flat_map (element_references text tables (column_names text table.elements)) table.elements → All (IsReference (map (table_of text tables) tables) t) t.references
     of_table t same is = All-same (IsReference (map (table_of text tables) tables) t) t.references (flat_map (element_references text tables (column_names text table.elements)) table.elements) is (all_flat_map (IsReference (map (table_of text tables) tables) t) (element_references text tables (column_names text table.elements)) (λ e. element_references_valid text tables t (column_names text table.elements) e some all filled same) table.elements)

@@ -15,9 +15,9 @@ flat_map_with_earlier-append f earlier (x ∷ xs) ys =
     ap (λ found. f earlier x ++ found) (rw (append_assoc earlier (x ∷ []) xs) at (flat_map_with_earlier-append f (earlier ++ x ∷ []) xs ys))
     ∙ sym (append_assoc (f earlier x) (flat_map_with_earlier f (earlier ++ x ∷ []) xs) (flat_map_with_earlier f (earlier ++ x ∷ xs) ys))
 
-told_one : {X : Type 0} (f : List X → X → List ℕ) (earlier : List X) (x : X) (rest : List X) → flat_map_with_earlier f earlier (x ∷ rest) ≡ f earlier x ++ flat_map_with_earlier f (earlier ++ x ∷ []) rest
+with_earlier_cons : {X : Type 0} (f : List X → X → List ℕ) (earlier : List X) (x : X) (rest : List X) → flat_map_with_earlier f earlier (x ∷ rest) ≡ f earlier x ++ flat_map_with_earlier f (earlier ++ x ∷ []) rest
 unfolding flat_map_with_earlier
-told_one f earlier x rest = refl
+with_earlier_cons f earlier x rest = refl
 
 pub check_none : {X : Type 0} (f : List X → X → List ℕ) → flat_map_with_all_earlier f [] ≡ []
 unfolding flat_map_with_earlier
@@ -27,7 +27,7 @@ check_at : {X : Type 0} (f : List X → X → List ℕ) (xs : List X) (i : ℕ) 
 check_at f xs i x within here clean =
     let cut : xs ≡ take i xs ++ (x ∷ drop (suc i) xs) = sym (take-append-drop i xs) ∙ ap (λ tail. take i xs ++ tail) (drop-cons xs i x within ∙ ap (λ y. y ∷ drop (suc i) xs) (sym here)) in
     let parts : flat_map_with_all_earlier f xs ≡ flat_map_with_all_earlier f (take i xs) ++ (f (take i xs) x ++ flat_map_with_earlier f (take i xs ++ x ∷ []) (drop (suc i) xs)) =
-    ap (flat_map_with_all_earlier f) cut ∙ flat_map_with_earlier-append f [] (take i xs) (x ∷ drop (suc i) xs) ∙ ap (λ found. flat_map_with_all_earlier f (take i xs) ++ found) (told_one f (take i xs) x (drop (suc i) xs)) in
+    ap (flat_map_with_all_earlier f) cut ∙ flat_map_with_earlier-append f [] (take i xs) (x ∷ drop (suc i) xs) ∙ ap (λ found. flat_map_with_all_earlier f (take i xs) ++ found) (with_earlier_cons f (take i xs) x (drop (suc i) xs)) in
     (flat_map_with_earlier f (take i xs ++ x ∷ []) (drop (suc i) xs), rw clean at parts)
 
 pub check_more : {X : Type 0} (f : List X → X → List ℕ) (xs : List X) (i : ℕ) (x : X) → i < length xs → x ≡ get_or xs i x → flat_map_with_all_earlier f (take i xs) ≡ [] → f (take i xs) x ≡ [] → flat_map_with_all_earlier f (take (i + 1) xs) ≡ []
@@ -35,7 +35,7 @@ unfolding flat_map_with_earlier
 check_more f xs i x within here clean none =
     let longer : take (i + 1) xs ≡ take i xs ++ x ∷ [] = take_more xs i x within ∙ ap (λ y. take i xs ++ y ∷ []) (sym here) in
     let parts : flat_map_with_all_earlier f (take (i + 1) xs) ≡ flat_map_with_all_earlier f (take i xs) ++ (f (take i xs) x ++ flat_map_with_earlier f (take i xs ++ x ∷ []) []) =
-    ap (flat_map_with_all_earlier f) longer ∙ flat_map_with_earlier-append f [] (take i xs) (x ∷ []) ∙ ap (λ found. flat_map_with_all_earlier f (take i xs) ++ found) (told_one f (take i xs) x []) in
+    ap (flat_map_with_all_earlier f) longer ∙ flat_map_with_earlier-append f [] (take i xs) (x ∷ []) ∙ ap (λ found. flat_map_with_all_earlier f (take i xs) ++ found) (with_earlier_cons f (take i xs) x []) in
     rw (clean, none) at parts
 
 pub check_first : {X : Type 0} (f : List X → X → List ℕ) (xs : List X) (i : ℕ) (x : X) (e : SchemaError) → i < length xs → x ≡ get_or xs i x → flat_map_with_all_earlier f (take i xs) ≡ [] → IsNameCheckOf {A = Unit {0}} (Err e) (f (take i xs) x) → IsNameCheckOf {A = Unit {0}} (Err e) (flat_map_with_all_earlier f xs)

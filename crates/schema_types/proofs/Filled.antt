@@ -19,22 +19,22 @@ abbrev pub IsNotEmpty : {A : Type 0} → List A → Type 0
 IsNotEmpty [] = ⊥
 IsNotEmpty (x ∷ xs) = ⊤
 
-abbrev pub RuleFilled : TableConstraintNode → Type 0
-RuleFilled (table_rule.PrimaryKey _ columns) = IsNotEmpty columns
-RuleFilled (table_rule.Unique columns) = IsNotEmpty columns
-RuleFilled (table_rule.ForeignKey columns _) = IsNotEmpty columns
+abbrev pub ConstraintHasColumns : TableConstraintNode → Type 0
+ConstraintHasColumns (table_rule.PrimaryKey _ columns) = IsNotEmpty columns
+ConstraintHasColumns (table_rule.Unique columns) = IsNotEmpty columns
+ConstraintHasColumns (table_rule.ForeignKey columns _) = IsNotEmpty columns
 
-abbrev pub ElementFilled : Element → Type 0
-ElementFilled (element.Column _) = ⊤
-ElementFilled (element.Rule rule) = RuleFilled rule
+abbrev pub ElementHasColumns : Element → Type 0
+ElementHasColumns (element.Column _) = ⊤
+ElementHasColumns (element.Rule rule) = ConstraintHasColumns rule
 
--- if the first element is a constraint, its list of columns isn't empty
-abbrev pub FirstFilled : List Element → Type 0
-FirstFilled [] = ⊥
-FirstFilled (x ∷ xs) = ElementFilled x
+-- there is a first element, and if it is a constraint, its list of columns isn't empty
+abbrev pub FirstElementHasColumns : List Element → Type 0
+FirstElementHasColumns [] = ⊥
+FirstElementHasColumns (x ∷ xs) = ElementHasColumns x
 
-abbrev pub TableFilled : TableNode → Type 0
-TableFilled t = FirstFilled t.elements
+abbrev pub TableHasColumns : TableNode → Type 0
+TableHasColumns t = FirstElementHasColumns t.elements
 
 abbrev Any : Lexeme → Type 0
 Any token = Unit {0}
@@ -48,32 +48,32 @@ preserves_inside {Q = Q} inner = preserves_mapped middle Q (preserves_then (pres
 names : Preserves Any (in_parentheses Names) IsNotEmpty
 names = preserves_inside (preserves_mapped first_and_others IsNotEmpty preserves_any (λ parts q. tt))
 
-rule : Preserves Any TableConstraint RuleFilled
+rule : Preserves Any TableConstraint ConstraintHasColumns
 rule =
-    preserves_union (preserves_mapped primary_key_over RuleFilled (preserves_then preserves_any (preserves_then preserves_any names)) (λ parts q. q.1.1))
-    (preserves_union (preserves_mapped unique_over RuleFilled (preserves_then preserves_any names) (λ parts q. q.1))
-    (preserves_mapped foreign_key RuleFilled (preserves_then preserves_any (preserves_then preserves_any (preserves_then names preserves_any))) (λ parts q. q.1.1.0)))
+    preserves_union (preserves_mapped primary_key_over ConstraintHasColumns (preserves_then preserves_any (preserves_then preserves_any names)) (λ parts q. q.1.1))
+    (preserves_union (preserves_mapped unique_over ConstraintHasColumns (preserves_then preserves_any names) (λ parts q. q.1))
+    (preserves_mapped foreign_key ConstraintHasColumns (preserves_then preserves_any (preserves_then preserves_any (preserves_then names preserves_any))) (λ parts q. q.1.1.0)))
 
-one_element : Preserves Any TableElement ElementFilled
+one_element : Preserves Any TableElement ElementHasColumns
 one_element =
-    preserves_union (preserves_mapped of_column ElementFilled preserves_any (λ parts q. tt))
-    (preserves_mapped of_rule ElementFilled (preserves_mapped second RuleFilled (preserves_then preserves_any rule) (λ parts q. q.1)) (λ parts q. q))
+    preserves_union (preserves_mapped of_column ElementHasColumns preserves_any (λ parts q. tt))
+    (preserves_mapped of_rule ElementHasColumns (preserves_mapped second ConstraintHasColumns (preserves_then preserves_any rule) (λ parts q. q.1)) (λ parts q. q))
 
-one_table : Preserves Any TableDefinition TableFilled
+one_table : Preserves Any TableDefinition TableHasColumns
 one_table =
-    preserves_mapped table TableFilled
-    (preserves_then preserves_any (preserves_then preserves_any (preserves_then preserves_any (preserves_inside (preserves_mapped first_and_others FirstFilled (preserves_then one_element preserves_any) (λ parts q. q.0))))))
+    preserves_mapped table TableHasColumns
+    (preserves_then preserves_any (preserves_then preserves_any (preserves_then preserves_any (preserves_inside (preserves_mapped first_and_others FirstElementHasColumns (preserves_then one_element preserves_any) (λ parts q. q.0))))))
     (λ parts q. q.1.1.1)
 
-abbrev pub AreFilled : List TableNode → Type 0
-AreFilled ts = IsNotEmpty ts × All TableFilled ts
+abbrev pub AreTablesWithColumns : List TableNode → Type 0
+AreTablesWithColumns ts = IsNotEmpty ts × All TableHasColumns ts
 
-all_tables : Preserves Any SchemaText AreFilled
+all_tables : Preserves Any SchemaText AreTablesWithColumns
 unfolding SchemaText
 all_tables =
-    preserves_mapped tables AreFilled
-    (preserves_then one_table (preserves_then (preserves_many (preserves_mapped second TableFilled (preserves_then preserves_any one_table) (λ parts q. q.1))) preserves_any))
-    (λ parts q. (tt, All-cons TableFilled parts.0 parts.1.0 q.0 q.1.0))
+    preserves_mapped tables AreTablesWithColumns
+    (preserves_then one_table (preserves_then (preserves_many (preserves_mapped second TableHasColumns (preserves_then preserves_any one_table) (λ parts q. q.1))) preserves_any))
+    (λ parts q. (tt, All-cons TableHasColumns parts.0 parts.1.0 q.0 q.1.0))
 
-pub filled : (tokens : List Lexeme) (trees : List TableNode) → SchemaText tokens trees → AreFilled trees
-filled tokens trees l = all_tables.kept tokens trees l (λ k d h. tt)
+pub tables_have_columns : (tokens : List Lexeme) (trees : List TableNode) → SchemaText tokens trees → AreTablesWithColumns trees
+tables_have_columns tokens trees l = all_tables.kept tokens trees l (λ k d h. tt)

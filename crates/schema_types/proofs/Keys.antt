@@ -1,4 +1,4 @@
--- Steps of the loop that looks for a table's primary key: the first that its elements declare.
+-- Steps of the loop that looks for a table's primary key: the first primary key that an element declares.
 use Rattle.std.proofs.Common.{◌≡◌, ℕ, suc, ◌+◌, ◌<◌, true, false, List, [], ◌∷◌, ◌++◌, length, get_or, take, drop, is_some, refl, sym, ◌∙◌, ap}
 use Rattle.std.specs.List.{flat_map}
 use Rattle.std.specs.Option.{option_map}

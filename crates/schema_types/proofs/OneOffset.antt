@@ -31,8 +31,8 @@ module _ {A : Type 0} (L : Language A) where
       (subst (IsViablePrefix L) (sym here) v) (subst (λ front. Fails L front r) (sym here) f)
       (subst (IsViablePrefix L) (sym there) w) (subst (λ front. Fails L front s) (sym there) g)
 
-  pub one_place : (tokens : List Lexeme) (text_len at other : ℕ) → IsSyntaxErrorAt L tokens text_len at → IsSyntaxErrorAt L tokens text_len other → at ≡ other
-  one_place tokens text_len at other p q =
+  pub one_error_offset : (tokens : List Lexeme) (text_len at other : ℕ) → IsSyntaxErrorAt L tokens text_len at → IsSyntaxErrorAt L tokens text_len other → at ≡ other
+  one_error_offset tokens text_len at other p q =
       let rests : p.rest ≡ q.rest = one_rest [] p.wrong.front p.rest q.wrong.front q.rest (sym p.wrong.whole ∙ q.wrong.whole) p.wrong.begins p.wrong.fails q.wrong.begins q.wrong.fails in
       p.here ∙ ap (λ rest. next_token_start rest text_len) rests ∙ sym q.here
 

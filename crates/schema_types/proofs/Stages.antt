@@ -5,7 +5,7 @@ use Rattle.ll_grammars.specs.declared.lexeme.Lexeme.{Lexeme}
 use Rattle.schema_grammar.specs.declared.tree.TableNode.{TableNode}
 use Rattle.schema_grammar.specs.Grammar.{SchemaText}
 use Rattle.schema_grammar.specs.Lexemes.{IsTableWith, AreTablesWith}
-use Rattle.schema_grammar.proofs.Kept.{are_of}
+use Rattle.schema_grammar.proofs.Kept.{tables_with}
 use Rattle.sql_tokens.specs.Words.{IsLexemeOf}
 use Rattle.schema_types.specs.declared.errors.LimitKind.{LimitKind}
 use Rattle.schema_types.specs.declared.errors.SchemaError.{SchemaError}
@@ -43,17 +43,17 @@ stage_above limit numbers rest (error.Syntax at) found = found
 stage_above limit numbers rest (error.Name at) found = absurd found
 stage_above limit numbers rest (error.Nullable at) found = absurd found
 
-pub answered : (text : List ℕ) (tables : List TableNode) (answer : Result Schema SchemaError) → Spells text tables → Answers answer (schema_or_refusal text tables) → IsSchemaOf text answer
-answered text tables (Ok schema) spells due = record { tables = tables; spells = spells; answers = due }
-answered text tables (Err (error.Name at)) spells due = record { tables = tables; spells = spells; answers = due }
-answered text tables (Err (error.Nullable at)) spells due = record { tables = tables; spells = spells; answers = due }
-answered text tables (Err (error.Limit which n)) spells due = record { tables = tables; spells = spells; answers = due }
-answered text tables (Err error.NoMemory) spells due = tt
-answered text tables (Err (error.Syntax at)) spells due = absurd due
+pub result_of_text : (text : List ℕ) (tables : List TableNode) (answer : Result Schema SchemaError) → Spells text tables → Answers answer (schema_or_refusal text tables) → IsSchemaOf text answer
+result_of_text text tables (Ok schema) spells due = record { tables = tables; spells = spells; answers = due }
+result_of_text text tables (Err (error.Name at)) spells due = record { tables = tables; spells = spells; answers = due }
+result_of_text text tables (Err (error.Nullable at)) spells due = record { tables = tables; spells = spells; answers = due }
+result_of_text text tables (Err (error.Limit which n)) spells due = record { tables = tables; spells = spells; answers = due }
+result_of_text text tables (Err error.NoMemory) spells due = tt
+result_of_text text tables (Err (error.Syntax at)) spells due = absurd due
 
 pub spells_from : (text : List ℕ) (lexemes : List Lexeme) (tables : List TableNode) → AreLexemes text lexemes → SchemaText lexemes tables → Spells text tables
 spells_from text lexemes tables are spelled = record { tokens = are.tokens; lexed = are.lexed; spelled = rw are.are at spelled }
 
-pub lie_in : (text : List ℕ) (lexemes : List Lexeme) (tables : List TableNode) → SchemaText lexemes tables → All (IsLexemeOf text) lexemes → All (IsTableWith (IsLexemeOf text)) tables
+pub tables_lie_in_text : (text : List ℕ) (lexemes : List Lexeme) (tables : List TableNode) → SchemaText lexemes tables → All (IsLexemeOf text) lexemes → All (IsTableWith (IsLexemeOf text)) tables
 unfolding AreTablesWith
-lie_in text lexemes tables spelled within = are_of (IsLexemeOf text) lexemes tables spelled within
+tables_lie_in_text text lexemes tables spelled within = tables_with (IsLexemeOf text) lexemes tables spelled within

@@ -42,7 +42,7 @@ is_primary_rule (column_rule.PrimaryKey _) = true
 is_primary_rule column_rule.Unique = false
 is_primary_rule (column_rule.References _) = false
 
--- the primary key that a column's definition declares: this column alone
+-- the primary key that a column's definition declares: it has only this column
 abbrev pub column_primary_key : ColumnNode → List (List Lexeme)
 column_primary_key column = list_if (list_any is_primary_rule column.rules) (column.name ∷ [])
 

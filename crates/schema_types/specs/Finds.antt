@@ -9,21 +9,21 @@ use Rattle.schema_types.specs.Refusals.{in_64_bits}
 
 -- byte offsets at which a rule on names is broken
 abbrev pub IsNameCheckOf : {A : Type 0} → Result A SchemaError → List ℕ → Type 0
-IsNameCheckOf (Ok _) places = places ≡ []
-IsNameCheckOf (Err (error.Name at)) places = first places ≡ Some at
-IsNameCheckOf (Err error.NoMemory) places = ⊤
-IsNameCheckOf (Err (error.Syntax _)) places = ⊥
-IsNameCheckOf (Err (error.Nullable _)) places = ⊥
-IsNameCheckOf (Err (error.Limit _ _)) places = ⊥
+IsNameCheckOf (Ok _) offsets = offsets ≡ []
+IsNameCheckOf (Err (error.Name at)) offsets = first offsets ≡ Some at
+IsNameCheckOf (Err error.NoMemory) offsets = ⊤
+IsNameCheckOf (Err (error.Syntax _)) offsets = ⊥
+IsNameCheckOf (Err (error.Nullable _)) offsets = ⊥
+IsNameCheckOf (Err (error.Limit _ _)) offsets = ⊥
 
 -- byte offsets of the names of columns that may be null
 abbrev pub FindsNullable : {A : Type 0} → Result A SchemaError → List ℕ → Type 0
-FindsNullable (Ok _) places = places ≡ []
-FindsNullable (Err (error.Nullable at)) places = first places ≡ Some at
-FindsNullable (Err error.NoMemory) places = ⊤
-FindsNullable (Err (error.Syntax _)) places = ⊥
-FindsNullable (Err (error.Name _)) places = ⊥
-FindsNullable (Err (error.Limit _ _)) places = ⊥
+FindsNullable (Ok _) offsets = offsets ≡ []
+FindsNullable (Err (error.Nullable at)) offsets = first offsets ≡ Some at
+FindsNullable (Err error.NoMemory) offsets = ⊤
+FindsNullable (Err (error.Syntax _)) offsets = ⊥
+FindsNullable (Err (error.Name _)) offsets = ⊥
+FindsNullable (Err (error.Limit _ _)) offsets = ⊥
 
 -- numbers that exceed a limit
 abbrev pub FindsAbove : {A : Type 0} → LimitKind → Result A SchemaError → List ℕ → Type 0

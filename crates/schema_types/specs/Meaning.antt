@@ -28,7 +28,7 @@ use Rattle.schema_types.specs.Names.{first}
 use Rattle.schema_types.specs.Numbers.{number_of_column, numbers_of_columns}
 use Rattle.schema_types.specs.Declarations.{columns, column_names, target_number, target_table, referenced_columns}
 use Rattle.schema_types.specs.Offences.{offences}
-use Rattle.schema_types.specs.Refusals.{nullable_offsets, above, in_64_bits, column_counts, text_lengths}
+use Rattle.schema_types.specs.Refusals.{nullable_offsets, numbers_above, in_64_bits, column_counts, text_lengths}
 
 -- ---- keys
 
@@ -47,14 +47,15 @@ table_rule_keys text declared (table_rule.PrimaryKey _ columns) = numbers_of_col
 table_rule_keys text declared (table_rule.Unique columns) = numbers_of_columns text declared columns ∷ []
 table_rule_keys text declared (table_rule.ForeignKey _ _) = []
 
--- the keys that an element declares, PRIMARY KEY and UNIQUE alike
+-- the keys that an element declares by PRIMARY KEY or by UNIQUE
 abbrev pub element_keys : List ℕ → List (List ℕ) → Element → List (List ℕ)
 element_keys text declared (element.Column column) = column_keys text declared column
 element_keys text declared (element.Rule rule) = table_rule_keys text declared rule
 
 -- ---- references
 
--- the numbers of the columns that a reference refers to. If the reference lists no columns, they are the primary key of its target
+-- the numbers of the columns that a reference refers to. If the reference lists no columns, these are the columns of the
+-- target's primary key
 abbrev pub target_column_numbers : List ℕ → Option (List Lexeme) → Option TableNode → List ℕ
 target_column_numbers text written None = []
 target_column_numbers text written (Some table) =
@@ -121,15 +122,15 @@ unless_found None cause rest = rest
 unless_found (Some found) cause rest = Err (cause found)
 
 -- at most 64 tables, 64 columns in each table, and 1,000,000 characters in a text, tested in this order
-unfoldable pub within_limits : List ℕ → List TableNode → Result Schema SchemaError → Result Schema SchemaError
-within_limits text tables rest =
-    unless_found (first (above most_tables (length tables ∷ []))) (λ found. error.Limit limit.Tables (in_64_bits found))
-    (unless_found (first (above most_columns (column_counts tables))) (λ found. error.Limit limit.Columns (in_64_bits found))
-    (unless_found (first (above most_length (text_lengths text tables))) (λ found. error.Limit limit.TextLength (in_64_bits found)) rest))
+unfoldable pub if_within_limits : List ℕ → List TableNode → Result Schema SchemaError → Result Schema SchemaError
+if_within_limits text tables rest =
+    unless_found (first (numbers_above most_tables (length tables ∷ []))) (λ found. error.Limit limit.Tables (in_64_bits found))
+    (unless_found (first (numbers_above most_columns (column_counts tables))) (λ found. error.Limit limit.Columns (in_64_bits found))
+    (unless_found (first (numbers_above most_length (text_lengths text tables))) (λ found. error.Limit limit.TextLength (in_64_bits found)) rest))
 
 -- the schema that these tables declare, or the first refusal: names, then nullability, then limits
 unfoldable pub schema_or_refusal : List ℕ → List TableNode → Result Schema SchemaError
 schema_or_refusal text tables =
     unless_found (first (offences text tables)) (λ at. error.Name at)
     (unless_found (first (nullable_offsets text tables)) (λ at. error.Nullable at)
-    (within_limits text tables (Ok (schema_of text tables))))
+    (if_within_limits text tables (Ok (schema_of text tables))))

@@ -16,12 +16,12 @@ list_if condition x = if condition then x ∷ [] else []
 -- the index of the first name in the list that is equal to `name`, counted from 0
 unfoldable pub index_of_name : List (List ℕ) → List ℕ → Option ℕ
 index_of_name [] name = None
-index_of_name (other ∷ rest) name = if bytes_eq name other then Some 0 else option_map (λ place. place + 1) (index_of_name rest name)
+index_of_name (other ∷ rest) name = if bytes_eq name other then Some 0 else option_map (λ index. index + 1) (index_of_name rest name)
 
 -- the index of a name after another name is added at index `last`. A name that was in the list keeps its index. Otherwise its index is `last`, if
 -- `same` says that it is the added name
 abbrev pub index_after_push : Option ℕ → ℕ → Bool → Option ℕ
-index_after_push (Some place) last same = Some place
+index_after_push (Some index) last same = Some index
 index_after_push None last same = if same then Some last else None
 
 -- the names of tokens

@@ -1,4 +1,4 @@
--- Where rules on names are broken (SQL-92 11.3, 11.4, 11.7 and 11.8, in this profile). An offence is a byte offset; they are in text order.
+-- Where rules on names are broken (SQL-92 11.3, 11.4, 11.7 and 11.8, in this profile). An offence is a byte offset, and offences are in text order.
 use Rattle.std.specs.Prelude.{ℕ, Bool, true, false, not, ◌||◌, ◌==◌, List, [], ◌∷◌, ◌++◌, map, length, Option, Some, None, is_none}
 use Rattle.std.specs.List.{list_any}
 use Rattle.std.specs.Str.{bytes_eq}
@@ -15,7 +15,7 @@ use Rattle.schema_grammar.specs.declared.tree.TableNode.{TableNode}
 use Rattle.sql_tokens.specs.Words.{name_of}
 use Rattle.schema_types.specs.Names.{list_if, index_of_name, names_of, flat_map_with_all_earlier}
 use Rattle.schema_types.specs.Declarations.{column_names, table_names, is_primary_rule, primary_key, target_table}
-use Rattle.schema_types.specs.Validity.{upper_case, is_plain}
+use Rattle.schema_types.specs.Validity.{upper_case, has_only_word_bytes}
 
 -- whether a name is equal to one of `names`
 abbrev pub is_one_of : List ℕ → List (List ℕ) → Bool
@@ -37,8 +37,8 @@ list_offences text declared columns = flat_map_with_all_earlier (listed_offences
 
 -- ---- references
 
--- the offences of the columns that a reference from `count` columns refers to. `elements` are those of the target table. If the columns aren't
--- `count` many, the offence is at the target's name
+-- the offences in the target columns of a reference, which must be `count` columns. `elements` are those of the target table. If the reference
+-- doesn't refer to `count` columns, the offence is at the target's name
 abbrev pub target_column_offences : List ℕ → ℕ → Lexeme → Option (List Lexeme) → List Element → List ℕ
 target_column_offences text count name (Some columns) elements =
     list_if (not (length columns == count)) name.start ++ list_offences text (column_names text elements) columns
@@ -97,7 +97,7 @@ element_offences text tables declared earlier (element.Rule rule) = table_rule_o
 -- the offences of a table, given the tables before it
 unfoldable pub table_offences : List ℕ → List TableNode → List TableNode → TableNode → List ℕ
 table_offences text tables earlier table =
-    list_if (not (is_plain (name_of text table.name)) || is_taken (name_of text table.name) (table_names text earlier)) table.name.start
+    list_if (not (has_only_word_bytes (name_of text table.name)) || is_taken (name_of text table.name) (table_names text earlier)) table.name.start
     ++ flat_map_with_all_earlier (element_offences text tables (column_names text table.elements)) table.elements
 
 -- all byte offsets at which a rule on names is broken, in text order

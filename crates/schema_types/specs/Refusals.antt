@@ -47,8 +47,8 @@ nullable_offsets text tables = flat_map (nullable_in text) tables
 -- ---- limits
 
 -- the numbers that are above a limit
-abbrev pub above : ℕ → List ℕ → List ℕ
-above most numbers = filter (nat_lt most) numbers
+abbrev pub numbers_above : ℕ → List ℕ → List ℕ
+numbers_above most numbers = filter (nat_lt most) numbers
 
 -- the number, or 2^64 - 1 if the number is larger
 abbrev pub in_64_bits : ℕ → ℕ

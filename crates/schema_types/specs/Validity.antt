@@ -11,12 +11,12 @@ abbrev pub upper_case : List ℕ → List ℕ
 upper_case name = map to_ascii_uppercase name
 
 -- no two names are equal in ASCII upper case
-abbrev pub Differ : List (List ℕ) → Type 0
-Differ names = AllPairs (λ a b. upper_case a ≢ upper_case b) names
+abbrev pub NamesAreDifferent : List (List ℕ) → Type 0
+NamesAreDifferent names = AllPairs (λ a b. upper_case a ≢ upper_case b) names
 
 -- a name has only ASCII letters, digits and underscores
-abbrev pub is_plain : List ℕ → Bool
-is_plain name = list_all (λ c. is_ascii_alphanumeric c || c == 95) name
+abbrev pub has_only_word_bytes : List ℕ → Bool
+has_only_word_bytes name = list_all (λ c. is_ascii_alphanumeric c || c == 95) name
 
 -- a table has columns with these numbers
 abbrev pub AreColumnsOf : Table → List ℕ → Type 0
@@ -29,12 +29,12 @@ pub record IsReference (tables : List Table) (table : Table) (reference : Refere
   pub exists : slice_get tables reference.table ≡ Some target
   pub targets : AreColumnsOf target reference.targets
 
--- a table by itself: a plain name, from 1 to 64 columns with different names, and keys over its columns
+-- a table has a plain name (only ASCII letters, digits and underscores), from 1 to 64 columns with different names, and keys over its columns
 pub record IsValidTable (table : Table) : Type 0 where
   pub some : 0 < length table.columns
   pub few : length table.columns ≤ 64
-  pub plain : IsTrue (is_plain table.name)
-  pub names : Differ (map (λ column. column.name) table.columns)
+  pub plain : IsTrue (has_only_word_bytes table.name)
+  pub names : NamesAreDifferent (map (λ column. column.name) table.columns)
   pub keys : All (AreColumnsOf table) table.keys
 
 -- a schema has from 1 to 64 valid tables with different names, and references between these tables
@@ -42,5 +42,5 @@ pub record IsValid (schema : Schema) : Type 0 where
   pub some : 0 < length schema.tables
   pub few : length schema.tables ≤ 64
   pub tables : All IsValidTable schema.tables
-  pub names : Differ (map (λ table. table.name) schema.tables)
+  pub names : NamesAreDifferent (map (λ table. table.name) schema.tables)
   pub references : All (λ table. All (IsReference schema.tables table) table.references) schema.tables

@@ -3,7 +3,7 @@ ghost use Rattle.std.specs.Prelude.{◌≡◌, All, Ok};
 ghost use Rattle.sql_tokens.specs.Words.{IsLexemeOf};
 ghost use Rattle.schema_grammar.specs.Lexemes.{IsTableWith};
 ghost use Rattle.schema_types.specs.Answers.{Answers};
-ghost use Rattle.schema_types.specs.Meaning.{within_limits, schema_of, schema_or_refusal};
+ghost use Rattle.schema_types.specs.Meaning.{if_within_limits, schema_of, schema_or_refusal};
 
 use crate::SchemaError;
 use crate::scope::Scope;
@@ -13,10 +13,10 @@ use std::alloc::Global;
 
 impl Scope<'_> {
     // The schema, or a refusal with the first limit that is exceeded.
-    #[tactic(auto, unfolding(crate::specs::Meaning::within_limits))]
+    #[tactic(auto, unfolding(crate::specs::Meaning::if_within_limits))]
     fn limited(&self) -> Result<Schema, SchemaError>
         requires { All (IsTableWith (IsLexemeOf self.now.text.now)) self.now.tables.now }
-        ensures { Answers result (within_limits self.now.text.now self.now.tables.now
+        ensures { Answers result (if_within_limits self.now.text.now self.now.tables.now
             (Ok (schema_of self.now.text.now self.now.tables.now))) }
     {
         self.check_table_count()?;

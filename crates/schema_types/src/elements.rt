@@ -83,7 +83,7 @@ impl Scope<'_> {
         Ok(())
     }
 
-    /// Adds a name to the taken names. In ASCII upper case it has to differ from each of them.
+    /// Adds a name to the taken names. In ASCII upper case it has to differ from each taken name.
     #[tactic(auto, using(crate::proofs::NameIndexes::is_one_of_by_index))]
     pub fn take_name(&self, taken: &mut NameList, token: &Lexeme) -> Result<(), SchemaError>
         requires { IsNameWith (IsLexemeOf self.now.text.now) token.now }

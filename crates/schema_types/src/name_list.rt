@@ -14,7 +14,7 @@ use std::marker::Model;
 #[derive(Drop)]
 pub struct NameList {
     names: Vec<String>,
-    places: HashMap<String, u32>,
+    indexes: HashMap<String, u32>,
 }
 
 impl Model for NameList {
@@ -26,22 +26,22 @@ impl Model for NameList {
 
     ghost view = { λ s. map string_bytes s.names.items };
 
-    ghost invariant = { λ s. (name : List ℕ) → get_by_text s.places name ≡ index_of_name (map string_bytes s.names.items) name };
+    ghost invariant = { λ s. (name : List ℕ) → get_by_text s.indexes name ≡ index_of_name (map string_bytes s.names.items) name };
 }
 
 // Notes the index of a name, if the name has no index yet.
-fn note_place(
-    places: &mut HashMap<String, u32>,
+fn note_index(
+    indexes: &mut HashMap<String, u32>,
     alloc: Global,
     name: &str,
-    place: u32,
+    index: u32,
 ) -> Result<(), NoMemory>
     ensures ok { OnOk result ((other : List ℕ)
-        → get_by_text places.new other ≡ index_after_push (get_by_text places.old other) place (bytes_eq other name.now)) }
-    ensures err { OnErr result (IsUnchanged places.old places.new) }
+        → get_by_text indexes.new other ≡ index_after_push (get_by_text indexes.old other) index (bytes_eq other name.now)) }
+    ensures err { OnErr result (IsUnchanged indexes.old indexes.new) }
 {
-    if places.get(name).is_none() {
-        places.insert(String::from_str(alloc, name)?, place)?;
+    if indexes.get(name).is_none() {
+        indexes.insert(String::from_str(alloc, name)?, index)?;
     }
     Ok(())
 }
@@ -54,7 +54,7 @@ impl NameList {
     {
         NameList {
             names: Vec::new(alloc),
-            places: HashMap::new(alloc),
+            indexes: HashMap::new(alloc),
         }
     }
 
@@ -62,7 +62,7 @@ impl NameList {
     pub fn get(&self, name: &str) -> Option<u32>
         ensures { result ≡ index_of_name self.now name.now }
     {
-        self.places.get(name).copied()
+        self.indexes.get(name).copied()
     }
 
     /// The index of each name in the list `declared`, and 0 for a name that isn't there.
@@ -92,13 +92,13 @@ impl NameList {
     pub fn push(&mut self, alloc: Global, name: &str) -> Result<(), NoMemory>
         ensures { OnOk result (self.new ≡ self.old ++ name.now ∷ []) }
     {
-        // a longer list has no room in memory
-        let Ok(place) = u32::try_from(self.names.len()) else {
+        // A list of more than 2^32 names counts as too large for the memory.
+        let Ok(index) = u32::try_from(self.names.len()) else {
             return Err(NoMemory);
         };
         let last = String::from_str(alloc, name)?;
         self.names.reserve(1)?;
-        note_place(&mut self.places, alloc, name, place)?;
+        note_index(&mut self.indexes, alloc, name, index)?;
         self.names.push(last).unwrap();
         Ok(())
     }

@@ -8,7 +8,7 @@ ghost use Rattle.schema_types.specs.Index.{table_index};
 ghost use Rattle.schema_types.specs.Offences.{is_taken, table_offences, offences};
 ghost use Rattle.schema_types.specs.Finds.{IsNameCheckOf};
 ghost use Rattle.schema_types.specs.Names.{list_if};
-ghost use Rattle.schema_types.specs.Validity.{upper_case, is_plain};
+ghost use Rattle.schema_types.specs.Validity.{upper_case, has_only_word_bytes};
 
 use crate::SchemaError;
 use crate::index::TableIndex;
@@ -19,8 +19,8 @@ use schema_grammar::TableNode;
 use sql_tokens::name;
 
 // Whether a name has only ASCII letters, digits and underscores.
-fn is_plain(name: &str) -> bool
-    ensures { result ≡ is_plain name.now }
+fn has_only_word_bytes(name: &str) -> bool
+    ensures { result ≡ has_only_word_bytes name.now }
 {
     name.as_bytes()
         .iter()
@@ -33,12 +33,12 @@ impl Scope<'_> {
         requires { IsNameWith (IsLexemeOf self.now.text.now) token.now }
         ensures offence { (before : List (List ℕ)) → taken.old ≡ map upper_case before
             → IsNameCheckOf result
-            (list_if (not (is_plain (name_of self.now.text.now token.now)) || is_taken (name_of self.now.text.now token.now) before)
+            (list_if (not (has_only_word_bytes (name_of self.now.text.now token.now)) || is_taken (name_of self.now.text.now token.now) before)
             token.now.start) }
         ensures added { OnOk result (taken.new ≡ taken.old ++ upper_case (name_of self.now.text.now token.now) ∷ []) }
     {
         let name = name(self.alloc, self.text, token)?;
-        if !is_plain(name.as_str()) {
+        if !has_only_word_bytes(name.as_str()) {
             return Err(SchemaError::Name { at: token.start });
         }
         self.take_name(taken, token)

@@ -33,7 +33,7 @@ fn read_lexemes(alloc: Global, text: &[u8]) -> Result<Seq<Lexeme>, SchemaError>
 }
 
 // The schema of a text, or the first refusal.
-#[tactic(auto, using(crate::proofs::Stages::answered, crate::proofs::Stages::spells_from, crate::proofs::Stages::lie_in))]
+#[tactic(auto, using(crate::proofs::Stages::result_of_text, crate::proofs::Stages::spells_from, crate::proofs::Stages::tables_lie_in_text))]
 fn answer(alloc: Global, text: &[u8]) -> Result<Schema, SchemaError>
     requires { length text.now ≤ most_text }
     ensures { IsSchemaOf text.now result }

@@ -17,7 +17,7 @@ use base_io::NoMemory;
 use schema_grammar::TargetNode;
 
 impl Scope<'_> {
-    /// The index of the table that a reference refers to. This is the first table with the name in the reference.
+    /// The `TableIndex` of the table that a reference refers to: the first table with the name in the reference.
     #[tactic(auto, using(crate::proofs::Targets::no_target, crate::proofs::Targets::target_found, crate::proofs::NameIndexes::place_of_within))]
     pub fn target(&self, target: &TargetNode) -> Result<Option<&TableIndex>, NoMemory>
         requires { IsTargetWith (IsLexemeOf self.now.text.now) target.now }
@@ -31,8 +31,8 @@ impl Scope<'_> {
         }
     }
 
-    // Checks the columns that a reference refers to. `table` is the index of the target. `count` columns refer, and they have to refer to as many
-    // columns.
+    // Checks the columns that a reference refers to. `table` is the `TableIndex` of the target table. A reference from `count` columns has to refer
+    // to `count` columns.
     #[tactic(auto, unfolding(crate::specs::Index::table_index))]
     fn check_target_columns(
         &self,

@@ -6,7 +6,7 @@ ghost use Rattle.sql_tokens.specs.Words.{IsLexemeOf};
 ghost use Rattle.schema_grammar.specs.Lexemes.{IsTypeWith, IsColumnWith, IsElementWith, IsTableWith};
 ghost use Rattle.schema_types.specs.Index.{table_index};
 ghost use Rattle.schema_types.specs.Meaning.{kind_of, column_of, element_column, table_of, schema_of};
-ghost use Rattle.schema_types.specs.Refusals.{above, type_lengths, element_lengths, text_lengths};
+ghost use Rattle.schema_types.specs.Refusals.{numbers_above, type_lengths, element_lengths, text_lengths};
 
 use crate::build::KeysAndReferences;
 use crate::index::TableIndex;
@@ -20,7 +20,7 @@ impl Scope<'_> {
     #[tactic(auto, using(crate::proofs::Above::not_above))]
     fn kind(&self, kind: &TypeNode) -> Kind
         requires tokens { IsTypeWith (IsLexemeOf self.now.text.now) kind.now }
-        requires within { above most_length (type_lengths self.now.text.now kind.now) ≡ [] }
+        requires within { numbers_above most_length (type_lengths self.now.text.now kind.now) ≡ [] }
         ensures { result ≡ kind_of self.now.text.now kind.now }
     {
         match kind {
@@ -31,7 +31,7 @@ impl Scope<'_> {
 
     fn column(&self, column: &ColumnNode) -> Result<Column, NoMemory>
         requires tokens { IsColumnWith (IsLexemeOf self.now.text.now) column.now }
-        requires within { above most_length (type_lengths self.now.text.now column.now.kind) ≡ [] }
+        requires within { numbers_above most_length (type_lengths self.now.text.now column.now.kind) ≡ [] }
         ensures { IfOk result (λ found. found ≡ column_of self.now.text.now column.now) }
     {
         let name = name(self.alloc, self.text, &column.name)?;
@@ -45,7 +45,7 @@ impl Scope<'_> {
         columns: &mut Seq<Column>,
     ) -> Result<(), NoMemory>
         requires tokens { IsElementWith (IsLexemeOf self.now.text.now) element.now }
-        requires within { above most_length (element_lengths self.now.text.now element.now) ≡ [] }
+        requires within { numbers_above most_length (element_lengths self.now.text.now element.now) ≡ [] }
         ensures { OnOk result (columns.new ≡ columns.old ++ element_column self.now.text.now element.now) }
     {
         match element {
@@ -59,7 +59,7 @@ impl Scope<'_> {
 
     fn columns(&self, elements: &[Element]) -> Result<Seq<Column>, NoMemory>
         requires tokens { All (IsElementWith (IsLexemeOf self.now.text.now)) elements.now }
-        requires within { flat_map (λ element. above most_length (element_lengths self.now.text.now element)) elements.now ≡ [] }
+        requires within { flat_map (λ element. numbers_above most_length (element_lengths self.now.text.now element)) elements.now ≡ [] }
         ensures { IfOk result (λ found. found ≡ flat_map (element_column self.now.text.now) elements.now) }
     {
         let mut found = Seq::new(self.alloc);
@@ -74,7 +74,7 @@ impl Scope<'_> {
     fn table(&self, table: &TableNode, index: &TableIndex) -> Result<Table, NoMemory>
         requires tokens { IsTableWith (IsLexemeOf self.now.text.now) table.now }
         requires indexed { index.now ≡ table_index self.now.text.now table.now }
-        requires within { flat_map (λ element. above most_length (element_lengths self.now.text.now element)) table.now.elements ≡ [] }
+        requires within { flat_map (λ element. numbers_above most_length (element_lengths self.now.text.now element)) table.now.elements ≡ [] }
         ensures { IfOk result (λ found. found ≡ table_of self.now.text.now self.now.tables.now table.now) }
     {
         let name = name(self.alloc, self.text, &table.name)?;
@@ -93,7 +93,7 @@ impl Scope<'_> {
     #[tactic(auto, unfolding(crate::specs::Meaning::schema_of))]
     pub fn schema(&self) -> Result<Schema, NoMemory>
         requires tokens { All (IsTableWith (IsLexemeOf self.now.text.now)) self.now.tables.now }
-        requires within { above most_length (text_lengths self.now.text.now self.now.tables.now) ≡ [] }
+        requires within { numbers_above most_length (text_lengths self.now.text.now self.now.tables.now) ≡ [] }
         ensures { IfOk result (λ found. found ≡ schema_of self.now.text.now self.now.tables.now) }
     {
         let mut tables = Seq::new(self.alloc);

@@ -5,11 +5,11 @@ use Rattle.std.specs.List.{AllByRecursion, Contains}
 use Rattle.std.proofs.lemmas.Bool.{cases_Bool}
 use Rattle.std.proofs.lemmas.List.{append_assoc, append-nil, take-append-drop}
 use Rattle.std.proofs.lemmas.List.Elements.{Contains-append_cases, Contains-append_left, Contains-append_right}
-use Rattle.entry_sets.proofs.Listing.{in_front, in_none, in_rest, one_in}
+use Rattle.entry_sets.proofs.Listing.{in_front, not_in_empty, in_rest, in_front_or_rest}
 use Rattle.berge_tree.specs.declared.edges.Edge.{Edge}
 use Rattle.berge_tree.specs.Equalities.{AreApart, ClosesNoCycle, ClosesNoCycleAfter}
 use Rattle.join_graph.specs.Kept.{KeepsAfter, at_end, equalities_within, rotated, joins_within, keeps, kept_in_order, kept_of}
-use Rattle.join_graph.proofs.Connecting.{one_kept, own_components}
+use Rattle.join_graph.proofs.Connecting.{kept_are_computed, own_components}
 use Rattle.entry_sets.specs.Sets.{IsSubset}
 use Rattle.set_bounds.proofs.Listing.{joins_more}
 
@@ -17,8 +17,8 @@ use Rattle.set_bounds.proofs.Listing.{joins_more}
 
 module _ {X : Type 0} (Q : X → Type 0) where
   pub each : (xs : List X) → AllByRecursion Q xs → (x : X) → Contains xs x → Q x
-  each [] h x k = absurd (in_none x k)
-  each (y ∷ ys) h x k = elim (one_in y ys x k) [ inl old ↦ each ys h.1 x old | inr is ↦ subst Q (sym is) h.0 ]
+  each [] h x k = absurd (not_in_empty x k)
+  each (y ∷ ys) h x k = elim (in_front_or_rest y ys x k) [ inl old ↦ each ys h.1 x old | inr is ↦ subst Q (sym is) h.0 ]
 
   pub all_in : (xs : List X) → ((x : X) → Contains xs x → Q x) → AllByRecursion Q xs
   all_in [] h = tt
@@ -35,7 +35,7 @@ pub all_among : (Q : Edge → Type 0) (xs ys : List Edge) → AreAmong xs ys →
 all_among Q xs ys among h = all_in Q xs (λ e k. each Q ys h e (among e k))
 
 with_one : (e : Edge) (xs ys : List Edge) → AreAmong xs ys → AreAmong (e ∷ xs) (e ∷ ys)
-with_one e xs ys among f k = elim (one_in e xs f k) [ inl old ↦ in_rest e ys f (among f old) | inr is ↦ in_front e ys f is ]
+with_one e xs ys among f k = elim (in_front_or_rest e xs f k) [ inl old ↦ in_rest e ys f (among f old) | inr is ↦ in_front e ys f is ]
 
 pub other_order : (xs ys : List Edge) → AreAmong (xs ++ ys) (ys ++ xs)
 other_order xs ys e k = elim (Contains-append_cases xs ys e k) [
@@ -43,7 +43,7 @@ other_order xs ys e k = elim (Contains-append_cases xs ys e k) [
   | inr behind ↦ Contains-append_left ys xs e behind
 ]
 
--- ---- if equalities don't connect two entries (`AreApart`), some of these equalities don't connect them either
+-- ---- if equalities don't connect two entries (`AreApart`), a part of these equalities doesn't connect them either
 
 abbrev Together : (ℕ → Bool) → Edge → Type 0
 Together side e = side e.left.entry ≡ side e.right.entry
@@ -124,9 +124,9 @@ onto earlier [] = earlier
 onto earlier (e ∷ es) = onto (e ∷ earlier) es
 
 swapped : (e f : Edge) (xs : List Edge) → AreAmong (e ∷ (f ∷ xs)) (f ∷ (e ∷ xs))
-swapped e f xs g k = elim (one_in e (f ∷ xs) g k) [
+swapped e f xs g k = elim (in_front_or_rest e (f ∷ xs) g k) [
   | inr is ↦ in_rest f (e ∷ xs) g (in_front e xs g is)
-  | inl old ↦ elim (one_in f xs g old) [
+  | inl old ↦ elim (in_front_or_rest f xs g old) [
     | inr is ↦ in_front f (e ∷ xs) g is
     | inl older ↦ in_rest f (e ∷ xs) g (in_rest e xs g older)
   ]
@@ -141,7 +141,7 @@ put_last earlier [] e h s = (s, tt)
 put_last earlier (f ∷ fs) e h s = (h.0, put_last (f ∷ earlier) fs e h.1 s)
 
 moved_last : (e : Edge) (es : List Edge) → ClosesNoCycle (e ∷ es) → ClosesNoCycle (es ++ e ∷ [])
-moved_last e es h = put_last [] es e (fewer_before (e ∷ []) [] es (λ f k. absurd (in_none f k)) h.1) (apart_last [] es e h.0 h.1)
+moved_last e es h = put_last [] es e (fewer_before (e ∷ []) [] es (λ f k. absurd (not_in_empty f k)) h.1) (apart_last [] es e h.0 h.1)
 
 rotates : (front behind : List Edge) → ClosesNoCycle (front ++ behind) → ClosesNoCycle (behind ++ front)
 rotates [] behind h = subst ClosesNoCycle (sym (append-nil behind)) h
@@ -156,23 +156,23 @@ all_kept earlier [] h = at_end earlier
 all_kept earlier (e ∷ es) h = keeps earlier e es es h.0 (all_kept (e ∷ earlier) es h.1)
 
 keeps_all : (es : List Edge) → ClosesNoCycle es → kept_in_order es ≡ es
-keeps_all es h = sym (one_kept (all_kept [] es h) (λ x. x) own_components)
+keeps_all es h = sym (kept_are_computed (all_kept [] es h) (λ x. x) own_components)
 
 pub forest_kept : (es : List Edge) (subset turn : ℕ) → ClosesNoCycle (equalities_within subset es) → kept_of subset turn es ≡ rotated turn (equalities_within subset es)
 forest_kept es subset turn h =
     let of_set : List Edge = equalities_within subset es in
     keeps_all (rotated turn of_set) (rotates (take turn of_set) (drop turn of_set) (subst ClosesNoCycle (sym (take-append-drop turn of_set)) h))
 
-pub round_among : (turn : ℕ) (es : List Edge) → AreAmong (rotated turn es) es
-round_among turn es e k = subst (λ (xs : List Edge). Contains xs e) (take-append-drop turn es) (other_order (drop turn es) (take turn es) e k)
+pub rotated_among : (turn : ℕ) (es : List Edge) → AreAmong (rotated turn es) es
+rotated_among turn es e k = subst (λ (xs : List Edge). Contains xs e) (take-append-drop turn es) (other_order (drop turn es) (take turn es) e k)
 
-pub among_round : (turn : ℕ) (es : List Edge) → AreAmong es (rotated turn es)
-among_round turn es e k = other_order (take turn es) (drop turn es) e (subst (λ (xs : List Edge). Contains xs e) (sym (take-append-drop turn es)) k)
+pub among_rotated : (turn : ℕ) (es : List Edge) → AreAmong es (rotated turn es)
+among_rotated turn es e k = other_order (take turn es) (drop turn es) e (subst (λ (xs : List Edge). Contains xs e) (sym (take-append-drop turn es)) k)
 
 -- ---- fewer entries: the equalities within a smaller set close no cycle either
 
-not_more : (subset whole : ℕ) → IsSubset subset whole → (e : Edge) → joins_within whole e ≡ false → joins_within subset e ≡ false
-not_more subset whole within e out = elim (cases_Bool (joins_within subset e)) [
+no_more_within : (subset whole : ℕ) → IsSubset subset whole → (e : Edge) → joins_within whole e ≡ false → joins_within subset e ≡ false
+no_more_within subset whole within e out = elim (cases_Bool (joins_within subset e)) [
   | inl t ↦ absurd (true_false (sym (joins_more subset whole within e t) ∙ out))
   | inr n ↦ n
 ]
@@ -187,7 +187,7 @@ within_of subset whole within (e ∷ es) = elim (cases_Bool (joins_within whole 
     | inl u ↦ rw u (ap (λ (s : List Edge). e ∷ s) (within_of subset whole within es))
     | inr n ↦ rw n (within_of subset whole within es)
   ])
-  | inr n ↦ rw (n, not_more subset whole within e n) (within_of subset whole within es)
+  | inr n ↦ rw (n, no_more_within subset whole within e n) (within_of subset whole within es)
 ]
 
 pub forest_within : (es : List Edge) (subset whole : ℕ) → IsSubset subset whole → ClosesNoCycle (equalities_within whole es) → ClosesNoCycle (equalities_within subset es)

@@ -8,3 +8,4 @@ pub mod ColumnClasses
 pub mod Skipping
 pub mod Within
 pub mod OneTurn
+pub mod OnCycles

@@ -1,5 +1,5 @@
--- Suppose that the equalities of a set close no cycle, and that the set consists of two parts that no equality joins. Then its bound is the product
--- of the parts' bounds.
+-- Suppose that the equalities of a set close no cycle, and that the set consists of two parts that no equality joins. Then the set's bound is the
+-- product of the parts' bounds.
 use Rattle.std.proofs.Common.{◌≡◌, ◌≢◌, ◌⊎◌, ℕ, ◌*◌, Bool, true, false, cond, not, ◌&&◌, List, [], ◌∷◌, ◌++◌, refl, ap, sym, ◌∙◌, subst, inl, inr, mul_assoc, mul_comm, arith}
 use Rattle.std.specs.Prelude.{filter}
 use Rattle.std.specs.List.{AllByRecursion, AllPairs, Contains}
@@ -8,28 +8,28 @@ use Rattle.std.proofs.lemmas.Bool.{cases_Bool, and_parts, and_from}
 use Rattle.std.proofs.lemmas.List.Elements.{Contains-append_left, Contains-append_right, filter-append}
 use Rattle.std.proofs.lemmas.List.Kept.{AllPairs-filter, IsStrictlyIncreasing-filter}
 use Rattle.entry_sets.specs.Sets.{IsSubset, entries_of_set, has_entry}
-use Rattle.entry_sets.proofs.Listing.{in_front, in_none, in_rest, one_in, set_entries, set_entries_only}
+use Rattle.entry_sets.proofs.Listing.{in_front, not_in_empty, in_rest, in_front_or_rest, set_entries, set_entries_only}
 use Rattle.berge_tree.specs.declared.edges.Edge.{Edge}
 use Rattle.berge_tree.specs.declared.edges.Place.{Place}
 use Rattle.berge_tree.specs.Equalities.{ClosesNoCycle, class_of}
 use Rattle.berge_tree.specs.Rooted.{AreAllTreesOf, IsTreeOf, roots}
 use Rattle.berge_tree.specs.Trees.{BergeTree, entries, entries_below, entries_of_all}
-use Rattle.berge_tree.proofs.Joining.{class_of-joined, joined}
+use Rattle.berge_tree.proofs.Joining.{class_of-joined, same_class_same_keys}
 use Rattle.berge_tree.proofs.NoCycle.{has_no_cycle}
 use Rattle.berge_tree.proofs.Separate.{one_side}
 use Rattle.join_graph.specs.Kept.{equalities_within, joins_within, kept_of}
 use Rattle.tree_bounds.specs.SetBounds.{bound_of_set, bound_of_turn, trees_of}
 use Rattle.tree_bounds.specs.TreeBounds.{EntryBounds, bound_of_tree, bound_of_trees}
-use Rattle.tree_bounds.proofs.Turns.{closes, trees_are, trees_there}
+use Rattle.tree_bounds.proofs.Turns.{closes, trees_are, trees_exist}
 use Rattle.set_bounds.specs.Parts.{AreUnjoined, ConsistsOfParts}
-use Rattle.set_bounds.proofs.Forests.{AreAmong, all_in, among_round, each, forest_kept, forest_within, round_among, within_of}
+use Rattle.set_bounds.proofs.Forests.{AreAmong, all_in, among_rotated, each, forest_kept, forest_within, rotated_among, within_of}
 use Rattle.set_bounds.proofs.SameTrees.{CarriesTrees, classes_among, forest_set, places_where, tree_carries}
 
 -- ---- members and lengths of filtered lists
 
 in_filter : {X : Type 0} (p : X → Bool) (xs : List X) (x : X) → Contains xs x → p x ≡ true → Contains (filter p xs) x
-in_filter p [] x k t = absurd (in_none x k)
-in_filter p (y ∷ ys) x k t = elim (one_in y ys x k) [
+in_filter p [] x k t = absurd (not_in_empty x k)
+in_filter p (y ∷ ys) x k t = elim (in_front_or_rest y ys x k) [
   | inr is ↦ (let here : p y ≡ true = subst (λ z. p z ≡ true) is t in rw here (in_front y (filter p ys) x is))
   | inl old ↦ elim (cases_Bool (p y)) [
     | inl u ↦ rw u (in_rest y (filter p ys) x (in_filter p ys x old t))
@@ -39,14 +39,14 @@ in_filter p (y ∷ ys) x k t = elim (one_in y ys x k) [
 
 from_step : {X : Type 0} (p : X → Bool) (y : X) (ys : List X) (x : X) → (Contains (filter p ys) x → Contains ys x × (p x ≡ true)) → (t : Bool) → p y ≡ t
     → Contains (cond t (y ∷ filter p ys) (filter p ys)) x → Contains (y ∷ ys) x × (p x ≡ true)
-from_step p y ys x later true u k = elim (one_in y (filter p ys) x k) [
+from_step p y ys x later true u k = elim (in_front_or_rest y (filter p ys) x k) [
   | inr is ↦ (in_front y ys x is, subst (λ z. p z ≡ true) (sym is) u)
   | inl old ↦ (let there : Contains ys x × (p x ≡ true) = later old in (in_rest y ys x there.0, there.1))
 ]
 from_step p y ys x later false u k = let there : Contains ys x × (p x ≡ true) = later k in (in_rest y ys x there.0, there.1)
 
 from_filter : {X : Type 0} (p : X → Bool) (xs : List X) (x : X) → Contains (filter p xs) x → Contains xs x × (p x ≡ true)
-from_filter p [] x k = absurd (in_none x k)
+from_filter p [] x k = absurd (not_in_empty x k)
 from_filter p (y ∷ ys) x k = from_step p y ys x (from_filter p ys x) (p y) refl k
 
 filter_none : (p : ℕ → Bool) (xs : List ℕ) → AllByRecursion (λ x. p x ≡ false) xs → filter p xs ≡ []
@@ -80,19 +80,19 @@ module _ (es : List Edge) (subset part : ℕ) (forest : ClosesNoCycle (equalitie
   kept_part = kept_of part 0 es
 
   of_whole : (e : Edge) → Contains kept_whole e → Contains (equalities_within subset es) e
-  of_whole e k = round_among 0 (equalities_within subset es) e (subst (λ (xs : List Edge). Contains xs e) (forest_kept es subset 0 forest) k)
+  of_whole e k = rotated_among 0 (equalities_within subset es) e (subst (λ (xs : List Edge). Contains xs e) (forest_kept es subset 0 forest) k)
 
   to_whole : (e : Edge) → Contains (equalities_within subset es) e → Contains kept_whole e
-  to_whole e k = subst (λ (xs : List Edge). Contains xs e) (sym (forest_kept es subset 0 forest)) (among_round 0 (equalities_within subset es) e k)
+  to_whole e k = subst (λ (xs : List Edge). Contains xs e) (sym (forest_kept es subset 0 forest)) (among_rotated 0 (equalities_within subset es) e k)
 
   part_forest : ClosesNoCycle (equalities_within part es)
   part_forest = forest_within es part subset within forest
 
   of_part : (e : Edge) → Contains kept_part e → Contains (equalities_within part es) e
-  of_part e k = round_among 0 (equalities_within part es) e (subst (λ (xs : List Edge). Contains xs e) (forest_kept es part 0 part_forest) k)
+  of_part e k = rotated_among 0 (equalities_within part es) e (subst (λ (xs : List Edge). Contains xs e) (forest_kept es part 0 part_forest) k)
 
   to_part : (e : Edge) → Contains (equalities_within part es) e → Contains kept_part e
-  to_part e k = subst (λ (xs : List Edge). Contains xs e) (sym (forest_kept es part 0 part_forest)) (among_round 0 (equalities_within part es) e k)
+  to_part e k = subst (λ (xs : List Edge). Contains xs e) (sym (forest_kept es part 0 part_forest)) (among_rotated 0 (equalities_within part es) e k)
 
   part_of_whole : AreAmong kept_part kept_whole
   part_of_whole e k =
@@ -109,7 +109,7 @@ module _ (es : List Edge) (subset part : ℕ) (forest : ClosesNoCycle (equalitie
   side_of_class : (p q : Place) → class_of kept_whole p ≡ class_of kept_whole q → side p.entry ≡ side q.entry
   side_of_class p q e =
       one_or_none (side p.entry) (side q.entry)
-      (joined kept_whole p q e (λ entry column. count (side entry))
+      (same_class_same_keys kept_whole p q e (λ entry column. count (side entry))
       (all_in (λ (f : Edge). count (side f.left.entry) ≡ count (side f.right.entry)) kept_whole (λ f k. ap count (same_side f k))))
 
   class_in_part : (p q : Place) → side p.entry ≡ true → class_of kept_whole p ≡ class_of kept_whole q → class_of kept_part p ≡ class_of kept_part q
@@ -122,7 +122,7 @@ module _ (es : List Edge) (subset part : ℕ) (forest : ClosesNoCycle (equalitie
           all_in (λ (f : Edge). cond (side f.left.entry) (key f.left.entry f.left.column) 0 ≡ cond (side f.right.entry) (key f.right.entry f.right.column) 0) kept_whole
           (λ f k. at f k (side f.left.entry) refl) in
           let other : side q.entry ≡ true = sym (side_of_class p q e) ∙ own in
-          ap (λ b. cond b (key p.entry p.column) 0) (sym own) ∙ joined kept_whole p q e wide equal ∙ ap (λ b. cond b (key q.entry q.column) 0) other
+          ap (λ b. cond b (key p.entry p.column) 0) (sym own) ∙ same_class_same_keys kept_whole p q e wide equal ∙ ap (λ b. cond b (key q.entry q.column) 0) other
         where
           at : (f : Edge) → Contains kept_whole f → (b : Bool) → side f.left.entry ≡ b
               → cond (side f.left.entry) (key f.left.entry f.left.column) 0 ≡ cond (side f.right.entry) (key f.right.entry f.right.column) 0
@@ -196,7 +196,7 @@ module _ (es : List Edge) (subset part : ℕ) (forest : ClosesNoCycle (equalitie
   }
 
   pub part_bound : (b : EntryBounds) → bound_of_turn b es part 0 ≡ bound_of_trees b (chosen (trees_of kept_whole subset))
-  part_bound b = ap (bound_of_trees b) (sym (trees_are es part 0 (chosen (trees_of kept_whole subset)) (all_chosen (trees_of kept_whole subset) (trees_there es subset 0))))
+  part_bound b = ap (bound_of_trees b) (sym (trees_are es part 0 (chosen (trees_of kept_whole subset)) (all_chosen (trees_of kept_whole subset) (trees_exist es subset 0))))
 
 -- ---- the product over the set's trees is the product over the trees of both parts
 
@@ -245,11 +245,11 @@ parts_multiply b es subset part rest forest falls =
     ts = trees_of (kept_of subset 0 es) subset
 
     all : AreAllTreesOf (kept_of subset 0 es) (entries_of_set subset) ts
-    all = trees_there es subset 0
+    all = trees_exist es subset 0
 
     root_in : (us : List BergeTree) (t : BergeTree) → Contains us t → Contains (entries_of_all us) t.root
-    root_in [] t k = absurd (in_none t k)
-    root_in (u ∷ us) t k = elim (one_in u us t k) [
+    root_in [] t k = absurd (not_in_empty t k)
+    root_in (u ∷ us) t k = elim (in_front_or_rest u us t k) [
       | inr is ↦ Contains-append_left (entries u) (entries_of_all us) t.root (in_front u.root (entries_below u.below) t.root (ap (λ (v : BergeTree). v.root) is))
       | inl old ↦ Contains-append_right (entries u) (entries_of_all us) t.root (root_in us t old)
     ]

@@ -4,24 +4,24 @@ use Rattle.std.proofs.Common.{◌≡◌, ◌⊎◌, ℕ, zero, suc, ◌-◌, Lis
 use Rattle.std.specs.Prelude.{⊤, Option, Some, None}
 use Rattle.std.specs.List.{AllByRecursion, Contains}
 use Rattle.entry_sets.specs.Sets.{entries_of_set}
-use Rattle.entry_sets.proofs.Listing.{in_front, in_none, in_rest, one_in}
+use Rattle.entry_sets.proofs.Listing.{in_front, not_in_empty, in_rest, in_front_or_rest}
 use Rattle.berge_tree.specs.declared.edges.Edge.{Edge}
 use Rattle.berge_tree.specs.declared.edges.Place.{Place}
 use Rattle.berge_tree.specs.Equalities.{ClosesNoCycle, class_of, place, places_of}
 use Rattle.berge_tree.specs.Rooted.{AreAllTreesOf, AreItsColumns, AreItsOthers, FollowsBelow, FollowsWithin, IsTreeOf, class_columns, member_places}
 use Rattle.berge_tree.specs.Trees.{Classes, no_class, and_class, Members, one_member, and_member, BergeTree, entries, entries_below, entries_within}
-use Rattle.berge_tree.proofs.Joining.{class_of-joined, joined}
+use Rattle.berge_tree.proofs.Joining.{class_of-joined, same_class_same_keys}
 use Rattle.join_graph.specs.Kept.{equalities_within, kept_of, turn_count}
 use Rattle.tree_bounds.specs.SetBounds.{bound_of_set, bound_of_turn, least_to, trees_of}
 use Rattle.tree_bounds.specs.TreeBounds.{EntryBounds, bound_of_trees}
 use Rattle.tree_bounds.proofs.Agreeing.{for_trees, all_left, all_right}
-use Rattle.tree_bounds.proofs.Turns.{trees_are, trees_there}
+use Rattle.tree_bounds.proofs.Turns.{trees_are, trees_exist}
 use Rattle.set_bounds.specs.Alike.{AreAlike}
-use Rattle.set_bounds.proofs.Forests.{AreAmong, all_among, all_in, among_round, each, forest_kept, round_among}
+use Rattle.set_bounds.proofs.Forests.{AreAmong, all_among, all_in, among_rotated, each, forest_kept, rotated_among}
 
 -- ---- trees of one list of equalities that are trees of another list
 
--- es and fs name the same columns of the entries that have Q, and make the same classes of them. All other columns that fs names are named by es too
+-- es and fs name the same columns of the entries that have Q, and make the same classes of them. Each column that fs names is also named by es
 pub record CarriesTrees (Q : ℕ → Type 0) (es fs : List Edge) : Type 0 where
   pub places_to : (q : Place) → Contains (places_of fs) q → Contains (places_of es) q
   pub places_from : (q : Place) → Q q.entry → Contains (places_of es) q → Contains (places_of fs) q
@@ -67,24 +67,24 @@ module _ (Q : ℕ → Type 0) (es fs : List Edge) (c : CarriesTrees Q es fs) whe
 
 -- ---- two lists of equalities, if the second list has each equality of the first
 
-record EndOf (es : List Edge) (q : Place) : Type 0 where
+record IsEndOf (es : List Edge) (q : Place) : Type 0 where
   edge : Edge
   there : Contains es edge
   at : (q ≡ edge.left) ⊎ (q ≡ edge.right)
 
-end_of : (es : List Edge) (q : Place) → Contains (places_of es) q → EndOf es q
-end_of [] q k = absurd (in_none q k)
-end_of (e ∷ es) q k = elim (one_in e.left (e.right ∷ places_of es) q k) [
+end_of : (es : List Edge) (q : Place) → Contains (places_of es) q → IsEndOf es q
+end_of [] q k = absurd (not_in_empty q k)
+end_of (e ∷ es) q k = elim (in_front_or_rest e.left (e.right ∷ places_of es) q k) [
   | inr is ↦ record { edge = e; there = in_front e es e refl; at = inl is }
-  | inl old ↦ elim (one_in e.right (places_of es) q old) [
+  | inl old ↦ elim (in_front_or_rest e.right (places_of es) q old) [
     | inr is ↦ record { edge = e; there = in_front e es e refl; at = inr is }
-    | inl older ↦ (let found : EndOf es q = end_of es q older in record { edge = found.edge; there = in_rest e es found.edge found.there; at = found.at })
+    | inl older ↦ (let found : IsEndOf es q = end_of es q older in record { edge = found.edge; there = in_rest e es found.edge found.there; at = found.at })
   ]
 ]
 
 in_places : (es : List Edge) (e : Edge) → Contains es e → Contains (places_of es) e.left × Contains (places_of es) e.right
-in_places [] e k = absurd (in_none e k)
-in_places (f ∷ es) e k = elim (one_in f es e k) [
+in_places [] e k = absurd (not_in_empty e k)
+in_places (f ∷ es) e k = elim (in_front_or_rest f es e k) [
   | inr is ↦ (
     in_front f.left (f.right ∷ places_of es) e.left (ap (λ (g : Edge). g.left) is),
     in_rest f.left (f.right ∷ places_of es) e.right (in_front f.right (places_of es) e.right (ap (λ (g : Edge). g.right) is)),
@@ -95,16 +95,16 @@ in_places (f ∷ es) e k = elim (one_in f es e k) [
 
 pub places_where : (xs ys : List Edge) (q : Place) → ((e : Edge) → Contains xs e → ((q ≡ e.left) ⊎ (q ≡ e.right)) → Contains ys e) → Contains (places_of xs) q → Contains (places_of ys) q
 places_where xs ys q there k =
-    let found : EndOf xs q = end_of xs q k in
+    let found : IsEndOf xs q = end_of xs q k in
     let ends : Contains (places_of ys) found.edge.left × Contains (places_of ys) found.edge.right = in_places ys found.edge (there found.edge found.there found.at) in
     elim found.at [ inl left ↦ subst (Contains (places_of ys)) (sym left) ends.0 | inr right ↦ subst (Contains (places_of ys)) (sym right) ends.1 ]
 
 pub classes_among : (xs ys : List Edge) → AreAmong xs ys → (p q : Place) → class_of xs p ≡ class_of xs q → class_of ys p ≡ class_of ys q
 classes_among xs ys among p q e =
-    class_of-joined ys p q (λ key all. joined xs p q e key (all_among (λ f. key f.left.entry f.left.column ≡ key f.right.entry f.right.column) xs ys among all))
+    class_of-joined ys p q (λ key all. same_class_same_keys xs p q e key (all_among (λ f. key f.left.entry f.left.column ≡ key f.right.entry f.right.column) xs ys among all))
 
-alike : (es fs : List Edge) → AreAmong es fs → AreAmong fs es → CarriesTrees (λ x. ⊤) es fs
-alike es fs there back = record {
+carry_both_ways : (es fs : List Edge) → AreAmong es fs → AreAmong fs es → CarriesTrees (λ x. ⊤) es fs
+carry_both_ways es fs there back = record {
   places_to = λ q k. places_where fs es q (λ e h at. back e h) k;
   places_from = λ q any k. places_where es fs q (λ e h at. there e h) k;
   class_to = λ p q any e. classes_among fs es back p q e;
@@ -126,7 +126,7 @@ pub same_trees : (es : List Edge) (subset turn other : ℕ) → CarriesTrees (λ
     → trees_of (kept_of subset turn es) subset ≡ trees_of (kept_of subset other es) subset
 same_trees es subset turn other c =
     trees_are es subset other (trees_of (kept_of subset turn es) subset)
-    (all_trees_carry (kept_of subset turn es) (kept_of subset other es) (entries_of_set subset) (trees_of (kept_of subset turn es) subset) c (trees_there es subset turn))
+    (all_trees_carry (kept_of subset turn es) (kept_of subset other es) (entries_of_set subset) (trees_of (kept_of subset turn es) subset) c (trees_exist es subset turn))
 
 pub alike_trees : (es : List Edge) (subset turn other : ℕ) → AreAlike (kept_of subset turn es) (kept_of subset other es)
     → trees_of (kept_of subset turn es) subset ≡ trees_of (kept_of subset other es) subset
@@ -141,12 +141,12 @@ alike_trees es subset turn other h = same_trees es subset turn other (record {
 
 pub forest_turn : (b : EntryBounds) (es : List Edge) (subset turn : ℕ) → ClosesNoCycle (equalities_within subset es) → bound_of_turn b es subset turn ≡ bound_of_turn b es subset 0
 forest_turn b es subset turn h =
-    ap (bound_of_trees b) (same_trees es subset turn 0 (alike (kept_of subset turn es) (kept_of subset 0 es) (from turn 0) (from 0 turn)))
+    ap (bound_of_trees b) (same_trees es subset turn 0 (carry_both_ways (kept_of subset turn es) (kept_of subset 0 es) (from turn 0) (from 0 turn)))
   where
     from : (i j : ℕ) → AreAmong (kept_of subset i es) (kept_of subset j es)
     from i j e k =
-        let there : Contains (equalities_within subset es) e = round_among i (equalities_within subset es) e (subst (λ (xs : List Edge). Contains xs e) (forest_kept es subset i h) k) in
-        subst (λ (xs : List Edge). Contains xs e) (sym (forest_kept es subset j h)) (among_round j (equalities_within subset es) e there)
+        let there : Contains (equalities_within subset es) e = rotated_among i (equalities_within subset es) e (subst (λ (xs : List Edge). Contains xs e) (forest_kept es subset i h) k) in
+        subst (λ (xs : List Edge). Contains xs e) (sym (forest_kept es subset j h)) (among_rotated j (equalities_within subset es) e there)
 
 pub least_alike : (f : ℕ → ℕ) (n : ℕ) → ((k : ℕ) → f k ≡ f 0) → least_to f n ≡ f 0
 least_alike f zero same = refl

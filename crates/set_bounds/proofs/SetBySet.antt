@@ -13,31 +13,31 @@ use Rattle.bound_fold.specs.Lists.{bounds_of}
 use Rattle.bound_fold.specs.Sets.{SetHasBounds}
 use Rattle.bound_fold.proofs.SetBounds.{set_never_under}
 use Rattle.set_bounds.specs.AllSets.{bound_in_128_bits, bounds_below, bounds_in_sets, bounds_of_sets, first_entries, in_every_set}
-use Rattle.set_bounds.proofs.Listing.{first_listed}
+use Rattle.set_bounds.proofs.Listing.{first_entries_have_bounds}
 
--- how many sets there are fits into 32 bits
+-- the number of sets fits into 32 bits
 pub sets_fit : (n : ℕ) → n ≤ greatest_entries → 1 * 2 ^ n % 4294967296 ≡ 2 ^ n
-sets_fit n few = let powers : 2 ^ n ≤ 2 ^ greatest_entries = pow_mono few in omega (arith, powers)
+sets_fit n within_limit = let powers : 2 ^ n ≤ 2 ^ greatest_entries = pow_mono within_limit in omega (arith, powers)
 
-pub told_more : (b : ℕ → EntryBounds) (es : List Edge) (k n : ℕ) (bounds longer : List ℕ) → bounds ≡ bounds_below b es k → n ≡ bound_in_128_bits (b k) es k → longer ≡ bounds ++ n ∷ []
+pub bounds_pushed : (b : ℕ → EntryBounds) (es : List Edge) (k n : ℕ) (bounds longer : List ℕ) → bounds ≡ bounds_below b es k → n ≡ bound_in_128_bits (b k) es k → longer ≡ bounds ++ n ∷ []
     → longer ≡ bounds_below b es (k + 1)
-told_more b es k n bounds longer before is pushed =
+bounds_pushed b es k n bounds longer before is pushed =
     pushed ∙ ap (λ (s : List ℕ). s ++ n ∷ []) before ∙ ap (λ m. bounds_below b es k ++ m ∷ []) is ∙ sym (map-range_with_len_more (λ (subset : ℕ). bound_in_128_bits (b subset) es subset) 0 k k (omega arith))
 
-pub told_in : (b : ℕ → EntryBounds) (es : List Edge) (n subset : ℕ) (bounds : List ℕ) → bounds ≡ bounds_in_sets b es n → subset < 2 ^ n → get_or bounds subset 0 ≡ bound_in_128_bits (b subset) es subset
-told_in b es n subset bounds is fits =
+pub bound_in_sets_at : (b : ℕ → EntryBounds) (es : List Edge) (n subset : ℕ) (bounds : List ℕ) → bounds ≡ bounds_in_sets b es n → subset < 2 ^ n → get_or bounds subset 0 ≡ bound_in_128_bits (b subset) es subset
+bound_in_sets_at b es n subset bounds is fits =
     ap (λ (s : List ℕ). get_or s subset 0) is ∙ get_or-map-range_with_len (λ (set : ℕ). bound_in_128_bits (b set) es set) 0 (2 ^ n) subset subset 0 fits (omega arith)
 
-pub told_at : (b : EntryBounds) (es : List Edge) (n subset : ℕ) (bounds : List ℕ) → bounds ≡ bounds_of_sets b es n → subset < 2 ^ n → get_or bounds subset 0 ≡ bound_in_128_bits b es subset
-told_at b es n subset bounds is fits = told_in (in_every_set b) es n subset bounds is fits
+pub bound_of_sets_at : (b : EntryBounds) (es : List Edge) (n subset : ℕ) (bounds : List ℕ) → bounds ≡ bounds_of_sets b es n → subset < 2 ^ n → get_or bounds subset 0 ≡ bound_in_128_bits b es subset
+bound_of_sets_at b es n subset bounds is fits = bound_in_sets_at (in_every_set b) es n subset bounds is fits
 
 -- no join of a set's tables has more rows than the set's bound, unless the bound is the greatest number of 128 bits
-abbrev pub AreNeverUnder : EntryLists → List Edge → ℕ → List ℕ → Type 0
-AreNeverUnder lists es n bounds = (subset : ℕ) → subset < 2 ^ n → (tables : KeyedTables) → SetDominates (bounds_of lists) tables es subset → (choices : List (ℕ → ℕ))
+abbrev pub AreNeverTooLow : EntryLists → List Edge → ℕ → List ℕ → Type 0
+AreNeverTooLow lists es n bounds = (subset : ℕ) → subset < 2 ^ n → (tables : KeyedTables) → SetDominates (bounds_of lists) tables es subset → (choices : List (ℕ → ℕ))
     → AllByRecursion (Satisfies tables (entries_of_set subset) (equalities_within subset es)) choices → ChoicesAreDifferent (entries_of_set subset) choices
     → (length choices ≤ get_or bounds subset 0) ⊎ (get_or bounds subset 0 ≡ 2 ^ 128 - 1)
 
 pub never_under : (lists : EntryLists) (es : List Edge) (n : ℕ) (bounds : List ℕ) → SetHasBounds lists es (first_entries n) → bounds ≡ bounds_of_sets (bounds_of lists) es n
-    → AreNeverUnder lists es n bounds
+    → AreNeverTooLow lists es n bounds
 never_under lists es n bounds listed is subset fits tables dominates choices satisfy differ =
-    set_never_under lists es subset (get_or bounds subset 0) (first_listed lists es n subset listed fits) (told_at (bounds_of lists) es n subset bounds is fits) tables dominates choices satisfy differ
+    set_never_under lists es subset (get_or bounds subset 0) (first_entries_have_bounds lists es n subset listed fits) (bound_of_sets_at (bounds_of lists) es n subset bounds is fits) tables dominates choices satisfy differ

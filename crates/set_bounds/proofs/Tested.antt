@@ -42,9 +42,9 @@ kept_every : (name : ℕ → ℕ) (es : List Edge) → length (kept_by_names nam
 kept_every name [] same = refl
 kept_every name (e ∷ es) same = kept_step name e es (λ more. kept_every more es) (eqb (name e.left.entry) (name e.right.entry)) refl same
 
-pub forest_told : (es : List Edge) (subset : ℕ) (kept : List Edge) → kept ≡ kept_of subset 0 es → length kept ≡ length (equalities_within subset es) → ClosesNoCycle kept
+pub forest_if_all_kept : (es : List Edge) (subset : ℕ) (kept : List Edge) → kept ≡ kept_of subset 0 es → length kept ≡ length (equalities_within subset es) → ClosesNoCycle kept
     → ClosesNoCycle (equalities_within subset es)
-forest_told es subset kept is same closes =
+forest_if_all_kept es subset kept is same closes =
     let of_set : List Edge = equalities_within subset es in
     let round : kept ≡ kept_by_names (λ x. x) of_set = is ∙ ap (kept_by_names (λ x. x)) (append-nil of_set) in
     subst ClosesNoCycle (round ∙ kept_every (λ x. x) of_set (ap length (sym round) ∙ same)) closes
@@ -87,19 +87,19 @@ rest_has set part entry fits = elim (cases_Bool (ltb entry greatest_entries)) [
 -- ---- the product of bounds of parts that were found before
 
 module _ (b : ℕ → EntryBounds) (es : List Edge) where
-  told_below : (k subset : ℕ) (told : List ℕ) → told ≡ bounds_below b es k → subset < k → get_or told subset 0 ≡ bound_in_128_bits (b subset) es subset
-  told_below k subset told is low =
+  bound_below_at : (k subset : ℕ) (bounds : List ℕ) → bounds ≡ bounds_below b es k → subset < k → get_or bounds subset 0 ≡ bound_in_128_bits (b subset) es subset
+  bound_below_at k subset bounds is low =
       ap (λ (s : List ℕ). get_or s subset 0) is ∙ get_or-map-range_with_len (λ (set : ℕ). bound_in_128_bits (b set) es set) 0 k subset subset 0 low (omega arith)
 
-  pub told_length : (k : ℕ) (told : List ℕ) → told ≡ bounds_below b es k → length told ≡ k
-  told_length k told is = ap length is ∙ length-map-range_with_len (λ (set : ℕ). bound_in_128_bits (b set) es set) 0 k
+  pub bounds_below_length : (k : ℕ) (bounds : List ℕ) → bounds ≡ bounds_below b es k → length bounds ≡ k
+  bounds_below_length k bounds is = ap length is ∙ length-map-range_with_len (λ (set : ℕ). bound_in_128_bits (b set) es set) 0 k
 
-  pub product_told : (subset part rest own others : ℕ) (told : List ℕ) → ClosesNoCycle (equalities_within subset es) → ConsistsOfParts es subset part rest → DependsOnPartsOnly b es
-      → told ≡ bounds_below b es subset → part < subset → rest < subset → own ≡ get_or told part 0 → others ≡ get_or told rest 0
+  pub product_of_part_bounds : (subset part rest own others : ℕ) (bounds : List ℕ) → ClosesNoCycle (equalities_within subset es) → ConsistsOfParts es subset part rest → DependsOnPartsOnly b es
+      → bounds ≡ bounds_below b es subset → part < subset → rest < subset → own ≡ get_or bounds part 0 → others ≡ get_or bounds rest 0
       → min (own * others) (2 ^ 128 - 1) ≡ bound_in_128_bits (b subset) es subset
-  product_told subset part rest own others told forest falls looks is low high own_is others_is =
-      let parts = looks subset part rest falls in
-      ap (λ m. saturated (m * others)) (own_is ∙ told_below subset part told is low ∙ parts.0)
-      ∙ ap (λ m. saturated (bound_in_128_bits (b subset) es part * m)) (others_is ∙ told_below subset rest told is high ∙ parts.1)
+  product_of_part_bounds subset part rest own others bounds forest falls depends_on_parts is low high own_is others_is =
+      let parts = depends_on_parts subset part rest falls in
+      ap (λ m. saturated (m * others)) (own_is ∙ bound_below_at subset part bounds is low ∙ parts.0)
+      ∙ ap (λ m. saturated (bound_in_128_bits (b subset) es part * m)) (others_is ∙ bound_below_at subset rest bounds is high ∙ parts.1)
       ∙ saturated-mul (bound_of_set (b subset) es part) (bound_of_set (b subset) es rest)
       ∙ ap saturated (sym (parts_multiply (b subset) es subset part rest forest falls))

@@ -21,8 +21,8 @@ within_twice subset (e ∷ es) = elim (cases_Bool (joins_within subset e)) [
   | inr n ↦ rw n (within_twice subset es)
 ]
 
-pub own_listed : (lists : EntryLists) (es own : List Edge) (subset : ℕ) → own ≡ equalities_within subset es → SetHasBounds lists es subset → SetHasBounds lists own subset
-own_listed lists es own subset is h =
+pub own_equalities_have_bounds : (lists : EntryLists) (es own : List Edge) (subset : ℕ) → own ≡ equalities_within subset es → SetHasBounds lists es subset → SetHasBounds lists own subset
+own_equalities_have_bounds lists es own subset is h =
     let same : equalities_within subset es ≡ equalities_within subset own = sym (ap (equalities_within subset) is ∙ within_twice subset es) in
     record {
       rows = h.rows;

@@ -15,8 +15,8 @@ pub record AreAlike (es fs : List Edge) : Type 0 where
   pub classes : (p q : Place) → (class_of es p ≡ class_of es q) ↔ (class_of fs p ≡ class_of fs q)
 
 -- both columns of the equality e are in the same class of the equalities es
-abbrev pub AreInOneClass : List Edge → Edge → Type 0
-AreInOneClass es e = class_of es e.left ≡ class_of es e.right
+abbrev pub IsWithinOneClass : List Edge → Edge → Type 0
+IsWithinOneClass es e = class_of es e.left ≡ class_of es e.right
 
 -- ---- turns that are like an earlier turn
 
@@ -29,7 +29,7 @@ pub record IsOfTurnBefore (es : List Edge) (subset turn : ℕ) (kept : List Edge
 abbrev pub AreOfTurnsBefore : List Edge → ℕ → ℕ → List (List Edge) → Type 0
 AreOfTurnsBefore es subset turn folded = AllByRecursion (IsOfTurnBefore es subset turn) folded
 
--- an earlier turn keeps equalities that are alike to those that `turn` keeps
+-- the kept equalities of some earlier turn are alike to those of `turn`
 pub record IsLikeEarlier (es : List Edge) (subset turn : ℕ) : Type 0 where
   pub earlier : ℕ
   pub before : earlier < turn

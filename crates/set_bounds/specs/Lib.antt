@@ -1,3 +1,4 @@
 pub mod AllSets
 pub mod Parts
 pub mod Alike
+pub mod Cycles

@@ -17,8 +17,8 @@ pub record ConsistsOfParts (es : List Edge) (subset part rest : ℕ) : Type 0 wh
   pub others : (entry : ℕ) → has_entry rest entry ≡ (has_entry subset entry && not (has_entry part entry))
   pub unjoined : AreUnjoined es subset part
 
--- the row bounds and lists of entries in a part don't depend on the rest of the set. So the row bounds and lists of the set give a part the same
--- bound as those of the part. The same is true of the bound of the rest
+-- the row bounds and lists of entries in a part don't depend on the rest of the set. So a part has the same bound by the row bounds and lists of the
+-- set as by its own. The same is true of the bound of the rest
 abbrev pub DependsOnPartsOnly : (ℕ → EntryBounds) → List Edge → Type 0
 DependsOnPartsOnly b es = (subset part rest : ℕ) → ConsistsOfParts es subset part rest
     → (bound_in_128_bits (b part) es part ≡ bound_in_128_bits (b subset) es part) × (bound_in_128_bits (b rest) es rest ≡ bound_in_128_bits (b subset) es rest)

@@ -1,16 +1,16 @@
-//! Tests whether two turns keep equalities that are alike (`AreAlike`), by the classes of their columns.
+//! Tests whether the kept equalities of two turns are alike (`AreAlike`), by the classes of their columns.
 ghost use Rattle.std.specs.Prelude.{◌≡◌, ℕ, List, true};
 ghost use Rattle.std.specs.List.{AllByRecursion};
 ghost use Rattle.berge_tree.specs.declared.edges.Edge.{Edge};
 ghost use Rattle.berge_tree.specs.Equalities.{ClosesNoCycle};
 ghost use Rattle.join_graph.specs.Kept.{kept_of};
-ghost use Rattle.set_bounds.specs.Alike.{AreAlike, AreInOneClass, AreOfTurnsBefore, IsLikeEarlier};
+ghost use Rattle.set_bounds.specs.Alike.{AreAlike, IsWithinOneClass, AreOfTurnsBefore, IsLikeEarlier};
 
 use berge_tree::{ColumnClasses, Edge};
 
 /// True only if `others` puts the two columns of each equality of `edges` into the same class.
 pub(crate) fn are_in_classes(others: &ColumnClasses, edges: &[Edge]) -> bool
-    ensures { result ≡ true → AllByRecursion (AreInOneClass others.now) edges.now }
+    ensures { result ≡ true → AllByRecursion (IsWithinOneClass others.now) edges.now }
 {
     for edge in edges {
         if !others.are_in_one(*edge) {
@@ -26,7 +26,7 @@ fn are_alike(a: &ColumnClasses, b: &ColumnClasses) -> bool
     are_in_classes(a, b.edges()) && are_in_classes(b, a.edges())
 }
 
-/// If the result is true, some earlier turn, whose bound was computed, keeps equalities that are alike to `kept`. If the result is false, nothing is
+/// If the result is true, `kept` is alike to the kept equalities of an earlier turn whose bound was computed. If the result is false, nothing is
 /// promised.
 pub(crate) fn is_like_earlier(kept: &ColumnClasses, folded: &[ColumnClasses]) -> bool
     ensures { result ≡ true → (es : List Edge) → (subset turn : ℕ) → kept.now ≡ kept_of subset turn es

@@ -1,6 +1,6 @@
 //! Computes the bound of a set whose equalities close a cycle: the least bound over its turns. To fold a turn is to compute its bound from its trees,
-//! from the leaves up. Turns that are alike have the same bound, so only the first of them is folded. If a class has an equality for each pair of its
-//! columns, all turns are alike, and one is folded.
+//! from the leaves up. Turns are alike if their kept equalities name the same columns and make the same classes. They have the same bound, so only
+//! the first of them is folded. If a class has an equality for each pair of its columns, all turns are alike, and only turn 0 is folded.
 ghost use Rattle.std.specs.Prelude.{◌≡◌, ◌+◌, ◌-◌, ◌<◌, IfOk};
 ghost use Rattle.join_graph.specs.Kept.{equalities_within, kept_of};
 ghost use Rattle.bound_fold.specs.Lists.{bounds_of};
@@ -13,10 +13,10 @@ use base_io::{NoMemory, Seq};
 use berge_tree::{ColumnClasses, Edge};
 use bound_fold::{EntryLists, turn_bound};
 use entry_sets::EntrySet;
-use join_graph::{Parts, joins_within, kept, turns};
+use join_graph::{Parts, count_turns, joins_within, kept};
 use std::alloc::{AllocError, Global};
 
-// The equalities that a set keeps in a turn, with their classes.
+// The kept equalities of a set in a turn, with their classes.
 fn classed_turn(
     alloc: Global,
     parts: &Parts,
@@ -56,8 +56,8 @@ fn least_with(
     Ok(least.min(bound))
 }
 
-// The least bound over all turns. Of several turns that are alike, only the first is folded. If each equality joins columns of one class of turn 0,
-// all turns are alike.
+// The least bound over all turns. Among turns that are alike, only the first is folded. If each equality joins columns of one class of turn 0, all
+// turns are alike.
 fn least_of_turns(
     alloc: Global,
     parts: &Parts,
@@ -74,7 +74,7 @@ fn least_of_turns(
     }
     let mut folded = Vec::new(alloc);
     folded.push(first)?;
-    for turn in 1..turns(parts, subset) {
+    for turn in 1..count_turns(parts, subset) {
         least = least_with(alloc, parts, lists, subset, turn, least, &mut folded)?;
     }
     Ok(least)
@@ -100,8 +100,8 @@ fn only_within(alloc: Global, parts: &Parts, subset: EntrySet) -> Result<Parts, 
     })
 }
 
-/// The bound of a set: the least bound over its turns. A turn goes through all equalities that it is given. So this function first leaves out
-/// equalities outside the set.
+/// The bound of a set: the least bound over its turns. A turn goes through all equalities that it is given. So this function first leaves out the
+/// equalities that aren't within the set.
 pub(crate) fn cyclic_bound(
     alloc: Global,
     parts: &Parts,

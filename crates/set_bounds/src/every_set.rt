@@ -9,42 +9,42 @@ ghost use Rattle.join_graph.specs.Kept.{equalities_within};
 ghost use Rattle.tree_bounds.specs.Tables.{KeyedTables, ChoicesAreDifferent, Satisfies, SetDominates};
 ghost use Rattle.bound_fold.specs.Lists.{bounds_of};
 ghost use Rattle.bound_fold.specs.Sets.{SetHasBounds};
-ghost use Rattle.set_bounds.specs.AllSets.{bounds_in_sets as told_in_sets, bounds_of_sets as bounds_told, first_entries};
+ghost use Rattle.set_bounds.specs.AllSets.{bounds_in_sets as spec_bounds_in_sets, bounds_of_sets as spec_bounds_of_sets, first_entries};
 ghost use Rattle.set_bounds.specs.Parts.{DependsOnPartsOnly};
 
-use crate::in_sets::KnownInSets;
+use crate::graph::Graph;
+use crate::in_sets::EntryListsBySet;
 use crate::one_set::next_bound;
-use crate::parts::is_forest;
 use base_io::{NoMemory, Seq};
 use bound_fold::EntryLists;
 use entry_sets::EntrySet;
 use join_graph::Parts;
 use std::alloc::Global;
 
-/// The bounds, in rows, of all sets of the first `count` entries, each at the index whose bits are the set's entries. A larger bound than `u128::MAX`
-/// is listed as `u128::MAX`. The empty set has the bound 1. An entry's row bound and lists may depend on the set in which the entry is joined. They
-/// may depend only on the entries that equalities of the set connect with it. So, if no cycle is closed, only connected sets are folded.
+/// The bounds, in rows, of all sets of the first `count` entries, each at the index whose bits are the set's entries. A bound above `u128::MAX` is
+/// listed as `u128::MAX`. The empty set has the bound 1. An entry's row bound and lists may depend on the set in which the entry is joined, but only
+/// on those entries that equalities of the set connect with this entry. So, if no cycle is closed, only connected sets are folded.
 ///
 /// A set's bound is the least over its turns. In a turn it is the product of the bounds of its trees (SafeBound, SIGMOD 2023; Degree Sequence Bound,
 /// ICDT 2023).
-pub fn bounds_in_sets<K: KnownInSets>(
+pub fn bounds_in_sets<K: EntryListsBySet>(
     alloc: Global,
     parts: &Parts,
     lists: &K,
     count: u8,
 ) -> Result<Seq<u128>, NoMemory>
-    requires few { count ≤ greatest_entries }
+    requires within_limit { count ≤ greatest_entries }
     requires listed { (subset : ℕ) → subset < 2 ^ count → K.is_listed lists.now parts.now.equalities subset }
-    requires looks { DependsOnPartsOnly (K.known lists.now) parts.now.equalities }
-    ensures { IfOk result (λ bounds. bounds ≡ told_in_sets (K.known lists.now) parts.now.equalities count) }
+    requires depends_on_parts { DependsOnPartsOnly (K.known lists.now) parts.now.equalities }
+    ensures { IfOk result (λ bounds. bounds ≡ spec_bounds_in_sets (K.known lists.now) parts.now.equalities count) }
 {
     let sets = 1u32 << count;
     let all = EntrySet::from_bits((sets - 1) as u16);
-    let whole = is_forest(alloc, parts, all)?;
+    let graph = Graph::of(alloc, parts, all)?;
     let mut bounds = Vec::new(alloc);
     for bits in 0..sets {
         let subset = EntrySet::from_bits(bits as u16);
-        let bound = next_bound(alloc, parts, lists, subset, whole, bounds.as_slice())?;
+        let bound = next_bound(alloc, parts, lists, &graph, subset, bounds.as_slice())?;
         bounds.push(bound)?;
     }
     Ok(Seq::from_vec(bounds))
@@ -58,9 +58,9 @@ pub fn bounds_of_sets(
     lists: &EntryLists,
     count: u8,
 ) -> Result<Seq<u128>, NoMemory>
-    requires few { count ≤ greatest_entries }
+    requires within_limit { count ≤ greatest_entries }
     requires listed { SetHasBounds lists.now parts.now.equalities (first_entries count) }
-    ensures exact { IfOk result (λ bounds. bounds ≡ bounds_told (bounds_of lists.now) parts.now.equalities count) }
+    ensures exact { IfOk result (λ bounds. bounds ≡ spec_bounds_of_sets (bounds_of lists.now) parts.now.equalities count) }
     ensures never_under { IfOk result (λ bounds. (subset : ℕ) → subset < 2 ^ count
         → (tables : KeyedTables) → SetDominates (bounds_of lists.now) tables parts.now.equalities subset
         → (choices : List (ℕ → ℕ))

@@ -16,7 +16,7 @@ use join_graph::Parts;
 use std::alloc::Global;
 
 /// Row bounds and lists of a query's entries in each set of entries: a row bound of each entry, and a list of each joined column.
-pub trait KnownInSets {
+pub trait EntryListsBySet {
     /// The row bounds and lists in each set.
     ghost known: { Self → ℕ → EntryBounds };
 
@@ -58,7 +58,7 @@ pub fn folded_bound(
 }
 
 // `EntryLists` has the same row bounds and lists in every set.
-impl KnownInSets for EntryLists {
+impl EntryListsBySet for EntryLists {
     ghost known = { λ lists. in_every_set (bounds_of lists) };
 
     ghost is_listed = { SetHasBounds };

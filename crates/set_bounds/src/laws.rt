@@ -7,22 +7,21 @@ ghost use Rattle.berge_tree.specs.Equalities.{ClosesNoCycle};
 ghost use Rattle.join_graph.specs.Kept.{equalities_within, kept_of};
 ghost use Rattle.tree_bounds.specs.SetBounds.{bound_of_set, bound_of_turn, trees_of};
 ghost use Rattle.tree_bounds.specs.TreeBounds.{EntryBounds};
-ghost use Rattle.set_bounds.specs.Alike.{AreAlike, AreInOneClass};
+ghost use Rattle.set_bounds.specs.Alike.{AreAlike, IsWithinOneClass};
 ghost use Rattle.set_bounds.specs.Parts.{ConsistsOfParts};
 
 /// If the equalities of a set close no cycle, every turn keeps all of them. So the bound in every turn is the bound of the set. The same holds if
-/// each equality of the set joins columns of one class of the equalities that turn 0 keeps, for example if a class has an equality for each pair of
-/// its columns. Then every turn keeps equalities with the same classes.
+/// each equality of the set joins columns of one class of turn 0's kept equalities. An example is a class with an equality for each pair of its
+/// columns. Then the kept equalities of every turn have the same classes.
 pub fn one_turn_serves()
     ensures forest { (b : EntryBounds) (es : List Edge) (subset turn : ℕ) → ClosesNoCycle (equalities_within subset es)
         → bound_of_turn b es subset turn ≡ bound_of_set b es subset }
     ensures classes { (b : EntryBounds) (es : List Edge) (subset turn : ℕ)
-        → AllByRecursion (AreInOneClass (kept_of subset 0 es)) (equalities_within subset es)
+        → AllByRecursion (IsWithinOneClass (kept_of subset 0 es)) (equalities_within subset es)
         → bound_of_turn b es subset turn ≡ bound_of_set b es subset }
 {}
 
-/// If the equalities of a set close no cycle, the equalities of each subset close no cycle either. So one test of all entries of the query is enough
-/// for all sets.
+/// If the equalities of a set close no cycle, the equalities of each subset close no cycle either. So one test of a set serves for all its subsets.
 pub fn fewer_entries_close_no_cycle()
     ensures { (es : List Edge) (subset whole : ℕ) → IsSubset subset whole → ClosesNoCycle (equalities_within whole es)
         → ClosesNoCycle (equalities_within subset es) }
@@ -35,7 +34,7 @@ pub fn parts_multiply()
         → ConsistsOfParts es subset part rest → bound_of_set b es subset ≡ bound_of_set b es part * bound_of_set b es rest }
 {}
 
-/// Turns that keep equalities with the same columns and the same classes have the same trees, and so the same bound.
+/// Turns whose kept equalities name the same columns and make the same classes have the same trees, and so the same bound.
 pub fn alike_turns_have_the_same_trees()
     ensures trees { (es : List Edge) (subset turn other : ℕ) → AreAlike (kept_of subset turn es) (kept_of subset other es)
         → trees_of (kept_of subset turn es) subset ≡ trees_of (kept_of subset other es) subset }

@@ -3,9 +3,11 @@ ghost use Rattle.std.specs.Prelude.{◌≡◌, IfOk, true};
 ghost use Rattle.berge_tree.specs.Equalities.{ClosesNoCycle};
 ghost use Rattle.join_graph.specs.Kept.{equalities_within};
 ghost use Rattle.set_bounds.specs.AllSets.{bound_in_128_bits, bounds_below};
+ghost use Rattle.set_bounds.specs.Cycles.{AreOnEveryCycle};
 ghost use Rattle.set_bounds.specs.Parts.{DependsOnPartsOnly};
 
-use crate::in_sets::KnownInSets;
+use crate::graph::Graph;
+use crate::in_sets::EntryListsBySet;
 use crate::parts::{consists_of_parts, first_part, is_forest, rest_of};
 use base_io::NoMemory;
 use entry_sets::EntrySet;
@@ -14,21 +16,22 @@ use std::alloc::Global;
 
 // The bound of a set whose equalities close no cycle. If the set consists of two parts that no equality joins, the bound is the product of the parts'
 // bounds. Otherwise the set is folded: its bound is computed from its trees.
-fn forest_bound<K: KnownInSets>(
+fn forest_bound<K: EntryListsBySet>(
     alloc: Global,
     parts: &Parts,
     lists: &K,
+    graph: &Graph,
     subset: EntrySet,
     smaller: &[u128],
 ) -> Result<u128, NoMemory>
     requires forest { ClosesNoCycle (equalities_within subset parts.now.equalities) }
     requires listed { K.is_listed lists.now parts.now.equalities subset }
-    requires looks { DependsOnPartsOnly (K.known lists.now) parts.now.equalities }
+    requires depends_on_parts { DependsOnPartsOnly (K.known lists.now) parts.now.equalities }
     requires smaller { smaller.now ≡ bounds_below (K.known lists.now) parts.now.equalities subset }
     ensures { IfOk result (λ n. n ≡ bound_in_128_bits (K.known lists.now subset) parts.now.equalities subset) }
 {
     let edges = parts.equalities.as_slice();
-    let part = first_part(edges, subset);
+    let part = first_part(&graph.neighbours, subset);
     let rest = rest_of(subset, part);
     if consists_of_parts(edges, subset, part, rest) {
         let own = smaller[part.bits() as usize];
@@ -39,40 +42,39 @@ fn forest_bound<K: KnownInSets>(
     Ok(bound)
 }
 
-// Whether the equalities of a set close no cycle. `whole` says that the equalities of a larger set close no cycle; then those of this set close no
-// cycle either.
+// Whether the equalities of a set close no cycle. They are looked at only if the set has all entries of `on_every_cycle`.
 fn is_forest_within(
     alloc: Global,
     parts: &Parts,
     subset: EntrySet,
-    whole: bool,
+    on_every_cycle: EntrySet,
 ) -> Result<bool, NoMemory>
-    requires whole { whole ≡ true → ClosesNoCycle (equalities_within subset parts.now.equalities) }
+    requires on_every_cycle { AreOnEveryCycle parts.now.equalities subset on_every_cycle }
     ensures { IfOk result (λ forest. forest ≡ true → ClosesNoCycle (equalities_within subset parts.now.equalities)) }
 {
-    if whole {
+    if !on_every_cycle.is_within(subset) {
         return Ok(true);
     }
     is_forest(alloc, parts, subset)
 }
 
-/// The bound of a set, given the bounds of all sets with smaller numbers. `whole` says that the equalities of a larger set close no cycle.
-pub(crate) fn next_bound<K: KnownInSets>(
+/// The bound of a set, given the bounds of all sets with smaller numbers.
+pub(crate) fn next_bound<K: EntryListsBySet>(
     alloc: Global,
     parts: &Parts,
     lists: &K,
+    graph: &Graph,
     subset: EntrySet,
-    whole: bool,
     smaller: &[u128],
 ) -> Result<u128, NoMemory>
-    requires whole { whole ≡ true → ClosesNoCycle (equalities_within subset parts.now.equalities) }
+    requires on_every_cycle { AreOnEveryCycle parts.now.equalities subset graph.now.on_every_cycle }
     requires listed { K.is_listed lists.now parts.now.equalities subset }
-    requires looks { DependsOnPartsOnly (K.known lists.now) parts.now.equalities }
+    requires depends_on_parts { DependsOnPartsOnly (K.known lists.now) parts.now.equalities }
     requires smaller { smaller.now ≡ bounds_below (K.known lists.now) parts.now.equalities subset }
     ensures { IfOk result (λ n. n ≡ bound_in_128_bits (K.known lists.now subset) parts.now.equalities subset) }
 {
-    if is_forest_within(alloc, parts, subset, whole)? {
-        let bound = forest_bound(alloc, parts, lists, subset, smaller)?;
+    if is_forest_within(alloc, parts, subset, graph.on_every_cycle)? {
+        let bound = forest_bound(alloc, parts, lists, graph, subset, smaller)?;
         return Ok(bound);
     }
     let bound = lists.folded(alloc, parts, subset, false)?;

@@ -3,7 +3,6 @@ ghost use Rattle.std.specs.Prelude.{◌≡◌, ◌<◌, ◌&&◌, ℕ, true, not
 ghost use Rattle.entry_sets.specs.Sets.{has_entry};
 ghost use Rattle.berge_tree.specs.Equalities.{ClosesNoCycle};
 ghost use Rattle.join_graph.specs.Kept.{equalities_within};
-ghost use Rattle.join_graph.specs.Names.{HasEntriesBelow16};
 ghost use Rattle.set_bounds.specs.Parts.{ConsistsOfParts, crosses, some_cross};
 
 use base_io::NoMemory;
@@ -13,7 +12,7 @@ use join_graph::{Parts, count_within, joins_within, kept};
 use limits::GREATEST_ENTRIES;
 use std::alloc::Global;
 
-// The number of rounds in which the first part grows. Each round that changes the part adds at least one entry.
+// The number of rounds in which the first part grows. Each round adds the neighbours of another entry.
 const ROUNDS: u8 = GREATEST_ENTRIES as u8;
 
 /// Whether the equalities of a set close no cycle. They close no cycle if turn 0 keeps all of them.
@@ -24,40 +23,21 @@ pub(crate) fn is_forest(alloc: Global, parts: &Parts, subset: EntrySet) -> Resul
     Ok(edges.len() == count_within(parts.equalities.as_slice(), subset))
 }
 
-// If an entry of the equality is in the part, both entries of the equality are added to the part. Otherwise the part is unchanged.
-fn with_edge(part: EntrySet, edge: Edge) -> EntrySet
-    requires { HasEntriesBelow16 edge }
-{
-    if part.has(edge.left.entry) || part.has(edge.right.entry) {
-        part.with(edge.left.entry).with(edge.right.entry)
-    } else {
-        part
-    }
-}
-
-#[tactic(auto, using(join_graph::proofs::Turning::is_named))]
-fn with_neighbours(edges: &[Edge], subset: EntrySet, part: EntrySet) -> EntrySet {
-    let mut part = part;
-    for edge in edges {
-        if joins_within(subset, *edge) {
-            part = with_edge(part, *edge);
-        }
-    }
-    part
-}
-
 /// The least entry of a set, with all entries that the set's equalities connect with it. `consists_of_parts` tests this part before it is used.
-pub(crate) fn first_part(edges: &[Edge], subset: EntrySet) -> EntrySet {
+pub(crate) fn first_part(neighbours: &[EntrySet], subset: EntrySet) -> EntrySet {
     let bits = subset.bits();
-    let mut part = EntrySet::from_bits(bits & bits.wrapping_neg());
+    let mut part = bits & bits.wrapping_neg();
+    // The entries of the part whose neighbours aren't yet in it.
+    let mut reached = part;
     for _ in 0..ROUNDS {
-        let more = with_neighbours(edges, subset, part);
-        if more == part {
-            return part;
-        }
-        part = more;
+        let Some(next) = neighbours.get(reached.trailing_zeros() as usize) else {
+            return EntrySet::from_bits(part);
+        };
+        let more = next.bits() & bits & !part;
+        part |= more;
+        reached = (reached & reached.wrapping_sub(1)) | more;
     }
-    part
+    EntrySet::from_bits(part)
 }
 
 /// The entries of a set that are not in a part.
@@ -99,7 +79,7 @@ pub(crate) fn consists_of_parts(
     rest: EntrySet,
 ) -> bool
     requires others { (entry : ℕ) → has_entry rest entry ≡ (has_entry subset entry && not (has_entry part entry)) }
-    ensures falls { result ≡ true → ConsistsOfParts edges.now subset part rest }
+    ensures consists { result ≡ true → ConsistsOfParts edges.now subset part rest }
     ensures part { result ≡ true → part < subset }
     ensures rest { result ≡ true → rest < subset }
 {

@@ -7,7 +7,6 @@ use Rattle.slice_devices.specs.declared.slice_store.SliceFile.{SliceFile}
 abbrev pub files_of : List SliceFile → Files
 files_of files = map (λ file. (file.name.now, file.bytes.now)) files
 
--- what a sink tells: the ghost name of its room, and then the bytes that were written. By the name the lender knows that the sink still has the lent
--- room. So the bytes are in this room
+-- what a sink tells: the ghost name of its buffer, then the written bytes. The name shows in which buffer they are
 abbrev pub named_bytes : ℕ → ℕ → List ℕ → Option (List ℕ)
 named_bytes name used room = Some (name ∷ take used room)

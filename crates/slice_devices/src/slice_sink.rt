@@ -6,7 +6,7 @@ ghost use Rattle.slice_devices.specs.Slices.{named_bytes};
 
 use base_io::{Failed, Sink};
 
-/// A room, the number of bytes written at its front, and the number of failed writes. A write takes as many bytes as there is room for. It fails only
+/// A room, the number of bytes written at its front, and the number of failed writes. A write takes bytes until no room is left. It fails only
 /// if the room is full and the write brings bytes.
 #[derive(Drop)]
 pub struct SliceSink<'a> {
@@ -38,7 +38,7 @@ impl Sink for SliceSink<'_> {
 
     ghost faults = { λ s. s.faults };
 
-    /// Takes as many bytes as there is room for.
+    /// Takes bytes from the front until no room is left.
     fn write(&mut self, bytes: &[u8]) -> Result<usize, Failed>
         ensures bound { IfOk result (λ n. n ≤ length bytes.now) }
         ensures progress { 0 < length bytes.now → IfOk result (λ n. 0 < n) }

@@ -2,5 +2,5 @@
 use Rattle.std.specs.Prelude.{ℕ, max, min}
 
 -- how many of the `wanted` bytes of a call are handed on: at most `most`, where 0 counts as 1
-abbrev pub most_bytes : ℕ → ℕ → ℕ
-most_bytes most wanted = min (max most 1) wanted
+abbrev pub bytes_handed_on : ℕ → ℕ → ℕ
+bytes_handed_on most wanted = min (max most 1) wanted

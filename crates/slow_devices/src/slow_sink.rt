@@ -2,7 +2,7 @@ ghost use Rattle.std.specs.Prelude.{◌≡◌, ◌<◌, ◌≤◌, ◌+◌, ◌|
 ghost use Rattle.base_io.specs.Causes.{Rose, one_more};
 ghost use Rattle.base_io.specs.FailingCalls.{is_failing_call};
 ghost use Rattle.base_io.specs.Sinks.{appended};
-ghost use Rattle.slow_devices.specs.Cuts.{most_bytes};
+ghost use Rattle.slow_devices.specs.Cuts.{bytes_handed_on};
 
 use base_io::{Failed, MemSink, Sink};
 
@@ -45,8 +45,8 @@ impl Sink for SlowSink {
         ensures fails { is_err result ≡ (is_failing_call self.new.inner.calls self.old.inner.fail_at
             || (nat_eq self.old.inner.room 0 && nat_lt 0 (length bytes.now))) }
 
-        // A call takes the bytes that are handed on, or as many of them as there is room for.
-        ensures most { IfOk result (λ n. n ≡ min self.old.inner.room (most_bytes self.old.most (length bytes.now))) }
+        // A call takes the bytes that are handed on, until no room is left.
+        ensures most { IfOk result (λ n. n ≡ min self.old.inner.room (bytes_handed_on self.old.most (length bytes.now))) }
         ensures room { IfOk result (λ n. self.new.inner.room + n ≡ self.old.inner.room) }
         ensures kept_room { OnErr result (self.new.inner.room ≡ self.old.inner.room) }
         ensures same_most { self.new.most ≡ self.old.most }

@@ -3,7 +3,7 @@ ghost use Rattle.limits.specs.Profile.{most_file};
 ghost use Rattle.base_io.specs.Causes.{Rose, one_more};
 ghost use Rattle.base_io.specs.Files.{file_of, ReadsAt, answer_about};
 ghost use Rattle.base_io.specs.FailingCalls.{has_failed, is_failing_call};
-ghost use Rattle.slow_devices.specs.Cuts.{most_bytes};
+ghost use Rattle.slow_devices.specs.Cuts.{bytes_handed_on};
 
 use base_io::{MemStore, Store, StoreError};
 
@@ -49,9 +49,9 @@ impl Store for SlowStore {
         // A read gives bytes until the file ends, the buffer is full or `most` bytes are read. Bytes of the buffer past the first `most` stay as they
         // were.
         ensures most { IfOk result (λ n. (bytes : List ℕ) → file_of self.old.inner.files name.now ≡ Some bytes
-            → n ≡ min (length bytes - at) (most_bytes self.old.most (length into.new))) }
-        ensures behind { drop (most_bytes self.old.most (length into.old)) into.new
-            ≡ drop (most_bytes self.old.most (length into.old)) into.old }
+            → n ≡ min (length bytes - at) (bytes_handed_on self.old.most (length into.new))) }
+        ensures behind { drop (bytes_handed_on self.old.most (length into.old)) into.new
+            ≡ drop (bytes_handed_on self.old.most (length into.old)) into.old }
         ensures same_most { self.new.most ≡ self.old.most }
 
         // A call fails exactly if its number is in the inner store's `fail_at`.

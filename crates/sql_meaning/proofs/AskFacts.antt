@@ -56,12 +56,12 @@ module _ (tables : Tables) where
   abbrev from_layer : (x : Cond-F Cond) (f g : ℕ → ℕ) → Type 0
   from_layer x f g = holds_step tables f (map-Cond Cond Bool (cond_holds tables f) x) ≡ holds_step tables g (map-Cond Cond Bool (cond_holds tables g) x)
 
-  asks_layer : (y : Cond-F ((c : Cond) × DependsOnNamedRows tables c)) (f g : ℕ → ℕ)
+  layer_depends_on_named : (y : Cond-F ((c : Cond) × DependsOnNamedRows tables c)) (f g : ℕ → ℕ)
       → Agree f g (entries_step (map-Cond Cond (List ℕ) entries_named (map-Cond ((c : Cond) × DependsOnNamedRows tables c) Cond (λ e. e.0) y))) → from_layer (map-Cond ((c : Cond) × DependsOnNamedRows tables c) Cond (λ e. e.0) y) f g
-  asks_layer (layer.And ys) f g agree = ap all_of (same_members f g ys agree)
-  asks_layer (layer.Or ys) f g agree = ap any_of (same_members f g ys agree)
-  asks_layer (layer.Not y) f g agree = ap not (y.1 f g agree)
-  asks_layer (layer.Compare op left right) f g agree =
+  layer_depends_on_named (layer.And ys) f g agree = ap all_of (same_members f g ys agree)
+  layer_depends_on_named (layer.Or ys) f g agree = ap any_of (same_members f g ys agree)
+  layer_depends_on_named (layer.Not y) f g agree = ap not (y.1 f g agree)
+  layer_depends_on_named (layer.Compare op left right) f g agree =
       let one : operand_value tables f left ≡ operand_value tables g left = same_value tables f g left (λ x h. agree x (in_left (entries_of_operand left) (entries_of_operand right) x h)) in
       let two : operand_value tables f right ≡ operand_value tables g right = same_value tables f g right (λ x h. agree x (in_right (entries_of_operand left) (entries_of_operand right) x h)) in
       rw (one, two) refl
@@ -70,7 +70,7 @@ module _ (tables : Tables) where
   depends_on_named = ind-Cond (DependsOnNamedRows tables) (λ x y is. subst (λ x. DependsOnNamedRows tables (roll-Cond x)) is (λ f g agree.
       let inner : Cond-F Cond = map-Cond ((c : Cond) × DependsOnNamedRows tables c) Cond (λ e. e.0) y in
       fold-roll-Cond Bool (holds_step tables f) inner
-      ∙ asks_layer y f g (subst (Agree f g) (fold-roll-Cond (List ℕ) entries_step inner) agree)
+      ∙ layer_depends_on_named y f g (subst (Agree f g) (fold-roll-Cond (List ℕ) entries_step inner) agree)
       ∙ sym (fold-roll-Cond Bool (holds_step tables g) inner)))
 
   pub depend_on_named : (conds : List Cond) → AllByRecursion DependsOnNamed (map (conjunct_of tables) conds)

@@ -1,4 +1,4 @@
--- A well-typed condition (`IsWellTyped`) names only entries of the database. A comparison of operands of one kind is well typed.
+-- A well-typed condition (`IsWellTyped`) names only entries of the database. A comparison is well typed if its operands are of one kind.
 use Rattle.std.proofs.Common.{◌<◌, length, refl, subst}
 use Rattle.std.specs.List.{All}
 use Rattle.csv_tables.specs.declared.types.Database.{Database}
@@ -15,7 +15,7 @@ use Rattle.sql_meaning.specs.Databases.{IsWellTyped, IsColumnOfKind}
 pub entries_in_database : (db : Database) (cond : Cond) → IsWellTyped db cond → All (λ entry. entry < length db.slots) (entries_named cond)
 entries_in_database db = entries_typed (IsColumnOfKind db) (λ entry. entry < length db.slots) (λ column text h. h.exists.entry)
 
-pub can_ask : (db : Database) (op : Op) (left right : Operand) → Compares (IsColumnOfKind db) left right → IsWellTyped db (Compare op left right)
-can_ask db op left right can =
+pub same_kinds_are_well_typed : (db : Database) (op : Op) (left right : Operand) → Compares (IsColumnOfKind db) left right → IsWellTyped db (Compare op left right)
+same_kinds_are_well_typed db op left right can =
     subst (every-Cond (IsTypedLayer (IsColumnOfKind db))) (rolls-Compare op left right)
     (every_made-Cond (IsTypedLayer (IsColumnOfKind db)) (layer.Compare op left right) (layer.Compare op left right) refl can)

@@ -14,35 +14,35 @@ use Rattle.sql_meaning.specs.Conditions.{comparison_holds, cond_holds}
 use Rattle.sql_meaning.specs.Databases.{AreCells, IsWellTyped, IsColumnOf, IsColumnOfKind, IsDatabaseOf}
 use Rattle.sql_meaning.specs.Examples.{column_at, from_three_to_one, not_in_one_three, one_two_three, rows_where, three_rows, triangle, triangle_tables, x_is}
 use Rattle.sql_meaning.specs.Tables.{cells_of, Tables, row_counts, tables_of}
-use Rattle.sql_meaning.proofs.NamedFacts.{can_ask}
+use Rattle.sql_meaning.proofs.NamedFacts.{same_kinds_are_well_typed}
 use Rattle.sql_meaning.proofs.ConditionFacts.{holds_and, holds_or, holds_not, holds_compare}
 
 -- whether the comparison of column X with this number holds in this row
 abbrev x_says : Op → ℕ → ℕ → Bool
 x_says op number row = comparison_holds one_two_three (λ entry. row) op (column_at 0 0) (operand.Int (pos number))
 
-one_says : (op : Op) (number row : ℕ) → cond_holds one_two_three (λ entry. row) (x_is op number) ≡ x_says op number row
-one_says op number row = holds_compare one_two_three (λ entry. row) op (column_at 0 0) (operand.Int (pos number))
+x_is_holds : (op : Op) (number row : ℕ) → cond_holds one_two_three (λ entry. row) (x_is op number) ≡ x_says op number row
+x_is_holds op number row = holds_compare one_two_three (λ entry. row) op (column_at 0 0) (operand.Int (pos number))
 
-rows_by : (cond : Cond) (test : ℕ → Bool) → ((row : ℕ) → cond_holds one_two_three (λ entry. row) cond ≡ test row) → rows_where one_two_three cond ≡ filter test (range_with_len 0 3)
-rows_by cond test same = filter_agree (λ row. cond_holds one_two_three (λ entry. row) cond) test same (range_with_len 0 3)
+rows_by_test : (cond : Cond) (test : ℕ → Bool) → ((row : ℕ) → cond_holds one_two_three (λ entry. row) cond ≡ test row) → rows_where one_two_three cond ≡ filter test (range_with_len 0 3)
+rows_by_test cond test same = filter_agree (λ row. cond_holds one_two_three (λ entry. row) cond) test same (range_with_len 0 3)
 
-pub one : (op : Op) (number : ℕ) → rows_where one_two_three (x_is op number) ≡ filter (x_says op number) (range_with_len 0 3)
-one op number = rows_by (x_is op number) (x_says op number) (one_says op number)
+pub x_is_by_cells : (op : Op) (number : ℕ) → rows_where one_two_three (x_is op number) ≡ filter (x_says op number) (range_with_len 0 3)
+x_is_by_cells op number = rows_by_test (x_is op number) (x_says op number) (x_is_holds op number)
 
 pub not_in : rows_where one_two_three not_in_one_three ≡ 1 ∷ []
-not_in = rows_by not_in_one_three (λ row. not (x_says op.Eq 1 row || (x_says op.Eq 3 row || false)))
+not_in = rows_by_test not_in_one_three (λ row. not (x_says op.Eq 1 row || (x_says op.Eq 3 row || false)))
     (λ row. holds_not one_two_three (λ entry. row) (Or (x_is op.Eq 1 ∷ x_is op.Eq 3 ∷ []))
     ∙ ap not (holds_or one_two_three (λ entry. row) (x_is op.Eq 1 ∷ x_is op.Eq 3 ∷ []))
-    ∙ rw (one_says op.Eq 1 row, one_says op.Eq 3 row) refl)
+    ∙ rw (x_is_holds op.Eq 1 row, x_is_holds op.Eq 3 row) refl)
 
 pub ends_swapped : rows_where one_two_three from_three_to_one ≡ []
-ends_swapped = rows_by from_three_to_one (λ row. x_says op.Ge 3 row && (x_says op.Le 1 row && true))
-    (λ row. holds_and one_two_three (λ entry. row) (x_is op.Ge 3 ∷ x_is op.Le 1 ∷ []) ∙ rw (one_says op.Ge 3 row, one_says op.Le 1 row) refl)
+ends_swapped = rows_by_test from_three_to_one (λ row. x_says op.Ge 3 row && (x_says op.Le 1 row && true))
+    (λ row. holds_and one_two_three (λ entry. row) (x_is op.Ge 3 ∷ x_is op.Le 1 ∷ []) ∙ rw (x_is_holds op.Ge 3 row, x_is_holds op.Le 1 row) refl)
 
 pub thrice : rows_where one_two_three (Or (x_is op.Eq 2 ∷ x_is op.Eq 2 ∷ x_is op.Eq 2 ∷ [])) ≡ 1 ∷ []
-thrice = rows_by (Or (x_is op.Eq 2 ∷ x_is op.Eq 2 ∷ x_is op.Eq 2 ∷ [])) (λ row. x_says op.Eq 2 row || (x_says op.Eq 2 row || (x_says op.Eq 2 row || false)))
-    (λ row. holds_or one_two_three (λ entry. row) (x_is op.Eq 2 ∷ x_is op.Eq 2 ∷ x_is op.Eq 2 ∷ []) ∙ rw (one_says op.Eq 2 row) refl)
+thrice = rows_by_test (Or (x_is op.Eq 2 ∷ x_is op.Eq 2 ∷ x_is op.Eq 2 ∷ [])) (λ row. x_says op.Eq 2 row || (x_says op.Eq 2 row || (x_says op.Eq 2 row || false)))
+    (λ row. holds_or one_two_three (λ entry. row) (x_is op.Eq 2 ∷ x_is op.Eq 2 ∷ x_is op.Eq 2 ∷ []) ∙ rw (x_is_holds op.Eq 2 row) refl)
 
 -- ---- the triangle
 
@@ -91,32 +91,32 @@ is_number from (suc (suc column)) low within = absurd (omega arith)
 
 equality : (a i b j : ℕ) → a < 3 → i < 2 → b < 3 → j < 2 → IsWellTyped triangle_tables (Compare op.Eq (column_at a i) (column_at b j))
 equality a i b j la li lb lj =
-    can_ask triangle_tables op.Eq (column_at a i) (column_at b j) (record { text = false; left_kind = is_number a i la li; right_kind = is_number b j lb lj })
+    same_kinds_are_well_typed triangle_tables op.Eq (column_at a i) (column_at b j) (record { text = false; left_kind = is_number a i la li; right_kind = is_number b j lb lj })
 
-few : (a b c : ℕ) → a < 3 → b < 3 → c < 3 → All (λ n. n < 2 ^ 64) (a ∷ b ∷ c ∷ [])
-few a b c la lb lc = All-from_recursion (λ n. n < 2 ^ 64) (a ∷ b ∷ c ∷ []) (omega arith, (omega arith, (omega arith, tt)))
+numbers_fit : (a b c : ℕ) → a < 3 → b < 3 → c < 3 → All (λ n. n < 2 ^ 64) (a ∷ b ∷ c ∷ [])
+numbers_fit a b c la lb lc = All-from_recursion (λ n. n < 2 ^ 64) (a ∷ b ∷ c ∷ []) (omega arith, (omega arith, (omega arith, tt)))
 
-in_order : (first second : List ℕ) → length first ≡ 3 → length second ≡ 3 → All (λ n. n < 2 ^ 64) first → All (λ n. n < 2 ^ 64) second
+three_rows_are_cells : (first second : List ℕ) → length first ≡ 3 → length second ≡ 3 → All (λ n. n < 2 ^ 64) first → All (λ n. n < 2 ^ 64) second
     → AreCells [] (three_rows first second)
-in_order first second h k small others = (record { height = h; cells = small }, (record { height = k; cells = others }, tt))
+three_rows_are_cells first second h k small others = (record { height = h; cells = small }, (record { height = k; cells = others }, tt))
 
-few_in_triangle : (entry : ℕ) → entry < 3 → row_counts (tables_of triangle_tables) entry ≤ 4000000
-few_in_triangle zero low = omega arith
-few_in_triangle (suc zero) low = omega arith
-few_in_triangle (suc (suc zero)) low = omega arith
-few_in_triangle (suc (suc (suc entry))) low = absurd (omega arith)
+triangle_rows_within_limit : (entry : ℕ) → entry < 3 → row_counts (tables_of triangle_tables) entry ≤ 4000000
+triangle_rows_within_limit zero low = omega arith
+triangle_rows_within_limit (suc zero) low = omega arith
+triangle_rows_within_limit (suc (suc zero)) low = omega arith
+triangle_rows_within_limit (suc (suc (suc entry))) low = absurd (omega arith)
 
 pub triangle_fits : IsDatabaseOf triangle triangle_tables
 triangle_fits = record {
   some = omega arith;
   few = omega arith;
-  few_conjuncts = lit≤ tt;
+  conjuncts_within_limit = lit≤ tt;
   entries = refl;
   tables = record {
-    cells = All-from_recursion (AreCells []) triangle_tables.cells (in_order (1 ∷ 1 ∷ 2 ∷ []) (1 ∷ 2 ∷ 1 ∷ []) refl refl (few 1 1 2 (omega arith) (omega arith) (omega arith)) (few 1 2 1 (omega arith) (omega arith) (omega arith)), (in_order (1 ∷ 1 ∷ 2 ∷ []) (1 ∷ 2 ∷ 1 ∷ []) refl refl (few 1 1 2 (omega arith) (omega arith) (omega arith)) (few 1 2 1 (omega arith) (omega arith) (omega arith)), (in_order (1 ∷ 2 ∷ 1 ∷ []) (1 ∷ 1 ∷ 2 ∷ []) refl refl (few 1 2 1 (omega arith) (omega arith) (omega arith)) (few 1 1 2 (omega arith) (omega arith) (omega arith)), tt)));
+    cells = All-from_recursion (AreCells []) triangle_tables.cells (three_rows_are_cells (1 ∷ 1 ∷ 2 ∷ []) (1 ∷ 2 ∷ 1 ∷ []) refl refl (numbers_fit 1 1 2 (omega arith) (omega arith) (omega arith)) (numbers_fit 1 2 1 (omega arith) (omega arith) (omega arith)), (three_rows_are_cells (1 ∷ 1 ∷ 2 ∷ []) (1 ∷ 2 ∷ 1 ∷ []) refl refl (numbers_fit 1 1 2 (omega arith) (omega arith) (omega arith)) (numbers_fit 1 2 1 (omega arith) (omega arith) (omega arith)), (three_rows_are_cells (1 ∷ 2 ∷ 1 ∷ []) (1 ∷ 1 ∷ 2 ∷ []) refl refl (numbers_fit 1 2 1 (omega arith) (omega arith) (omega arith)) (numbers_fit 1 1 2 (omega arith) (omega arith) (omega arith)), tt)));
     slots = All-from_recursion (λ slot. slot < 3) (0 ∷ 1 ∷ 2 ∷ []) (omega arith, (omega arith, (omega arith, tt)));
   };
-  few_rows = few_in_triangle;
+  rows_within_limit = triangle_rows_within_limit;
   same_slot = λ i j low high same. same;
   conjuncts = All-from_recursion (IsWellTyped triangle_tables) triangle.conjuncts (
     equality 0 0 1 0 (omega arith) (omega arith) (omega arith) (omega arith),

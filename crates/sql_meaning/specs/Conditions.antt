@@ -25,7 +25,7 @@ operand_value tables row_of (operand.Column column) = column_value tables row_of
 operand_value tables row_of (operand.Int number) = Int number
 operand_value tables row_of (operand.Text text) = Text text
 
--- whether an operator holds for two values that are less, equal or greater as `order` says
+-- whether an operator holds for two values whose comparison gave `order`
 abbrev pub compares : Op → Ordering → Bool
 compares op.Eq order = is_eq order
 compares op.Ne order = is_ne order

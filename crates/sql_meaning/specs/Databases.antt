@@ -42,15 +42,15 @@ pub record AreTables (db : Database) : Type 0 where
   pub cells : All (AreCells db.pool) db.cells
   pub slots : All (λ slot. slot < length db.cells) db.slots
 
--- The query is within its limits, and the database fits the query. Each FROM entry has a slot, entries of the same table have the same slot, and no
--- table has too many rows. All columns that the query names exist, with the kinds that its comparisons need
+-- The query is within its limits, and the database fits the query. Each FROM entry has a slot, and entries of the same table have the same slot. No
+-- table has more than `most_rows` rows. All columns that the query names exist, with the kinds that its comparisons need
 pub record IsDatabaseOf (query : Query) (db : Database) : Type 0 where
   pub some : 0 < length query.from
   pub few : length query.from ≤ most_entries
-  pub few_conjuncts : length query.conjuncts ≤ most_conjuncts
+  pub conjuncts_within_limit : length query.conjuncts ≤ most_conjuncts
   pub entries : length db.slots ≡ length query.from
   pub tables : AreTables db
-  pub few_rows : (entry : ℕ) → entry < length query.from → row_counts (tables_of db) entry ≤ most_rows
+  pub rows_within_limit : (entry : ℕ) → entry < length query.from → row_counts (tables_of db) entry ≤ most_rows
   pub same_slot : (i j : ℕ) → i < length query.from → j < length query.from
       → slice_index (map (λ source. source.table) query.from) i ≡ slice_index (map (λ source. source.table) query.from) j
       → slice_index db.slots i ≡ slice_index db.slots j

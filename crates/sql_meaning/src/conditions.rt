@@ -14,7 +14,7 @@ use query_types::{Cond, Op, Operand};
 // Whether a comparison of two operands holds, if the entries have these rows.
 fn comparison_holds(op: Op, left: &Operand, right: &Operand, db: &Database, rows: &[u32]) -> bool
     requires tables { AreTables db.now }
-    requires askable { Compares (IsColumnOfKind db.now) left.now right.now }
+    requires well_typed { Compares (IsColumnOfKind db.now) left.now right.now }
     requires places { length rows.now ≡ length db.now.slots }
     requires left_row { HaveRows db.now rows.now (entries_of_operand left.now) }
     requires right_row { HaveRows db.now rows.now (entries_of_operand right.now) }
@@ -29,7 +29,7 @@ fn comparison_holds(op: Op, left: &Operand, right: &Operand, db: &Database, rows
 /// the condition.
 pub fn holds(cond: &Cond, db: &Database, rows: &[u32]) -> bool
     requires tables { AreTables db.now }
-    requires askable { IsWellTyped db.now cond.now }
+    requires well_typed { IsWellTyped db.now cond.now }
     requires places { length rows.now ≡ length db.now.slots }
     requires rows { HaveRows db.now rows.now (entries_named cond.now) }
     ensures { result ≡ cond_holds (tables_of db.now) (slice_index rows.now) cond.now }

@@ -9,7 +9,7 @@ ghost use Rattle.sql_meaning.specs.Databases.{IsDatabaseOf};
 ghost use Rattle.sql_meaning.specs.Examples.{from_three_to_one, not_in_one_three, one_two_three, rows_where, triangle, triangle_tables, x_is};
 ghost use Rattle.sql_meaning.specs.Tables.{tables_of};
 
-/// Conditions over a table of one column, with the values 1, 2 and 3 in its rows 0, 1 and 2. The results are row numbers.
+/// Conditions over a table of one column: row 0 has the value 1, row 1 the value 2 and row 2 the value 3. The results are row numbers.
 pub fn filters()
     ensures not_in { rows_where one_two_three not_in_one_three ≡ 1 ∷ [] }
     ensures ends_swapped { rows_where one_two_three from_three_to_one ≡ [] }

@@ -1,11 +1,11 @@
 //! What a query means: when a condition holds, which choices of rows make an answer, and the answer itself. Tables are lists of rows.
 //! Nothing here knows of plans, bounds or hashing. The code that runs a query is proved against these definitions.
 //!
-//! In: a query (`query_types`) and a database (`csv_tables`) that has its tables (`IsDatabaseOf`). `holds` tests a condition
+//! In: a query (`query_types`) and a database (`csv_tables`) that has the query's tables (`IsDatabaseOf`). `holds` tests a condition
 //! on given rows and allocates nothing. `answer_slow` lists the choices of the answer by nested loops, for tests.
 //!
-//! Contracts use `tables_of`, `cond_holds`, `entries_named`, `choices_of`, `chosen`, `answer` and `conjuncts_of`. In them `level_over` is a
-//! level over given lists of rows, and `level` and `scan` are over whole tables. `laws` has the laws.
+//! Contracts use `tables_of`, `cond_holds`, `entries_named`, `choices_of`, `chosen`, `answer` and `conjuncts_of`. In contracts `level_over` is a
+//! level over given lists of rows; `level` and `scan` read whole tables. The module `laws` has laws of these definitions.
 #![tactic(auto)]
 
 mod answer;

@@ -8,13 +8,13 @@ use Rattle.query_names.specs.declared.errors.QueryError.{QueryError}
 use Rattle.query_types.specs.declared.types.Cond.{Cond}
 use Rattle.query_types.specs.declared.types.Source.{Source}
 use Rattle.query_names.specs.Answers.{IsNameError, or_first}
-use Rattle.query_names.specs.Scopes.{Scoped, whole_scope, conditions, on_conditions, where_condition}
+use Rattle.query_names.specs.Scopes.{ConditionInScope, whole_scope, conditions, on_conditions, where_condition}
 use Rattle.query_names.specs.Binding.{from_of, outs_offences_of, names_in, kinds_in, long_lists_in, members_in}
 use Rattle.sql_parse.specs.AfterFrom.{names_after_from, kinds_after_from, lists_after_from, conjuncts_by}
 use Rattle.sql_parse.proofs.KindFacts.{flat_map-append}
 use Rattle.query_names.proofs.Walk.{error_after, name_error_append, or_first_append}
 
-split : {B : Type 0} (f : Scoped → List B) (from : List Source) (query : QueryNode) → flat_map f (conditions from query) ≡ flat_map f (on_conditions 0 query.parts) ++ flat_map f (where_condition from query.filter)
+split : {B : Type 0} (f : ConditionInScope → List B) (from : List Source) (query : QueryNode) → flat_map f (conditions from query) ≡ flat_map f (on_conditions 0 query.parts) ++ flat_map f (where_condition from query.filter)
 unfolding conditions
 split f from query = flat_map-append f (on_conditions 0 query.parts) (where_condition from query.filter)
 

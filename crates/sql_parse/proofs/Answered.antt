@@ -7,7 +7,7 @@ use Rattle.query_grammar.specs.declared.tree.QueryNode.{QueryNode}
 use Rattle.query_grammar.specs.Grammar.{QuerySpecification}
 use Rattle.query_grammar.specs.Lexemes.{IsQueryWith}
 use Rattle.query_grammar.specs.Nesting.{nesting}
-use Rattle.query_grammar.proofs.Kept.{is_query_of}
+use Rattle.query_grammar.proofs.Kept.{query_with_tokens}
 use Rattle.schema_types.specs.declared.types.Schema.{Schema}
 use Rattle.schema_types.specs.declared.errors.LimitKind.TheVariants as limit
 use Rattle.query_names.specs.declared.errors.QueryError.{QueryError}
@@ -80,5 +80,5 @@ module _ (schema : Schema) (text : List ℕ) (lexemes : List Lexeme) (are : AreL
       spelled answer none (inl memory) = inl memory
       spelled answer none (inr is) = by answer (is ∙ sym (no_number (number_offences text lexemes) (query_or_refusal schema text tree) none))
 
-pub lie_in : (text : List ℕ) (lexemes : List Lexeme) (tree : QueryNode) → QuerySpecification lexemes tree → All (IsLexemeOf text) lexemes → IsQueryWith (IsLexemeOf text) tree
-lie_in text lexemes tree spells within = is_query_of (IsLexemeOf text) lexemes tree spells within
+pub tree_lies_in_text : (text : List ℕ) (lexemes : List Lexeme) (tree : QueryNode) → QuerySpecification lexemes tree → All (IsLexemeOf text) lexemes → IsQueryWith (IsLexemeOf text) tree
+tree_lies_in_text text lexemes tree spells within = query_with_tokens (IsLexemeOf text) lexemes tree spells within

@@ -20,12 +20,12 @@ use Rattle.query_names.specs.Names.{entries, from_offences}
 use Rattle.query_names.specs.Scopes.{whole_scope, conditions}
 use Rattle.query_names.specs.Offences.{outs_offences, name_offences_in, name_offences, all_kind_offences}
 use Rattle.query_names.specs.Values.{conjuncts, selected, query_of}
-use Rattle.sql_parse.specs.QueryOrRefusal.{refusal, refusal_if_above, first_list, refusal_at_first, name_error, kind_error, limit_refusals, long_lists, refusals, first_refusal_or, query_or_refusal}
+use Rattle.sql_parse.specs.QueryOrRefusal.{refusal, refusal_if_above, first_long_list_refusal, refusal_at_first, name_error, kind_error, limit_refusals, long_lists, refusals, first_refusal_or, query_or_refusal}
 use Rattle.query_names.specs.Answers.{first}
 use Rattle.query_names.specs.Binding.{schema_of, from_of, names_in, kinds_in, long_lists_in, members_in, outs_offences_of, test_offences_of, kind_offences_of, members_by}
 use Rattle.sql_parse.specs.AfterFrom.{names_after_from, kinds_after_from, lists_after_from, conjuncts_by}
 use Rattle.sql_parse.specs.Outputs.{selected_by, capped}
-use Rattle.sql_parse.specs.Refusing.{too_long_list, limits_passed, limits_by, late_refusals, refusals_after_from, IsFirstOf, Answers}
+use Rattle.sql_parse.specs.Refusing.{long_list_refusal, limits_exceeded, limits_by, late_refusals, refusals_after_from, IsFirstOf, Answers}
 
 -- ---- the first element of a list
 
@@ -62,8 +62,8 @@ no_place wrong (place ∷ rest) none = absurd cc
 
 -- ---- limits
 
-pub not_over : (which : LimitKind) (most n : ℕ) → refusal_if_above which most n ≡ [] → n ≤ most
-not_over which most n none = at (nat_lt most n) refl none where
+pub within_limit_if_no_refusal : (which : LimitKind) (most n : ℕ) → refusal_if_above which most n ≡ [] → n ≤ most
+within_limit_if_no_refusal which most n none = at (nat_lt most n) refl none where
   at : (more : Bool) → more ≡ nat_lt most n → cond more (refusal which n ∷ []) [] ≡ [] → n ≤ most
   at true is none = absurd cc
   at false is none = ltb-false most n (sym is)
@@ -77,26 +77,26 @@ cut_twice n = grind (arith, common_steps)
 over_capped : (n : ℕ) → refusal_if_above limit.Outputs most_outputs (capped n) ≡ refusal_if_above limit.Outputs most_outputs n
 over_capped n = ap (λ b. cond b (refusal limit.Outputs (capped n) ∷ []) []) (same_test n) ∙ ap (λ m. cond (nat_lt 1024 n) (error.Limit limit.Outputs m ∷ []) []) (cut_twice n)
 
-no_list : (lists : List ℕ) → first (first_list lists) ≡ None → first lists ≡ None
+no_list : (lists : List ℕ) → first (first_long_list_refusal lists) ≡ None → first lists ≡ None
 no_list [] none = refl
 no_list (n ∷ rest) none = absurd cc
 
 module _ (from counted conjuncts outputs : ℕ) where
   abbrev due : List ℕ → List QueryError
-  due lists = refusal_if_above limit.FromEntries most_entries from ++ first_list lists ++ refusal_if_above limit.Conjuncts most_conjuncts conjuncts ++ refusal_if_above limit.Outputs most_outputs outputs
+  due lists = refusal_if_above limit.FromEntries most_entries from ++ first_long_list_refusal lists ++ refusal_if_above limit.Conjuncts most_conjuncts conjuncts ++ refusal_if_above limit.Outputs most_outputs outputs
 
-  passed_by : (many : Bool) (lists : List ℕ) → many ≡ nat_lt most_entries from → (from ≤ 12 → first lists ≡ None → counted ≡ conjuncts)
-      → first (cond many (refusal limit.FromEntries from ∷ []) [] ++ too_long_list (first lists) ++ refusal_if_above limit.Conjuncts most_conjuncts counted ++ refusal_if_above limit.Outputs most_outputs (capped outputs))
-      ≡ first (cond many (refusal limit.FromEntries from ∷ []) [] ++ first_list lists ++ refusal_if_above limit.Conjuncts most_conjuncts conjuncts ++ refusal_if_above limit.Outputs most_outputs outputs)
-  passed_by true lists is same = refl
-  passed_by false (n ∷ rest) is same = refl
-  passed_by false [] is same =
+  exceeded_limits_agree_by : (exceeds_entries : Bool) (lists : List ℕ) → exceeds_entries ≡ nat_lt most_entries from → (from ≤ 12 → first lists ≡ None → counted ≡ conjuncts)
+      → first (cond exceeds_entries (refusal limit.FromEntries from ∷ []) [] ++ long_list_refusal (first lists) ++ refusal_if_above limit.Conjuncts most_conjuncts counted ++ refusal_if_above limit.Outputs most_outputs (capped outputs))
+      ≡ first (cond exceeds_entries (refusal limit.FromEntries from ∷ []) [] ++ first_long_list_refusal lists ++ refusal_if_above limit.Conjuncts most_conjuncts conjuncts ++ refusal_if_above limit.Outputs most_outputs outputs)
+  exceeded_limits_agree_by true lists is same = refl
+  exceeded_limits_agree_by false (n ∷ rest) is same = refl
+  exceeded_limits_agree_by false [] is same =
       ap (λ n. first (refusal_if_above limit.Conjuncts most_conjuncts n ++ refusal_if_above limit.Outputs most_outputs (capped outputs))) (same (ltb-false most_entries from (sym is)) refl)
       ∙ ap (λ l. first (refusal_if_above limit.Conjuncts most_conjuncts conjuncts ++ l)) (over_capped outputs)
 
-  -- `counted` needs to be the number of conjuncts only if no earlier limit is exceeded
-  passed : (lists : List ℕ) → (from ≤ 12 → first lists ≡ None → counted ≡ conjuncts) → first (limits_passed from (first lists) counted (capped outputs)) ≡ first (due lists)
-  passed lists same = passed_by (nat_lt most_entries from) lists refl same
+  -- if no earlier limit is exceeded, `counted` must be the number of conjuncts; otherwise it may be any number
+  exceeded_limits_agree : (lists : List ℕ) → (from ≤ 12 → first lists ≡ None → counted ≡ conjuncts) → first (limits_exceeded from (first lists) counted (capped outputs)) ≡ first (due lists)
+  exceeded_limits_agree lists same = exceeded_limits_agree_by (nat_lt most_entries from) lists refl same
 
 module _ (binder : Binder) (query : QueryNode) where
   kind_first : (at : ℕ) → Some at ≡ first (kinds_after_from binder query) → Some (error.Kind at) ≡ first (late_refusals binder query)
@@ -105,12 +105,12 @@ module _ (binder : Binder) (query : QueryNode) where
 
   limit_first : (list : Option ℕ) (found : List Cond) (outputs : ℕ) → list ≡ first (lists_after_from binder query)
       → (length (from_of binder) ≤ 12 → list ≡ None → found ≡ conjuncts_by binder query) → outputs ≡ capped (length (selected_by binder query.outs))
-      → first (limits_passed (length (from_of binder)) list (length found) outputs) ≡ first (limits_by binder query)
+      → first (limits_exceeded (length (from_of binder)) list (length found) outputs) ≡ first (limits_by binder query)
   unfolding limits_by
   limit_first list found outputs is_list is_found is_outputs =
-      ap (λ l. first (limits_passed (length (from_of binder)) l (length found) outputs)) is_list
-      ∙ ap (λ n. first (limits_passed (length (from_of binder)) (first (lists_after_from binder query)) (length found) n)) is_outputs
-      ∙ passed (length (from_of binder)) (length found) (length (conjuncts_by binder query)) (length (selected_by binder query.outs)) (lists_after_from binder query) (λ few none. ap length (is_found few (is_list ∙ none)))
+      ap (λ l. first (limits_exceeded (length (from_of binder)) l (length found) outputs)) is_list
+      ∙ ap (λ n. first (limits_exceeded (length (from_of binder)) (first (lists_after_from binder query)) (length found) n)) is_outputs
+      ∙ exceeded_limits_agree (length (from_of binder)) (length found) (length (conjuncts_by binder query)) (length (selected_by binder query.outs)) (lists_after_from binder query) (λ few none. ap length (is_found few (is_list ∙ none)))
 
   no_kind : None ≡ first (kinds_after_from binder query) → first (limits_by binder query) ≡ first (late_refusals binder query)
   unfolding late_refusals
@@ -141,17 +141,17 @@ module _ (binder : Binder) (query : QueryNode) where
 
   pub late_first : {wrong : Option QueryError} (list : Option ℕ) (found : List Cond) {entries number outputs : ℕ} → None ≡ first (kinds_after_from binder query) → list ≡ first (lists_after_from binder query)
       → (length (from_of binder) ≤ 12 → list ≡ None → found ≡ conjuncts_by binder query) → outputs ≡ capped (length (selected_by binder query.outs))
-      → entries ≡ length (from_of binder) → number ≡ length found → wrong ≡ first (limits_passed entries list number outputs) → wrong ≡ first (late_refusals binder query)
+      → entries ≡ length (from_of binder) → number ≡ length found → wrong ≡ first (limits_exceeded entries list number outputs) → wrong ≡ first (late_refusals binder query)
   late_first list found {entries} {number} {outputs} none is_list is_found is_outputs is_entries is_number is =
-      is ∙ ap (λ n. first (limits_passed n list number outputs)) is_entries ∙ ap (λ n. first (limits_passed (length (from_of binder)) list n outputs)) is_number
+      is ∙ ap (λ n. first (limits_exceeded n list number outputs)) is_entries ∙ ap (λ n. first (limits_exceeded (length (from_of binder)) list n outputs)) is_number
       ∙ limit_first list found outputs is_list is_found is_outputs ∙ no_kind none
 
-  module _ (is : None ≡ first (late_refusals binder query)) where
-    abbrev many : List QueryError
-    many = refusal_if_above limit.FromEntries most_entries (length (from_of binder))
+  module _ (no_late_refusal : None ≡ first (late_refusals binder query)) where
+    abbrev entries_refusals : List QueryError
+    entries_refusals = refusal_if_above limit.FromEntries most_entries (length (from_of binder))
 
     abbrev lists : List QueryError
-    lists = first_list (lists_after_from binder query)
+    lists = first_long_list_refusal (lists_after_from binder query)
 
     abbrev conjs : List QueryError
     conjs = refusal_if_above limit.Conjuncts most_conjuncts (length (conjuncts_by binder query))
@@ -159,21 +159,21 @@ module _ (binder : Binder) (query : QueryNode) where
     abbrev outs : List QueryError
     outs = refusal_if_above limit.Outputs most_outputs (length (selected_by binder query.outs))
 
-    no_limit : first (((many ++ lists) ++ conjs) ++ outs) ≡ None
+    no_limit : first (((entries_refusals ++ lists) ++ conjs) ++ outs) ≡ None
     unfolding late_refusals limits_by
-    no_limit = none_last (refusal_at_first kind_error (kinds_after_from binder query)) (limits_by binder query) (sym is)
+    no_limit = none_last (refusal_at_first kind_error (kinds_after_from binder query)) (limits_by binder query) (sym no_late_refusal)
 
-    no_early : many ++ lists ≡ []
-    no_early = none_first (many ++ lists) conjs (ap first (none_first ((many ++ lists) ++ conjs) outs no_limit))
+    no_early : entries_refusals ++ lists ≡ []
+    no_early = none_first (entries_refusals ++ lists) conjs (ap first (none_first ((entries_refusals ++ lists) ++ conjs) outs no_limit))
 
-    pub few_entries : length (from_of binder) ≤ 12
-    few_entries = not_over limit.FromEntries most_entries (length (from_of binder)) (none_first many lists (ap first no_early))
+    pub entries_within_limit : length (from_of binder) ≤ 12
+    entries_within_limit = within_limit_if_no_refusal limit.FromEntries most_entries (length (from_of binder)) (none_first entries_refusals lists (ap first no_early))
 
     pub no_long_list : first (lists_after_from binder query) ≡ None
-    no_long_list = no_list (lists_after_from binder query) (none_last many lists (ap first no_early))
+    no_long_list = no_list (lists_after_from binder query) (none_last entries_refusals lists (ap first no_early))
 
-    pub few_outputs : length (selected_by binder query.outs) ≤ most_outputs
-    few_outputs = not_over limit.Outputs most_outputs (length (selected_by binder query.outs)) (none_at_all outs (none_last ((many ++ lists) ++ conjs) outs no_limit))
+    pub outputs_within_limit : length (selected_by binder query.outs) ≤ most_outputs
+    outputs_within_limit = within_limit_if_no_refusal limit.Outputs most_outputs (length (selected_by binder query.outs)) (none_at_all outs (none_last ((entries_refusals ++ lists) ++ conjs) outs no_limit))
 
 -- ---- what the binder computes, in terms of the schema, the text and the tree
 
@@ -183,7 +183,7 @@ names_after schema text from query = outs_offences schema text from (whole_scope
 abbrev limits_after : Schema → List ℕ → List Source → QueryNode → List QueryError
 limits_after schema text from query =
     refusal_if_above limit.FromEntries most_entries (length from)
-    ++ first_list (long_lists from query)
+    ++ first_long_list_refusal (long_lists from query)
     ++ refusal_if_above limit.Conjuncts most_conjuncts (length (conjuncts schema text from query))
     ++ refusal_if_above limit.Outputs most_outputs (length (selected schema text from query.outs))
 
@@ -242,13 +242,13 @@ module _ (schema : Schema) (text : List ℕ) (query : QueryNode) where
   from_refused (error.Limit which n) wrong = absurd wrong
 
   module _ (binder : Binder) where
-    pub record Knows : Type 0 where
+    pub record BinderMatchesTree : Type 0 where
       pub schema_is : schema_of binder ≡ schema
       pub text_is : binder.text.now ≡ text
       pub from_is : from_of binder ≡ entries schema text query
       pub no_offence : from_offences schema text query ≡ []
 
-    same_refusals : Knows → refusals_after_from binder query ≡ refusals schema text query
+    same_refusals : BinderMatchesTree → refusals_after_from binder query ≡ refusals schema text query
     same_refusals k =
         refusals_by binder query
         ∙ ap (λ s. refusals_after s binder.text.now (from_of binder) query) k.schema_is
@@ -256,11 +256,11 @@ module _ (schema : Schema) (text : List ℕ) (query : QueryNode) where
         ∙ ap (λ f. refusals_after schema text f query) k.from_is
         ∙ sym (refusals_are k.no_offence)
 
-    pub behind_by : Knows → (e : QueryError) → IsFirstOf (refusals_after_from binder query) e → Answers (query_or_refusal schema text query) (Err e)
+    pub behind_by : BinderMatchesTree → (e : QueryError) → IsFirstOf (refusals_after_from binder query) e → Answers (query_or_refusal schema text query) (Err e)
     behind_by k e (inl memory) = inl (ap (λ y. Err y) memory)
     behind_by k e (inr is) = inr (sym (refused_first e (ap first (sym (same_refusals k)) ∙ is)))
 
-    made : Knows → (from : List Source) (conjs : List Cond) (outs : List Out) → from ≡ entries schema text query → conjs ≡ conjuncts_by binder query → outs ≡ selected_by binder query.outs
+    made : BinderMatchesTree → (from : List Source) (conjs : List Cond) (outs : List Out) → from ≡ entries schema text query → conjs ≡ conjuncts_by binder query → outs ≡ selected_by binder query.outs
         → query_of schema text query ≡ record { from = from; conjuncts = conjs; select = outs }
     unfolding query_of
     made k from conjs outs is_from is_conjs is_outs =
@@ -272,7 +272,7 @@ module _ (schema : Schema) (text : List ℕ) (query : QueryNode) where
         ∙ ap (λ t. selected schema t (from_of binder) query.outs) k.text_is ∙ ap (λ f. selected schema text f query.outs) k.from_is in
         rw (is_from, same_conjs, same_outs) refl
 
-    pub value_by : Knows → (from : List Source) (conjs : List Cond) (outs : List Out) → from ≡ entries schema text query → conjs ≡ conjuncts_by binder query → outs ≡ selected_by binder query.outs
+    pub value_by : BinderMatchesTree → (from : List Source) (conjs : List Cond) (outs : List Out) → from ≡ entries schema text query → conjs ≡ conjuncts_by binder query → outs ≡ selected_by binder query.outs
         → first (refusals_after_from binder query) ≡ None → Answers (query_or_refusal schema text query) (Ok (record { from = from; conjuncts = conjs; select = outs }))
     unfolding query_or_refusal
     value_by k from conjs outs is_from is_conjs is_outs none =

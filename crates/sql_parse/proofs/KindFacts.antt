@@ -28,10 +28,10 @@ use Rattle.query_types.specs.declared.types.Operand.{Operand}
 use Rattle.query_types.specs.declared.types.Cond.TheVariants as cond
 use Rattle.query_types.specs.Validity.{is_text, FindsColumn, IsColumnOf, IsCondOf}
 use Rattle.query_types.specs.Typing.{IsOfKind, Compares}
-use Rattle.query_names.specs.Names.{place_if}
+use Rattle.query_names.specs.Names.{offset_if}
 use Rattle.query_names.specs.Scopes.{resolve, head_of, tests}
 use Rattle.query_names.specs.Offences.{of_literal, first_of, differ, operand_offences, test_offences, is_text_column, is_text_operand, kind_offence, kind_offences}
-use Rattle.query_names.specs.Values.{Meaning, alone, wholes, all_of, any_of, negated_where, resolved_column, operand_value, comparison, equality, test_meaning, meaning_step, meaning}
+use Rattle.query_names.specs.Values.{Meaning, meaning_of_one, conditions_of_meanings, all_of, any_of, negated_where, resolved_column, operand_value, comparison, equality, test_meaning, meaning_step, meaning}
 use Rattle.query_names.proofs.TestFacts.{tests_and, tests_or, tests_not, tests_test}
 use Rattle.query_names.proofs.Resolved.{ColumnExists, resolved_exists}
 use Rattle.schema_types.proofs.Above.{empty_left, empty_right}
@@ -51,7 +51,7 @@ without_offences f g h P each (x ∷ xs) no_f no_g =
     (each x (empty_left (f x) (flat_map f xs) no_f) (empty_left (g x) (flat_map g xs) no_g))
     (without_offences f g h P each xs (empty_right (f x) (flat_map f xs) no_f) (empty_right (g x) (flat_map g xs) no_g))
 
-pub not_at : (wrong : Bool) (token : Lexeme) → place_if wrong token ≡ [] → wrong ≡ false
+pub not_at : (wrong : Bool) (token : Lexeme) → offset_if wrong token ≡ [] → wrong ≡ false
 not_at true token none = absurd cc
 not_at false token none = refl
 
@@ -67,32 +67,32 @@ pub record IsMeaningOf (schema : Schema) (from : List Source) (m : Meaning) : Ty
   pub members : All (IsCondOf schema from) m.members
 
 module _ (schema : Schema) (from : List Source) where
-  abbrev IsGood : Cond → Type 0
-  IsGood c = IsCondOf schema from c
+  abbrev IsCondOfSchema : Cond → Type 0
+  IsCondOfSchema c = IsCondOf schema from c
 
-  alone_of : (c : Cond) → IsGood c → IsMeaningOf schema from (alone c)
-  alone_of c good = record { whole = good; members = All-cons IsGood c [] good (All-nil IsGood) }
+  alone_of : (c : Cond) → IsCondOfSchema c → IsMeaningOf schema from (meaning_of_one c)
+  alone_of c good = record { whole = good; members = All-cons IsCondOfSchema c [] good (All-nil IsCondOfSchema) }
 
-  wholes_of : (ms : List Meaning) → All (IsMeaningOf schema from) ms → All IsGood (wholes ms)
-  wholes_of [] good = All-nil IsGood
+  wholes_of : (ms : List Meaning) → All (IsMeaningOf schema from) ms → All IsCondOfSchema (conditions_of_meanings ms)
+  wholes_of [] good = All-nil IsCondOfSchema
   wholes_of (m ∷ ms) good =
-      All-cons IsGood m.whole (wholes ms) (All-head (IsMeaningOf schema from) m ms good).whole (wholes_of ms (All-tail (IsMeaningOf schema from) m ms good))
+      All-cons IsCondOfSchema m.whole (conditions_of_meanings ms) (All-head (IsMeaningOf schema from) m ms good).whole (wholes_of ms (All-tail (IsMeaningOf schema from) m ms good))
 
-  members_of : (ms : List Meaning) → All (IsMeaningOf schema from) ms → All IsGood (flat_map (λ part. part.members) ms)
-  members_of [] good = All-nil IsGood
+  members_of : (ms : List Meaning) → All (IsMeaningOf schema from) ms → All IsCondOfSchema (flat_map (λ part. part.members) ms)
+  members_of [] good = All-nil IsCondOfSchema
   members_of (m ∷ ms) good =
-      All-append IsGood m.members (flat_map (λ part. part.members) ms) (All-head (IsMeaningOf schema from) m ms good).members
+      All-append IsCondOfSchema m.members (flat_map (λ part. part.members) ms) (All-head (IsMeaningOf schema from) m ms good).members
       (members_of ms (All-tail (IsMeaningOf schema from) m ms good))
 
   all_of_of : (ms : List Meaning) → All (IsMeaningOf schema from) ms → IsMeaningOf schema from (all_of ms)
-  all_of_of ms good = record { whole = and_of schema from (wholes ms) (wholes_of ms good); members = members_of ms good }
+  all_of_of ms good = record { whole = and_of schema from (conditions_of_meanings ms) (wholes_of ms good); members = members_of ms good }
 
-  or_alone : (cs : List Cond) → All IsGood cs → IsMeaningOf schema from (alone (cond.Or cs))
+  or_alone : (cs : List Cond) → All IsCondOfSchema cs → IsMeaningOf schema from (meaning_of_one (cond.Or cs))
   or_alone cs good = alone_of (cond.Or cs) (or_of schema from cs good)
 
-  any_of_of : (cs : List Cond) → All IsGood cs → IsMeaningOf schema from (any_of cs)
+  any_of_of : (cs : List Cond) → All IsCondOfSchema cs → IsMeaningOf schema from (any_of cs)
   any_of_of [] good = or_alone [] good
-  any_of_of (c ∷ []) good = alone_of c (All-head IsGood c [] good)
+  any_of_of (c ∷ []) good = alone_of c (All-head IsCondOfSchema c [] good)
   any_of_of (c ∷ d ∷ rest) good = or_alone (c ∷ d ∷ rest) good
 
   negated_of : (negated : Bool) (m : Meaning) → IsMeaningOf schema from m → IsMeaningOf schema from (negated_where negated m)
@@ -108,7 +108,7 @@ module _ (schema : Schema) (words : List ℕ) (from : List Source) (scope : Scop
   abbrev value : OperandNode → Operand
   value o = operand_value schema words from scope o
 
-  column_kind : (reference : ColumnNode) (found : Option EntryColumn) → found ≡ resolve schema words from scope reference → place_if (is_none found) (head_of reference) ≡ []
+  column_kind : (reference : ColumnNode) (found : Option EntryColumn) → found ≡ resolve schema words from scope reference → offset_if (is_none found) (head_of reference) ≡ []
       → IsColumnOf schema from (resolved_column found) (is_text_column schema words from scope found)
   column_kind reference None is none = absurd cc
   column_kind reference (Some found) is none =
@@ -160,11 +160,11 @@ module _ (schema : Schema) (words : List ℕ) (from : List Source) (scope : Scop
       let named : name left ≡ [] = empty_left (name left) (name low ++ (name high ++ [])) names in
       let at_least : Cond = comparison schema words from scope op.Ge left low in
       let at_most : Cond = comparison schema words from scope op.Le left high in
-      negated_of schema from negated (all_of (alone at_least ∷ alone at_most ∷ []))
-      (all_of_of schema from (alone at_least ∷ alone at_most ∷ [])
-      (All-cons (IsMeaningOf schema from) (alone at_least) (alone at_most ∷ [])
+      negated_of schema from negated (all_of (meaning_of_one at_least ∷ meaning_of_one at_most ∷ []))
+      (all_of_of schema from (meaning_of_one at_least ∷ meaning_of_one at_most ∷ [])
+      (All-cons (IsMeaningOf schema from) (meaning_of_one at_least) (meaning_of_one at_most ∷ [])
       (alone_of schema from at_least (comparison_of op.Ge left low named (empty_left (name low) (name high ++ []) both) (empty_left (wrong low) (wrong high ++ []) kinds)))
-      (All-cons (IsMeaningOf schema from) (alone at_most) []
+      (All-cons (IsMeaningOf schema from) (meaning_of_one at_most) []
       (alone_of schema from at_most (comparison_of op.Le left high named (empty_left (name high) [] (empty_right (name low) (name high ++ []) both))
       (empty_left (wrong high) [] (empty_right (wrong low) (wrong high ++ []) kinds))))
       (All-nil (IsMeaningOf schema from)))))
@@ -182,10 +182,10 @@ module _ (schema : Schema) (words : List ℕ) (from : List Source) (scope : Scop
   pub means_and : (members : List CondNode) → means (text.And members) ≡ all_of (map means members)
   means_and members = ap means (sym (rolls-And members)) ∙ fold-roll-CondNode Meaning (meaning_step schema words from scope) (CondNode-F.And members)
 
-  pub means_or : (members : List CondNode) → means (text.Or members) ≡ alone (cond.Or (wholes (map means members)))
+  pub means_or : (members : List CondNode) → means (text.Or members) ≡ meaning_of_one (cond.Or (conditions_of_meanings (map means members)))
   means_or members = ap means (sym (rolls-Or members)) ∙ fold-roll-CondNode Meaning (meaning_step schema words from scope) (CondNode-F.Or members)
 
-  pub means_not : (member : CondNode) → means (text.Not member) ≡ alone (cond.Not (means member).whole)
+  pub means_not : (member : CondNode) → means (text.Not member) ≡ meaning_of_one (cond.Not (means member).whole)
   means_not member = ap means (sym (rolls-Not member)) ∙ fold-roll-CondNode Meaning (meaning_step schema words from scope) (CondNode-F.Not member)
 
   pub means_test : (t : TestNode) → means (text.Test t) ≡ test_meaning schema words from scope t
@@ -197,14 +197,14 @@ module _ (schema : Schema) (words : List ℕ) (from : List Source) (scope : Scop
   abbrev kinds_in : CondNode → List ℕ
   kinds_in c = flat_map (kind_offences schema words from scope) (tests c)
 
-  abbrev Good : CondNode → Type 0
-  Good c = names_in c ≡ [] → kinds_in c ≡ [] → IsMeaningOf schema from (means c)
+  abbrev HasMeaningOfSchema : CondNode → Type 0
+  HasMeaningOfSchema c = names_in c ≡ [] → kinds_in c ≡ [] → IsMeaningOf schema from (means c)
 
-  chain_of : (held : List ((c : CondNode) × Good c)) → flat_map (test_offences schema words from scope) (flat_map tests (map (λ e. e.0) held)) ≡ []
+  chain_of : (held : List ((c : CondNode) × HasMeaningOfSchema c)) → flat_map (test_offences schema words from scope) (flat_map tests (map (λ e. e.0) held)) ≡ []
       → flat_map (kind_offences schema words from scope) (flat_map tests (map (λ e. e.0) held)) ≡ [] → All (IsMeaningOf schema from) (map means (map (λ e. e.0) held))
   chain_of [] names kinds = All-nil (IsMeaningOf schema from)
   chain_of (e ∷ held) names kinds =
-      let cs : List CondNode = map (λ (e : (c : CondNode) × Good c). e.0) held in
+      let cs : List CondNode = map (λ (e : (c : CondNode) × HasMeaningOfSchema c). e.0) held in
       let named : names_in e.0 ++ flat_map (test_offences schema words from scope) (flat_map tests cs) ≡ [] =
       sym (flat_map-append (test_offences schema words from scope) (tests e.0) (flat_map tests cs)) ∙ names in
       let alike : kinds_in e.0 ++ flat_map (kind_offences schema words from scope) (flat_map tests cs) ≡ [] =
@@ -213,25 +213,25 @@ module _ (schema : Schema) (words : List ℕ) (from : List Source) (scope : Scop
       (e.1 (empty_left (names_in e.0) _ named) (empty_left (kinds_in e.0) _ alike))
       (chain_of held (empty_right (names_in e.0) _ named) (empty_right (kinds_in e.0) _ alike))
 
-  good_layer : (y : CondNode-F ((c : CondNode) × Good c)) → Good (roll-CondNode (map-CondNode ((c : CondNode) × Good c) CondNode (λ e. e.0) y))
+  good_layer : (y : CondNode-F ((c : CondNode) × HasMeaningOfSchema c)) → HasMeaningOfSchema (roll-CondNode (map-CondNode ((c : CondNode) × HasMeaningOfSchema c) CondNode (λ e. e.0) y))
   good_layer (CondNode-F.And held) =
-      let cs : List CondNode = map (λ (e : (c : CondNode) × Good c). e.0) held in
-      subst Good (sym (rolls-And cs)) (λ names kinds. subst (IsMeaningOf schema from) (sym (means_and cs))
+      let cs : List CondNode = map (λ (e : (c : CondNode) × HasMeaningOfSchema c). e.0) held in
+      subst HasMeaningOfSchema (sym (rolls-And cs)) (λ names kinds. subst (IsMeaningOf schema from) (sym (means_and cs))
       (all_of_of schema from (map means cs)
       (chain_of held (sym (ap (flat_map (test_offences schema words from scope)) (tests_and cs)) ∙ names) (sym (ap (flat_map (kind_offences schema words from scope)) (tests_and cs)) ∙ kinds))))
   good_layer (CondNode-F.Or held) =
-      let cs : List CondNode = map (λ (e : (c : CondNode) × Good c). e.0) held in
-      subst Good (sym (rolls-Or cs)) (λ names kinds. subst (IsMeaningOf schema from) (sym (means_or cs))
-      (or_alone schema from (wholes (map means cs)) (wholes_of schema from (map means cs)
+      let cs : List CondNode = map (λ (e : (c : CondNode) × HasMeaningOfSchema c). e.0) held in
+      subst HasMeaningOfSchema (sym (rolls-Or cs)) (λ names kinds. subst (IsMeaningOf schema from) (sym (means_or cs))
+      (or_alone schema from (conditions_of_meanings (map means cs)) (wholes_of schema from (map means cs)
       (chain_of held (sym (ap (flat_map (test_offences schema words from scope)) (tests_or cs)) ∙ names) (sym (ap (flat_map (kind_offences schema words from scope)) (tests_or cs)) ∙ kinds)))))
   good_layer (CondNode-F.Not e) =
-      subst Good (sym (rolls-Not e.0)) (λ names kinds. subst (IsMeaningOf schema from) (sym (means_not e.0))
+      subst HasMeaningOfSchema (sym (rolls-Not e.0)) (λ names kinds. subst (IsMeaningOf schema from) (sym (means_not e.0))
       (alone_of schema from (cond.Not (means e.0).whole) (not_of schema from (means e.0).whole
       (e.1 (sym (ap (flat_map (test_offences schema words from scope)) (tests_not e.0)) ∙ names) (sym (ap (flat_map (kind_offences schema words from scope)) (tests_not e.0)) ∙ kinds)).whole)))
   good_layer (CondNode-F.Test t) =
-      subst Good (sym (rolls-Test t)) (λ names kinds. subst (IsMeaningOf schema from) (sym (means_test t))
+      subst HasMeaningOfSchema (sym (rolls-Test t)) (λ names kinds. subst (IsMeaningOf schema from) (sym (means_test t))
       (test_of t (empty_left (test_offences schema words from scope t) [] (sym (ap (flat_map (test_offences schema words from scope)) (tests_test t)) ∙ names))
       (empty_left (kind_offences schema words from scope t) [] (sym (ap (flat_map (kind_offences schema words from scope)) (tests_test t)) ∙ kinds))))
 
   pub condition_of : (c : CondNode) → names_in c ≡ [] → kinds_in c ≡ [] → IsMeaningOf schema from (means c)
-  condition_of = ind-CondNode Good (λ x y is. subst (λ z. Good (roll-CondNode z)) is (good_layer y))
+  condition_of = ind-CondNode HasMeaningOfSchema (λ x y is. subst (λ z. HasMeaningOfSchema (roll-CondNode z)) is (good_layer y))

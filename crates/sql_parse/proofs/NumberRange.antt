@@ -4,10 +4,10 @@ use Rattle.std.proofs.lemmas.Grind.{common_steps}
 use Rattle.std.proofs.lemmas.List.{drop_all}
 use Rattle.ll_grammars.specs.declared.lexeme.Lexeme.{Lexeme}
 use Rattle.query_names.specs.Answers.{first}
-use Rattle.query_names.specs.Numbers.{is_too_large, sign_before, number_offence, offences_after}
+use Rattle.query_names.specs.Numbers.{is_out_of_range, sign_before, number_offence, offences_after}
 use Rattle.query_names.proofs.Walk.{rest_at, first-append}
 
-pub still_too_large : (negative : Bool) (n : ℕ) → is_too_large negative (min n (2 ^ 64 - 1)) ≡ is_too_large negative n
+pub still_too_large : (negative : Bool) (n : ℕ) → is_out_of_range negative (min n (2 ^ 64 - 1)) ≡ is_out_of_range negative n
 still_too_large true n = grind (arith, common_steps)
 still_too_large false n = grind (arith, common_steps)
 

@@ -20,8 +20,8 @@ use Rattle.schema_types.specs.declared.types.Schema.{Schema}
 use Rattle.query_names.specs.declared.scope.Entry.{Entry}
 use Rattle.query_names.specs.declared.scope.EntryColumn.{EntryColumn}
 use Rattle.query_types.specs.declared.types.Source.{Source}
-use Rattle.query_types.specs.Validity.{IsSourceOf, IsOutOf, IsCondOf, IsOf}
-use Rattle.query_names.specs.Names.{place_if, table_names, table_of, entry_of, alias_of, alias_token, sources, entries, offences_of_later_sources, from_offences, is_among}
+use Rattle.query_types.specs.Validity.{IsSourceOf, IsOutOf, IsCondOf, IsQueryOf}
+use Rattle.query_names.specs.Names.{offset_if, table_names, table_of, entry_of, alias_of, alias_token, sources, entries, offences_of_later_sources, from_offences, is_among}
 use Rattle.query_names.specs.Scopes.{in_scope, whole_scope, entry_named, resolve, head_of, conditions}
 use Rattle.query_names.specs.Offences.{name_offences, all_kind_offences, name_offences_in, kind_offences_in, out_offences, outs_offences}
 use Rattle.query_names.specs.Values.{resolved_column, members_in, conjuncts, outs_from, outs_of_table, outs_of_entry, outs_of_found, outs_of, selected, query_of}
@@ -42,8 +42,8 @@ module _ (schema : Schema) (text : List ℕ) where
   sources_of_schema : (earlier : List (List ℕ)) (from : List SourceNode) → offences_of_later_sources schema text earlier from ≡ [] → All (IsSourceOf schema) (map (entry_of schema text) from)
   sources_of_schema earlier [] none = All-nil (IsSourceOf schema)
   sources_of_schema earlier (source ∷ rest) none =
-      let unknown : List ℕ = place_if (is_none (table_of schema text source)) source.table in
-      let again : List ℕ = place_if (is_among earlier (alias_of schema text source)) (alias_token source) in
+      let unknown : List ℕ = offset_if (is_none (table_of schema text source)) source.table in
+      let again : List ℕ = offset_if (is_among earlier (alias_of schema text source)) (alias_token source) in
       let others : List ℕ = offences_of_later_sources schema text (earlier ++ alias_of schema text source ∷ []) rest in
       let known : unknown ≡ [] = empty_left unknown again (empty_left (unknown ++ again) others none) in
       All-cons (IsSourceOf schema) (entry_of schema text source) (map (entry_of schema text) rest)
@@ -83,7 +83,7 @@ module _ (schema : Schema) (from : List Source) where
     named_outs alias None is = All-nil (IsOutOf schema from)
     named_outs alias (Some e) is = entry_outs e (named_is from (whole_scope from) (name_of text alias) e (sym is))
 
-    column_out : (reference : ColumnNode) (name : List ℕ) (found : Option EntryColumn) → found ≡ resolve schema text from (whole_scope from) reference → place_if (is_none found) (head_of reference) ≡ []
+    column_out : (reference : ColumnNode) (name : List ℕ) (found : Option EntryColumn) → found ≡ resolve schema text from (whole_scope from) reference → offset_if (is_none found) (head_of reference) ≡ []
         → IsOutOf schema from (record { column = resolved_column found; name = name })
     column_out reference name None is none = absurd cc
     column_out reference name (Some found) is none =
@@ -121,18 +121,18 @@ module _ (schema : Schema) (text : List ℕ) (query : QueryNode) where
   pub of_schema : 0 < length (entries schema text query) → length (entries schema text query) ≤ 12
       → length (conjuncts schema text (entries schema text query) query) ≤ most_conjuncts
       → name_offences schema text (entries schema text query) query ≡ [] → all_kind_offences schema text (entries schema text query) query ≡ []
-      → IsOf schema (query_of schema text query)
+      → IsQueryOf schema (query_of schema text query)
   unfolding name_offences query_of
-  of_schema some few conjuncts_few names kinds =
+  of_schema some few conjuncts_within_limit names kinds =
       let from : List Source = entries schema text query in
       let in_from : List ℕ = from_offences schema text query in
       let in_outs : List ℕ = outs_offences schema text from (whole_scope from) query.outs in
       let in_conditions : List ℕ = flat_map (name_offences_in schema text from) (conditions from query) in
       let front : in_from ++ in_outs ≡ [] = empty_left (in_from ++ in_outs) in_conditions names in
       record {
-        some = some;
-        few = few;
-        conjuncts_few = conjuncts_few;
+        has_entries = some;
+        entries_within_limit = few;
+        conjuncts_within_limit = conjuncts_within_limit;
         sources = from_are schema text query (empty_left in_from in_outs front);
         conjuncts = conjuncts_are schema from text query (empty_right (in_from ++ in_outs) in_conditions names) kinds;
         outs = selected_are schema from text query.outs (empty_right in_from in_outs front);

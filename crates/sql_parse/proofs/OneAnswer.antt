@@ -13,7 +13,7 @@ use Rattle.schema_types.specs.declared.types.Schema.{Schema}
 use Rattle.schema_types.specs.declared.errors.LimitKind.TheVariants as limit
 use Rattle.sql_tokens.specs.declared.token.Token.{Token}
 use Rattle.sql_tokens.specs.Lexing.{IsLexed}
-use Rattle.sql_tokens.proofs.WholeTexts.{one_list, one_place, never_both}
+use Rattle.sql_tokens.proofs.WholeTexts.{one_token_list, one_error_offset, never_both}
 use Rattle.query_names.specs.declared.errors.QueryError.{QueryError}
 use Rattle.query_names.specs.declared.errors.QueryError.TheVariants as error
 use Rattle.query_types.specs.declared.types.Query.{Query}
@@ -83,14 +83,14 @@ module _ {A : Type 0} (L : Language A) where
 
 module _ (schema : Schema) (text : List ℕ) (a b : Result Query QueryError) where
   both_unlexed : IsUnlexed schema text a → IsUnlexed schema text b → a ≡ b
-  both_unlexed x y = x.refused ∙ ap (λ at. Err (error.Syntax at)) (one_place text x.place y.place x.bad y.bad) ∙ sym y.refused
+  both_unlexed x y = x.refused ∙ ap (λ at. Err (error.Syntax at)) (one_error_offset text x.place y.place x.bad y.bad) ∙ sym y.refused
 
   both_deep : IsTooDeep schema text a → IsTooDeep schema text b → a ≡ b
-  both_deep x y = x.refused ∙ ap (λ ts. Err (refusal limit.Nesting (nesting (lexemes_of text ts)))) (one_list text x.tokens y.tokens x.lexed y.lexed) ∙ sym y.refused
+  both_deep x y = x.refused ∙ ap (λ ts. Err (refusal limit.Nesting (nesting (lexemes_of text ts)))) (one_token_list text x.tokens y.tokens x.lexed y.lexed) ∙ sym y.refused
 
   both_unspelled : IsUnspelled schema text a → IsUnspelled schema text b → a ≡ b
   both_unspelled x y =
-      let same : x.tokens ≡ y.tokens = one_list text x.tokens y.tokens x.lexed y.lexed in
+      let same : x.tokens ≡ y.tokens = one_token_list text x.tokens y.tokens x.lexed y.lexed in
       let there : IsSyntaxErrorAt QuerySpecification (lexemes_of text y.tokens) (length text) x.place = subst (λ ts. IsSyntaxErrorAt QuerySpecification (lexemes_of text ts) (length text) x.place) same x.wrong in
       x.refused
       ∙ ap (λ ts. Err (error.Syntax (earlier_offset x.place (number_offences text (lexemes_of text ts))))) same
@@ -99,7 +99,7 @@ module _ (schema : Schema) (text : List ℕ) (a b : Result Query QueryError) whe
 
   both_spelled : IsSpelled schema text a → IsSpelled schema text b → a ≡ b
   both_spelled x y =
-      let same : x.tokens ≡ y.tokens = one_list text x.tokens y.tokens x.lexed y.lexed in
+      let same : x.tokens ≡ y.tokens = one_token_list text x.tokens y.tokens x.lexed y.lexed in
       let there : QuerySpecification (lexemes_of text y.tokens) x.tree = subst (λ ts. QuerySpecification (lexemes_of text ts) x.tree) same x.spelled in
       x.answered
       ∙ ap (λ ts. unless_number (number_offences text (lexemes_of text ts)) (query_or_refusal schema text x.tree)) same
@@ -108,14 +108,14 @@ module _ (schema : Schema) (text : List ℕ) (a b : Result Query QueryError) whe
 
   deep_or_not : (ts us : List Token) → IsLexed text ts → IsLexed text us → 64 < nesting (lexemes_of text ts) → nesting (lexemes_of text us) ≤ 64 → ⊥
   deep_or_not ts us lexed others deep shallow =
-      let same : nesting (lexemes_of text ts) ≡ nesting (lexemes_of text us) = ap (λ l. nesting (lexemes_of text l)) (one_list text ts us lexed others) in
+      let same : nesting (lexemes_of text ts) ≡ nesting (lexemes_of text us) = ap (λ l. nesting (lexemes_of text l)) (one_token_list text ts us lexed others) in
       omega arith
 
   spelled_or_not : (ts us : List Token) (at : ℕ) (tree : QueryNode) → IsLexed text ts → IsLexed text us → IsSyntaxErrorAt QuerySpecification (lexemes_of text ts) (length text) at
       → QuerySpecification (lexemes_of text us) tree → ⊥
   spelled_or_not ts us at tree lexed others wrong spells =
       not_spelled QuerySpecification (lexemes_of text ts) wrong.rest tree wrong.wrong
-      (subst (λ l. QuerySpecification (lexemes_of text l) tree) (sym (one_list text ts us lexed others)) spells)
+      (subst (λ l. QuerySpecification (lexemes_of text l) tree) (sym (one_token_list text ts us lexed others)) spells)
 
 pub one_answer : (schema : Schema) (text : List ℕ) (a b : Result Query QueryError) → IsAnswer schema text a → IsAnswer schema text b → (a ≡ Err error.NoMemory) ⊎ (b ≡ Err error.NoMemory) ⊎ (a ≡ b)
 one_answer schema text a b (inl memory) y = inl memory

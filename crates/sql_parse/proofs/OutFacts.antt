@@ -1,4 +1,4 @@
--- The outputs of entries are built column by column and entry by entry. The lemmas relate `Selected` to the list of all outputs.
+-- The outputs of entries are built column by column and entry by entry. The lemmas relate `FoundOutputs` to the list of all outputs.
 use Rattle.std.proofs.Common.{◌≡◌, ℕ, suc, ◌+◌, ◌<◌, ◌≤◌, List, [], ◌∷◌, ◌++◌, length, drop, get_or, Option, Some, None, ap, subst, sym, ◌∙◌, refl, append_assoc, arith, length-append}
 use Rattle.std.specs.Prelude.{slice_get}
 use Rattle.std.specs.List.{flat_map}
@@ -20,7 +20,7 @@ use Rattle.query_types.specs.declared.types.Out.{Out}
 use Rattle.query_names.specs.Scopes.{in_scope, entry_named}
 use Rattle.query_names.specs.Values.{outs_from, outs_of_table, outs_of_entry}
 use Rattle.query_names.specs.Binding.{schema_of, from_of}
-use Rattle.sql_parse.specs.declared.outputs.Selected.{Selected}
+use Rattle.sql_parse.specs.declared.outputs.FoundOutputs.{FoundOutputs}
 use Rattle.sql_parse.specs.Outputs.{capped, outs_of_entry_by, all_outs_by, outs_by, selected_by}
 use Rattle.query_names.proofs.Walk.{rest_at}
 use Rattle.query_names.proofs.Resolved.{IsEntry, named_is}
@@ -58,8 +58,8 @@ some_outs binder e table is = sym (outs_at binder e (Some table) is)
 pub no_outs : (binder : Binder) (e : Entry) → None ≡ slice_get (schema_of binder).tables e.table → outs_of_entry_by binder e ≡ []
 no_outs binder e is = sym (outs_at binder e None is)
 
-pub few_columns : (schema : Schema) (i : ℕ) (table : Table) → IsValid schema → Some table ≡ slice_get schema.tables i → length table.columns ≤ 64
-few_columns schema i table valid found =
+pub columns_within_limit : (schema : Schema) (i : ℕ) (table : Table) → IsValid schema → Some table ≡ slice_get schema.tables i → length table.columns ≤ 64
+columns_within_limit schema i table valid found =
     let is : slice_get schema.tables i ≡ Some table = sym found in
     let one : IsValidTable table = subst IsValidTable (get_or_from_slice_get schema.tables i table table is) (valid.tables i table (slice_get_within schema.tables i table is)) in
     one.few
@@ -67,12 +67,12 @@ few_columns schema i table valid found =
 -- ---- outputs that are counted and built
 
 -- all outputs are counted. They are built unless there are too many outputs or FROM entries
-pub record IsCountedAndBuilt (binder : Binder) (found : Selected) (list : List Out) : Type 0 where
+pub record IsCountedAndBuilt (binder : Binder) (found : FoundOutputs) (list : List Out) : Type 0 where
   pub count : found.count ≡ capped (length list)
   pub outs : length (from_of binder) ≤ 12 → found.count ≤ most_outputs → found.outs ≡ list
 
 module _ (binder : Binder) where
-  pub gathered_more : (list item : List Out) {old new : Selected} {next : List Out} → next ≡ list ++ item → IsCountedAndBuilt binder old list
+  pub gathered_more : (list item : List Out) {old new : FoundOutputs} {next : List Out} → next ≡ list ++ item → IsCountedAndBuilt binder old list
       → new.count ≡ capped (old.count + length item) → (length (from_of binder) ≤ 12 → new.count ≤ most_outputs → new.outs ≡ old.outs ++ item) → IsCountedAndBuilt binder new next
   gathered_more list item {old} {new} {next} is so_far counted added = subst (IsCountedAndBuilt binder new) (sym is) (record {
     count = omega (arith, length-append list item, so_far.count);
@@ -102,8 +102,8 @@ module _ (binder : Binder) where
   unfolding all_outs_by outs_of_entry_by
   all_before number is = ap (λ n. flat_map (outs_of_entry (schema_of binder)) (in_scope (from_of binder) (record { first = 0; end = n }))) is
 
-pub named_small : (from : List Source) (scope : Scope) (alias : List ℕ) (e : Entry) → entry_named from scope alias ≡ Some e → length from ≤ 12 → e.number < 256
-named_small from scope alias e is few =
+pub named_entry_in_8_bits : (from : List Source) (scope : Scope) (alias : List ℕ) (e : Entry) → entry_named from scope alias ≡ Some e → length from ≤ 12 → e.number < 256
+named_entry_in_8_bits from scope alias e is few =
     let there : IsEntry from e = named_is from scope alias e is in
     let below : e.number < length from = slice_get_within from e.number there.source there.there in
     omega arith

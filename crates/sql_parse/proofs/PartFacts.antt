@@ -5,10 +5,10 @@ use Rattle.std.proofs.lemmas.List.{length-append, length-map}
 use Rattle.std.specs.List.{flat_map}
 use Rattle.query_grammar.specs.declared.tree.FromItemNode.{FromItemNode}
 use Rattle.query_names.specs.Names.{sources_of}
-use Rattle.query_names.specs.Scopes.{conditions_of_joins, on_conditions, Scoped}
+use Rattle.query_names.specs.Scopes.{conditions_of_joins, on_conditions, ConditionInScope}
 use Rattle.query_names.proofs.Walk.{rest_at}
 
-pub conditions_at : {C : Type 0} (f : Scoped → List C) (parts : List FromItemNode) (first i : ℕ) (d : FromItemNode) → i < length parts
+pub conditions_at : {C : Type 0} (f : ConditionInScope → List C) (parts : List FromItemNode) (first i : ℕ) (d : FromItemNode) → i < length parts
     → flat_map f (on_conditions first (drop i parts))
     ≡ flat_map f (conditions_of_joins first (first + 1) (get_or parts i d).joins) ++ flat_map f (on_conditions (first + 1 + length (get_or parts i d).joins) (drop (i + 1) parts))
 conditions_at f parts first i d below =

@@ -10,17 +10,17 @@ use Rattle.schema_types.specs.declared.types.Schema.{Schema}
 use Rattle.query_types.specs.declared.types.Source.{Source}
 use Rattle.query_names.specs.Names.{sources_of, entry_of, entries}
 
-some_parts : (tokens : List Lexeme) (query : QueryNode) → QuerySpecification tokens query → 0 < length query.parts
+parts_not_empty : (tokens : List Lexeme) (query : QueryNode) → QuerySpecification tokens query → 0 < length query.parts
 unfolding QuerySpecification
-some_parts tokens query spells =
+parts_not_empty tokens query spells =
     let listed = spells.2.second.second.second.first in
     let are : listed.0.0 ∷ listed.0.1 ≡ query.parts = listed.1 ∙ ap (λ (q : QueryNode). q.parts) spells.1 in
     subst (λ (parts : List FromItemNode). 0 < length parts) are (omega arith)
 
-some_sources : (f : SourceNode → Source) (parts : List FromItemNode) → 0 < length parts → 0 < length (map f (flat_map sources_of parts))
-some_sources f [] some = absurd (omega arith)
-some_sources f (part ∷ rest) some = omega arith
+sources_not_empty : (f : SourceNode → Source) (parts : List FromItemNode) → 0 < length parts → 0 < length (map f (flat_map sources_of parts))
+sources_not_empty f [] some = absurd (omega arith)
+sources_not_empty f (part ∷ rest) some = omega arith
 
-pub some_entries : (schema : Schema) (text : List ℕ) (tokens : List Lexeme) (query : QueryNode) → QuerySpecification tokens query → 0 < length (entries schema text query)
+pub entries_not_empty : (schema : Schema) (text : List ℕ) (tokens : List Lexeme) (query : QueryNode) → QuerySpecification tokens query → 0 < length (entries schema text query)
 unfolding entries
-some_entries schema text tokens query spells = some_sources (entry_of schema text) query.parts (some_parts tokens query spells)
+entries_not_empty schema text tokens query spells = sources_not_empty (entry_of schema text) query.parts (parts_not_empty tokens query spells)

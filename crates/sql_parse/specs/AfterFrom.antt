@@ -1,5 +1,5 @@
--- For a query with known FROM entries: the wrong names and kinds, the IN lists that are too long, and the conjuncts. The binder has the schema, the
--- text and the entries.
+-- The offsets of wrong names and kinds, the IN lists that are too long, and the conjuncts of a query with known FROM entries. The binder has the
+-- schema, the text and the entries.
 use Rattle.std.specs.Prelude.{ℕ, List, ◌++◌}
 use Rattle.std.specs.List.{flat_map}
 use Rattle.query_grammar.specs.declared.tree.QueryNode.{QueryNode}

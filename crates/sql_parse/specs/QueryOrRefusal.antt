@@ -11,8 +11,8 @@ use Rattle.query_names.specs.declared.errors.QueryError.TheVariants as error
 use Rattle.query_types.specs.declared.types.Query.{Query}
 use Rattle.query_types.specs.declared.types.Source.{Source}
 use Rattle.query_names.specs.Names.{entries}
-use Rattle.query_names.specs.Scopes.{Scoped, conditions, tests}
-use Rattle.query_names.specs.Offences.{name_offences, all_kind_offences, too_long}
+use Rattle.query_names.specs.Scopes.{ConditionInScope, conditions, tests}
+use Rattle.query_names.specs.Offences.{name_offences, all_kind_offences, long_list_length}
 use Rattle.query_names.specs.Values.{query_of}
 
 -- ---- limits
@@ -20,25 +20,25 @@ use Rattle.query_names.specs.Values.{query_of}
 abbrev pub refusal : LimitKind → ℕ → QueryError
 refusal which n = error.Limit which (min n (2 ^ 64 - 1))
 
-abbrev pub too_long_in : Scoped → List ℕ
-too_long_in c = flat_map too_long (tests c.condition)
+abbrev pub long_list_lengths_in : ConditionInScope → List ℕ
+long_list_lengths_in c = flat_map long_list_length (tests c.condition)
 
 -- the lengths of the IN lists that are too long, in text order
 unfoldable pub long_lists : List Source → QueryNode → List ℕ
-long_lists from query = flat_map too_long_in (conditions from query)
+long_lists from query = flat_map long_list_lengths_in (conditions from query)
 
 -- ---- the refusals for exceeded limits, in the order in which they are reported
 abbrev pub refusal_if_above : LimitKind → ℕ → ℕ → List QueryError
 refusal_if_above which most n = if nat_lt most n then refusal which n ∷ [] else []
 
-abbrev pub first_list : List ℕ → List QueryError
-first_list [] = []
-first_list (n ∷ rest) = refusal limit.InValues n ∷ []
+abbrev pub first_long_list_refusal : List ℕ → List QueryError
+first_long_list_refusal [] = []
+first_long_list_refusal (n ∷ rest) = refusal limit.InValues n ∷ []
 
 abbrev pub limit_refusals : Query → List ℕ → List QueryError
 limit_refusals query lists =
     refusal_if_above limit.FromEntries most_entries (length query.from)
-    ++ first_list lists
+    ++ first_long_list_refusal lists
     ++ refusal_if_above limit.Conjuncts most_conjuncts (length query.conjuncts)
     ++ refusal_if_above limit.Outputs most_outputs (length query.select)
 
@@ -46,13 +46,13 @@ limit_refusals query lists =
 
 abbrev pub refusal_at_first : (ℕ → QueryError) → List ℕ → List QueryError
 refusal_at_first wrong [] = []
-refusal_at_first wrong (place ∷ rest) = wrong place ∷ []
+refusal_at_first wrong (offset ∷ rest) = wrong offset ∷ []
 
 abbrev pub name_error : ℕ → QueryError
-name_error place = error.Name place
+name_error offset = error.Name offset
 
 abbrev pub kind_error : ℕ → QueryError
-kind_error place = error.Kind place
+kind_error offset = error.Kind offset
 
 module _ (schema : Schema) (text : List ℕ) (query : QueryNode) where
   unfoldable pub refusals : List QueryError

@@ -24,18 +24,18 @@ lexemes_of text tokens = map (lexeme_of text) tokens
 abbrev pub most_nesting : ℕ
 most_nesting = 64
 
--- the lesser of `place` and the first of the other byte offsets, if there is one
+-- the lesser of `offset` and the first of the other byte offsets, if there is one
 abbrev pub earlier_offset : ℕ → List ℕ → ℕ
-earlier_offset place [] = place
-earlier_offset place (other ∷ rest) = min place other
+earlier_offset offset [] = offset
+earlier_offset offset (other ∷ rest) = min offset other
 
--- the list has the byte offsets of numbers outside the range. The first of them is refused. If the list is empty, `answer` stays
+-- a refusal at the first of these byte offsets of numbers outside the range, or `answer` if there are none
 abbrev pub unless_number : List ℕ → Result Query QueryError → Result Query QueryError
 unless_number [] answer = answer
-unless_number (place ∷ rest) answer = Err (error.Syntax place)
+unless_number (offset ∷ rest) answer = Err (error.Syntax offset)
 
 module _ (schema : Schema) (text : List ℕ) (answer : Result Query QueryError) where
-  -- the text can't be cut into tokens. Its first error is at byte `place`
+  -- the text can't be split into tokens. Its first error is at byte `place`
   pub record IsUnlexed : Type 0 where
     pub place : ℕ
     pub bad : IsBad text place

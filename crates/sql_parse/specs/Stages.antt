@@ -23,5 +23,5 @@ IsLexRefusal text (error.Limit which found) = ⊥
 
 -- the lesser of two byte offsets; the second may be missing
 abbrev pub least_of : ℕ → Option ℕ → ℕ
-least_of place None = place
-least_of place (Some other) = min place other
+least_of offset None = offset
+least_of offset (Some other) = min offset other

@@ -12,7 +12,7 @@ ghost use Rattle.query_names.specs.Binding.{FirstTwoAreEnough, schema_of, from_o
 ghost use Rattle.sql_parse.specs.AfterFrom.{names_after_from, kinds_after_from, lists_after_from, conjuncts_by};
 ghost use Rattle.sql_parse.specs.Outputs.{selected_by, capped};
 
-use crate::outputs::Selected;
+use crate::outputs::FoundOutputs;
 use crate::parts::{bind_filter, bind_parts};
 use crate::select_list::select;
 use base_io::Seq;
@@ -20,8 +20,8 @@ use query_grammar::QueryNode;
 use query_names::{Binder, LateOffences, QueryError, Visible};
 use query_types::Cond;
 
-/// Resolves the names of the SELECT list and gathers its outputs. Then checks all conditions. The conjuncts are added if the query doesn't have too
-/// many entries and no IN list is too long.
+/// Resolves the names of the SELECT list and gathers its outputs. Then checks all conditions. The conjuncts are added if FROM doesn't have too many
+/// entries and no IN list is too long.
 #[tactic(auto, using(crate::proofs::AfterFromFacts::no_name, crate::proofs::AfterFromFacts::name_in_outs, crate::proofs::AfterFromFacts::name_in_parts, crate::proofs::AfterFromFacts::name_in_filter, crate::proofs::AfterFromFacts::kinds_behind_are, crate::proofs::AfterFromFacts::lists_behind_are, crate::proofs::AfterFromFacts::conjuncts_are_both), unfolding(query_grammar::specs::Lexemes::IsQueryWith))]
 pub fn check_clauses(
     binder: &Binder<'_>,
@@ -29,8 +29,8 @@ pub fn check_clauses(
     query: &QueryNode,
     held: &mut LateOffences,
     conjuncts: &mut Seq<Cond>,
-) -> Result<Selected, QueryError>
-    requires shows { FirstTwoAreEnough binder.now visible.now }
+) -> Result<FoundOutputs, QueryError>
+    requires first_two_enough { FirstTwoAreEnough binder.now visible.now }
     requires all { visible.now.scope ≡ whole_scope (from_of binder.now) }
     requires valid { IsValid (schema_of binder.now) }
     requires ends { length (flat_map sources_of query.now.parts) ≤ length (from_of binder.now) }

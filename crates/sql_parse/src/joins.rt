@@ -23,14 +23,14 @@ pub fn bind_condition(
     held: &mut LateOffences,
     conjuncts: &mut Seq<Cond>,
 ) -> Result<(), QueryError>
-    requires shows { FirstTwoAreEnough binder.now visible.now }
+    requires first_two_enough { FirstTwoAreEnough binder.now visible.now }
     requires tokens { IsCondWith (IsLexemeOf binder.now.text.now) condition.now }
     ensures names { IfOk result (λ _. names_in binder.now (record { scope = visible.now.scope; condition = condition.now }) ≡ []) }
     ensures kind { IfOk result (λ _.
         held.new.kind ≡ or_first held.old.kind (kinds_in binder.now (record { scope = visible.now.scope; condition = condition.now }))) }
     ensures list { IfOk result (λ _.
         held.new.list ≡ or_first held.old.list (long_lists_in (record { scope = visible.now.scope; condition = condition.now }))) }
-    ensures lasts { IfOk result (λ _. held.new.list ≡ None → held.old.list ≡ None) }
+    ensures list_stays_noted { IfOk result (λ _. held.new.list ≡ None → held.old.list ≡ None) }
     ensures members { IfOk result (λ _. length (from_of binder.now) ≤ most_entries → held.new.list ≡ None
         → conjuncts.new ≡ conjuncts.old ++ members_in binder.now (record { scope = visible.now.scope; condition = condition.now })) }
     ensures err { IfErr result (IsNameError (names_in binder.now (record { scope = visible.now.scope; condition = condition.now }))) }
@@ -46,7 +46,7 @@ pub fn bind_joins(
     held: &mut LateOffences,
     conjuncts: &mut Seq<Cond>,
 ) -> Result<(), QueryError>
-    requires shows { FirstTwoAreEnough binder.now visible.old }
+    requires first_two_enough { FirstTwoAreEnough binder.now visible.old }
     requires begins { visible.old.scope.first ≤ visible.old.scope.end }
     requires ends { visible.old.scope.end + length joins.now ≤ length (from_of binder.now) }
     requires tokens { All (IsJoinWith (IsLexemeOf binder.now.text.now)) joins.now }
@@ -57,7 +57,7 @@ pub fn bind_joins(
         (conditions_of_joins visible.old.scope.first visible.old.scope.end joins.now))) }
     ensures list { IfOk result (λ _.
         held.new.list ≡ or_first held.old.list (flat_map long_lists_in (conditions_of_joins visible.old.scope.first visible.old.scope.end joins.now))) }
-    ensures lasts { IfOk result (λ _. held.new.list ≡ None → held.old.list ≡ None) }
+    ensures list_stays_noted { IfOk result (λ _. held.new.list ≡ None → held.old.list ≡ None) }
     ensures members { IfOk result (λ _. length (from_of binder.now) ≤ most_entries → held.new.list ≡ None
         → conjuncts.new ≡ conjuncts.old
         ++ flat_map (members_in binder.now) (conditions_of_joins visible.old.scope.first visible.old.scope.end joins.now)) }

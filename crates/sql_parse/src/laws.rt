@@ -4,7 +4,7 @@ ghost use Rattle.schema_types.specs.declared.types.Schema.{Schema};
 ghost use Rattle.query_types.specs.declared.types.Query.{Query};
 ghost use Rattle.query_names.specs.declared.errors.QueryError.{QueryError};
 ghost use Rattle.query_names.specs.declared.errors.QueryError.TheVariants as error;
-ghost use Rattle.query_types.specs.Validity.{IsOf};
+ghost use Rattle.query_types.specs.Validity.{IsQueryOf};
 ghost use Rattle.sql_parse.specs.Reading.{IsAnswer};
 
 /// A query text has at most one result, apart from `NoMemory`.
@@ -15,5 +15,5 @@ pub fn one_answer()
 
 /// If the result for a text is a query, it is a query over the schema.
 pub fn of_schema()
-    ensures { (schema : Schema) (text : List ℕ) (query : Query) → IsAnswer schema text (Ok query) → IsOf schema query }
+    ensures { (schema : Schema) (text : List ℕ) (query : Query) → IsAnswer schema text (Ok query) → IsQueryOf schema query }
 {}

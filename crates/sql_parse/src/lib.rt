@@ -6,13 +6,13 @@
 //!
 //! Contracts use three definitions. `IsAnswer` (in `specs/Reading.antt`) says which results a text may have, and gives each refusal with its offset.
 //! The law `one_answer` says that only one result is possible, unless memory runs out. `query_or_refusal` (in `specs/QueryOrRefusal.antt`) is the
-//! query of a syntax tree over a schema, or the first refusal. Every query that was read satisfies `IsOf` (of `query_types`). So a caller writes
+//! query of a syntax tree over a schema, or the first refusal. Every query that was read satisfies `IsQueryOf` (of `query_types`). So a caller writes
 //!
 //! ```text
 //! let query = read_query(alloc, &schema, text)?;    // of a text of at most MOST_TEXT bytes
 //! ```
 //!
-//! over a schema that `read_schema` gave, and knows `IsOf schema query` from there on.
+//! over a schema that `read_schema` gave, and knows `IsQueryOf schema query` from there on.
 #![tactic(auto)]
 
 mod binding;

@@ -2,7 +2,7 @@
 ghost use Rattle.std.specs.Prelude.{◌≡◌, ◌^◌, ◌-◌, All};
 ghost use Rattle.sql_tokens.specs.Words.{IsLexemeOf};
 ghost use Rattle.query_names.specs.Answers.{first};
-ghost use Rattle.query_names.specs.Numbers.{is_too_large, sign_before, number_offence, number_offences};
+ghost use Rattle.query_names.specs.Numbers.{is_out_of_range, sign_before, number_offence, number_offences};
 
 use ll_grammars::{Lexeme, Terminal, is_among};
 use query_names::is_negative;
@@ -12,8 +12,8 @@ const NUMBERS: &[Terminal] = &[Terminal::Zero, Terminal::Number];
 
 const SIGNS: &[Terminal] = &[Terminal::Plus, Terminal::Minus];
 
-fn is_too_large(negative: bool, value: u64) -> bool
-    ensures { result ≡ is_too_large negative value }
+fn is_out_of_range(negative: bool, value: u64) -> bool
+    ensures { result ≡ is_out_of_range negative value }
 {
     if negative {
         value > 1 << 63
@@ -40,7 +40,9 @@ fn number_offence(text: &[u8], sign: Option<Lexeme>, token: Lexeme) -> Option<u3
     requires { IsLexemeOf text.now token }
     ensures { result ≡ first (number_offence text.now sign token) }
 {
-    if is_among(token.terminal, NUMBERS) && is_too_large(is_negative(&sign), number(text, &token)) {
+    if is_among(token.terminal, NUMBERS)
+        && is_out_of_range(is_negative(&sign), number(text, &token))
+    {
         Some(sign.unwrap_or(token).start)
     } else {
         None

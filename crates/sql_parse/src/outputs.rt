@@ -17,28 +17,28 @@ use schema_types::Column;
 use sql_tokens::name;
 use std::alloc::Global;
 
-/// `count` is the number of outputs that were found, or `u64::MAX` if there are more. `outs` has these outputs, unless there are too many outputs or
-/// FROM entries.
+/// Outputs that were found. `count` is their number, or `u64::MAX` if that number is larger. `outs` has the outputs, unless there are too many
+/// outputs or FROM entries.
 #[derive(Drop)]
-pub struct Selected {
+pub struct FoundOutputs {
     pub outs: Seq<Out>,
     pub count: u64,
 }
 
-impl Selected {
+impl FoundOutputs {
     /// No outputs yet. The call takes no memory.
-    pub fn new(alloc: Global) -> Selected
+    pub fn new(alloc: Global) -> FoundOutputs
         ensures outs { result.outs ≡ [] }
         ensures count { result.count ≡ 0 }
     {
-        Selected {
+        FoundOutputs {
             outs: Seq::new(alloc),
             count: 0,
         }
     }
 
     /// Counts `more` outputs, and returns whether they are to be built. If a limit is exceeded, the query is refused later, so no memory is taken for
-    /// them.
+    /// the outputs.
     fn count_more(&mut self, binder: &Binder<'_>, more: u64) -> bool
         ensures count { self.new.count ≡ capped (self.old.count + more) }
         ensures outs { self.new.outs ≡ self.old.outs }
@@ -78,7 +78,7 @@ fn add_columns(
 }
 
 /// The columns of an entry, in declared order.
-#[tactic(auto, using(crate::proofs::OutFacts::few_columns, crate::proofs::OutFacts::some_outs, crate::proofs::OutFacts::no_outs))]
+#[tactic(auto, using(crate::proofs::OutFacts::columns_within_limit, crate::proofs::OutFacts::some_outs, crate::proofs::OutFacts::no_outs))]
 fn columns_of<'a>(binder: &'a Binder<'_>, entry: Entry) -> &'a [Column]
     requires valid { IsValid (schema_of binder.now) }
     ensures few { length result.now ≤ 64 }
@@ -92,7 +92,11 @@ fn columns_of<'a>(binder: &'a Binder<'_>, entry: Entry) -> &'a [Column]
 
 /// Adds all columns of an entry.
 #[tactic(auto, using(crate::proofs::OutFacts::columns_counted))]
-pub fn add_entry(binder: &Binder<'_>, entry: Entry, found: &mut Selected) -> Result<(), NoMemory>
+pub fn add_entry(
+    binder: &Binder<'_>,
+    entry: Entry,
+    found: &mut FoundOutputs,
+) -> Result<(), NoMemory>
     requires valid { IsValid (schema_of binder.now) }
     requires small { length (from_of binder.now) ≤ most_entries → entry.number < 256 }
     ensures count { IfOk result (λ _. found.new.count ≡ capped (found.old.count + length (outs_of_entry_by binder.now entry))) }
@@ -111,7 +115,7 @@ pub fn add_column(
     binder: &Binder<'_>,
     column: EntryColumn,
     token: &Lexeme,
-    found: &mut Selected,
+    found: &mut FoundOutputs,
 ) -> Result<(), NoMemory>
     requires small { length (from_of binder.now) ≤ most_entries → column.from < 256 }
     requires token { IsNameWith (IsLexemeOf binder.now.text.now) token.now }

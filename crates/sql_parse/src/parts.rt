@@ -30,7 +30,7 @@ fn bind_part(
     ensures kind { IfOk result (λ _.
         held.new.kind ≡ or_first held.old.kind (flat_map (kinds_in binder.now) (conditions_of_joins first (first + 1) part.now.joins))) }
     ensures list { IfOk result (λ _. held.new.list ≡ or_first held.old.list (flat_map long_lists_in (conditions_of_joins first (first + 1) part.now.joins))) }
-    ensures lasts { IfOk result (λ _. held.new.list ≡ None → held.old.list ≡ None) }
+    ensures list_stays_noted { IfOk result (λ _. held.new.list ≡ None → held.old.list ≡ None) }
     ensures members { IfOk result (λ _. length (from_of binder.now) ≤ most_entries → held.new.list ≡ None
         → conjuncts.new ≡ conjuncts.old ++ flat_map (members_in binder.now) (conditions_of_joins first (first + 1) part.now.joins)) }
     ensures err { IfErr result (IsNameError (flat_map (names_in binder.now) (conditions_of_joins first (first + 1) part.now.joins))) }
@@ -78,7 +78,7 @@ pub fn bind_filter(
         held.new.kind ≡ or_first held.old.kind (flat_map (kinds_in binder.now) (where_condition (from_of binder.now) filter.now))) }
     ensures list { IfOk result (λ _.
         held.new.list ≡ or_first held.old.list (flat_map long_lists_in (where_condition (from_of binder.now) filter.now))) }
-    ensures lasts { IfOk result (λ _. held.new.list ≡ None → held.old.list ≡ None) }
+    ensures list_stays_noted { IfOk result (λ _. held.new.list ≡ None → held.old.list ≡ None) }
     ensures members { IfOk result (λ _. length (from_of binder.now) ≤ most_entries → held.new.list ≡ None
         → conjuncts.new ≡ conjuncts.old ++ flat_map (members_in binder.now) (where_condition (from_of binder.now) filter.now)) }
     ensures err { IfErr result (IsNameError (flat_map (names_in binder.now) (where_condition (from_of binder.now) filter.now))) }

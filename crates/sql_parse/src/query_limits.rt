@@ -10,7 +10,7 @@ ghost use Rattle.query_names.specs.Answers.{first};
 ghost use Rattle.query_names.specs.Binding.{schema_of, from_of};
 ghost use Rattle.sql_parse.specs.AfterFrom.{conjuncts_by};
 ghost use Rattle.sql_parse.specs.Outputs.{selected_by};
-ghost use Rattle.sql_parse.specs.Refusing.{limits_passed, refusals_after_from, IsFirstOf};
+ghost use Rattle.sql_parse.specs.Refusing.{limits_exceeded, refusals_after_from, IsFirstOf};
 
 use crate::clauses::check_clauses;
 use base_io::Seq;
@@ -33,7 +33,7 @@ fn first_limit(
     conjuncts: u64,
     outputs: u64,
 ) -> Option<QueryError>
-    ensures { result ≡ first (limits_passed entries list conjuncts outputs) }
+    ensures { result ≡ first (limits_exceeded entries list conjuncts outputs) }
 {
     if entries > MOST_ENTRIES as u64 {
         limit(LimitKind::FromEntries, entries)

@@ -3,7 +3,7 @@ ghost use Rattle.std.specs.Prelude.{◌≡◌, ◌≤◌, All, IfOk, IfErr, leng
 ghost use Rattle.limits.specs.Profile.{most_text};
 ghost use Rattle.schema_types.specs.Validity.{IsValid};
 ghost use Rattle.sql_tokens.specs.Words.{IsLexemeOf};
-ghost use Rattle.query_types.specs.Validity.{IsOf};
+ghost use Rattle.query_types.specs.Validity.{IsQueryOf};
 ghost use Rattle.sql_parse.specs.Stages.{AreLexemes, IsLexRefusal, least_of};
 ghost use Rattle.sql_parse.specs.Reading.{IsAnswer};
 
@@ -32,7 +32,7 @@ fn read_lexemes(alloc: Global, text: &[u8]) -> Result<Seq<Lexeme>, QueryError>
     }
 }
 
-/// The lesser of two byte offsets: `at`, and that of a number outside the range, if there is one.
+/// The lesser of two byte offsets: `at`, and the offset of a number outside the range, if there is one.
 fn least_of(at: u32, number: Option<u32>) -> u32
     ensures { result ≡ least_of at number }
 {
@@ -43,7 +43,7 @@ fn least_of(at: u32, number: Option<u32>) -> u32
 }
 
 /// The query that the tokens of a text mean, or the first refusal.
-#[tactic(auto, using(crate::proofs::Answered::too_deep, crate::proofs::Answered::unspelled, crate::proofs::Answered::wrong_number, crate::proofs::Answered::spelled, crate::proofs::Answered::lie_in))]
+#[tactic(auto, using(crate::proofs::Answered::too_deep, crate::proofs::Answered::unspelled, crate::proofs::Answered::wrong_number, crate::proofs::Answered::spelled, crate::proofs::Answered::tree_lies_in_text))]
 fn answer(
     alloc: Global,
     schema: &Schema,
@@ -77,14 +77,14 @@ fn answer(
 }
 
 /// Reads a query text over a schema (SQL-92 6.3, 6.4, 7.4 to 7.9 and 8 in this profile): its query, or the first refusal. Tokens are tested first,
-/// then the limit on nesting. Then come the grammar and the range of numbers, names, kinds, and the other limits. A refusal that isn't for a limit
-/// has the byte offset of the first error; a byte order mark counts. The text has at most 1,048,576 bytes.
+/// then the limit on nesting. Then the grammar and the range of numbers are tested, then names, then kinds, and last the other limits. A refusal that
+/// isn't for a limit has the byte offset of the first error (a byte order mark counts). The text has at most 1,048,576 bytes.
 #[tactic(auto, using(crate::proofs::AnswerOfSchema::answer_of_schema, crate::proofs::Answered::unlexed))]
 pub fn read_query(alloc: Global, schema: &Schema, text: &[u8]) -> Result<Query, QueryError>
     requires valid { IsValid schema.now }
     requires small { length text.now ≤ most_text }
     ensures meaning { IsAnswer schema.now text.now result }
-    ensures of_schema { IfOk result (IsOf schema.now) }
+    ensures of_schema { IfOk result (IsQueryOf schema.now) }
 {
     let lexemes = read_lexemes(alloc, text)?;
     answer(alloc, schema, text, lexemes.as_slice())

@@ -10,7 +10,7 @@ ghost use Rattle.query_names.specs.Scopes.{whole_scope};
 ghost use Rattle.query_names.specs.Binding.{FirstTwoAreEnough, schema_of, from_of, out_offences_of, outs_offences_of};
 ghost use Rattle.sql_parse.specs.Outputs.{all_outs_by, outs_by, selected_by, capped};
 
-use crate::outputs::{Selected, add_column, add_entry};
+use crate::outputs::{FoundOutputs, add_column, add_entry};
 use base_io::NoMemory;
 use query_grammar::{OutNode, OutsNode};
 use query_names::{Binder, Entry, QueryError, Visible};
@@ -18,13 +18,13 @@ use sql_tokens::name;
 
 /// The outputs of `*`: the columns of all entries.
 #[tactic(auto, using(crate::proofs::OutFacts::none_before, crate::proofs::OutFacts::all_before))]
-fn all_outputs(binder: &Binder<'_>) -> Result<Selected, NoMemory>
+fn all_outputs(binder: &Binder<'_>) -> Result<FoundOutputs, NoMemory>
     requires valid { IsValid (schema_of binder.now) }
     ensures count { IfOk result (λ found. found.count ≡ capped (length (all_outs_by binder.now))) }
     ensures outs { IfOk result (λ found. length (from_of binder.now) ≤ most_entries → found.count ≤ most_outputs
         → found.outs ≡ all_outs_by binder.now) }
 {
-    let mut found = Selected::new(binder.alloc);
+    let mut found = FoundOutputs::new(binder.alloc);
     'all: for number in 0..binder.entries.sources.len() {
         let table = binder.entries.sources.as_slice()[number].table;
         add_entry(binder, Entry { number, table }, &mut found)?;
@@ -33,14 +33,14 @@ fn all_outputs(binder: &Binder<'_>) -> Result<Selected, NoMemory>
 }
 
 /// Resolves the name of an item of the list, and adds the outputs that the item gives.
-#[tactic(auto, using(crate::proofs::OutFacts::named_small), unfolding(query_names::specs::Binding::out_offences_of, crate::specs::Outputs::outs_by, crate::specs::Outputs::outs_of_entry_by))]
+#[tactic(auto, using(crate::proofs::OutFacts::named_entry_in_8_bits), unfolding(query_names::specs::Binding::out_offences_of, crate::specs::Outputs::outs_by, crate::specs::Outputs::outs_of_entry_by))]
 fn add_out(
     binder: &Binder<'_>,
     visible: &Visible,
     out: &OutNode,
-    found: &mut Selected,
+    found: &mut FoundOutputs,
 ) -> Result<(), QueryError>
-    requires shows { FirstTwoAreEnough binder.now visible.now }
+    requires first_two_enough { FirstTwoAreEnough binder.now visible.now }
     requires all { visible.now.scope ≡ whole_scope (from_of binder.now) }
     requires valid { IsValid (schema_of binder.now) }
     requires tokens { IsOutWith (IsLexemeOf binder.now.text.now) out.now }
@@ -71,8 +71,12 @@ fn add_out(
 }
 
 /// Resolves the names of all items of a list, in text order, and gathers the outputs that the items give.
-fn listed(binder: &Binder<'_>, visible: &Visible, list: &[OutNode]) -> Result<Selected, QueryError>
-    requires shows { FirstTwoAreEnough binder.now visible.now }
+fn listed(
+    binder: &Binder<'_>,
+    visible: &Visible,
+    list: &[OutNode],
+) -> Result<FoundOutputs, QueryError>
+    requires first_two_enough { FirstTwoAreEnough binder.now visible.now }
     requires all { visible.now.scope ≡ whole_scope (from_of binder.now) }
     requires valid { IsValid (schema_of binder.now) }
     requires tokens { All (IsOutWith (IsLexemeOf binder.now.text.now)) list.now }
@@ -82,7 +86,7 @@ fn listed(binder: &Binder<'_>, visible: &Visible, list: &[OutNode]) -> Result<Se
         → found.outs ≡ flat_map (outs_by binder.now) list.now) }
     ensures err { IfErr result (IsNameError (flat_map (out_offences_of binder.now visible.now.scope) list.now)) }
 {
-    let mut found = Selected::new(binder.alloc);
+    let mut found = FoundOutputs::new(binder.alloc);
     'all: for out in list {
         add_out(binder, visible, out, &mut found)?;
     }
@@ -95,8 +99,8 @@ pub fn select(
     binder: &Binder<'_>,
     visible: &Visible,
     outs: &OutsNode,
-) -> Result<Selected, QueryError>
-    requires shows { FirstTwoAreEnough binder.now visible.now }
+) -> Result<FoundOutputs, QueryError>
+    requires first_two_enough { FirstTwoAreEnough binder.now visible.now }
     requires all { visible.now.scope ≡ whole_scope (from_of binder.now) }
     requires valid { IsValid (schema_of binder.now) }
     requires tokens { IsOutListWith (IsLexemeOf binder.now.text.now) outs.now }

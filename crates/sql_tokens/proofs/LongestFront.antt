@@ -60,7 +60,7 @@ run_longest p token rest longer more same all ends all' =
 tails : (b c : ℕ) (xs ys : List ℕ) → b ∷ xs ≡ c ∷ ys → xs ≡ ys
 tails b c xs ys e = cc
 
--- the quote that ends `body` has no further quote after it. So it isn't half of a doubled quote, and `other` doesn't go past it
+-- no quote follows the quote that closes `body`. So this quote isn't half of a doubled quote, and `other` is at most as long as `body`
 body_longest : (q : ℕ) (body rest other more : List ℕ) → body ++ q ∷ rest ≡ other ++ q ∷ more → are_doubled q body ≡ true → begins_with (λ b. eqb b q) rest ≡ false → are_doubled q other ≡ true → length other ≤ length body
 body_longest q body rest other more same doubled ends doubled' =
     let e : further (length other) (closing_length q (q ∷ more)) ≡ Some (length body + 1) = sym (closed_front q other (q ∷ more) doubled') ∙ ap (closing_length q) (sym same) ∙ closes_len q body rest doubled ends in

@@ -8,17 +8,17 @@ use Rattle.sql_tokens.specs.declared.token.TokenKind.TheVariants as kind
 use Rattle.sql_tokens.specs.declared.pieces.TextPiece.{TextPiece}
 use Rattle.sql_tokens.specs.declared.pieces.TextPiece.TheVariants as piece_
 use Rattle.sql_tokens.specs.Tokens.{IsToken, goes_on, IsSeparator}
-use Rattle.sql_tokens.specs.Lexing.{Leads, stay, over_gap, over_token, IsOffence, IsOffenceAt}
+use Rattle.sql_tokens.specs.Lexing.{Leads, stay, over_separator, over_token, IsOffence, IsOffenceAt}
 use Rattle.sql_tokens.specs.Pieces.{piece, Walked, with_first, step, tokens_at, with_front}
 use Rattle.sql_tokens.proofs.Fronts.{Sees, sees_piece}
 use Rattle.sql_tokens.proofs.Computed.{gap_piece, token_piece, offence_piece}
-use Rattle.sql_tokens.proofs.Walk.{tokens_step, piece_long, HasBytes, walk_start}
+use Rattle.sql_tokens.proofs.Walk.{tokens_step, piece_has_bytes, HasBytes, walk_start}
 
 -- ---- the result of the walk satisfies the relation
 
-abbrev pub IsRightAnswer : ℕ → List ℕ → Walked → Type 0
-IsRightAnswer at text (Ok tokens) = Leads at text tokens (at + length text) []
-IsRightAnswer at text (Err place) = IsOffenceAt at text place
+abbrev pub IsValidAnswer : ℕ → List ℕ → Walked → Type 0
+IsValidAnswer at text (Ok tokens) = Leads at text tokens (at + length text) []
+IsValidAnswer at text (Err place) = IsOffenceAt at text place
 
 to_same : (at : ℕ) (text : List ℕ) (tokens : List Token) (to other : ℕ) (last : List ℕ) → to ≡ other → Leads at text tokens to last → Leads at text tokens other last
 to_same at text tokens to other last e l = subst (λ (x : ℕ). Leads at text tokens x last) e l
@@ -26,66 +26,66 @@ to_same at text tokens to other last e l = subst (λ (x : ℕ). Leads at text to
 split_len : (text bytes rest : List ℕ) → text ≡ bytes ++ rest → length text ≡ length bytes + length rest
 split_len text bytes rest whole = ap length whole ∙ length-append bytes rest
 
-told_gap : (at : ℕ) (text bytes rest : List ℕ) (walked : Walked) → text ≡ bytes ++ rest → IsSeparator bytes rest → IsRightAnswer (at + length bytes) rest walked → IsRightAnswer at text walked
-told_gap at text bytes rest (Ok tokens) whole s told =
+answer_after_gap : (at : ℕ) (text bytes rest : List ℕ) (walked : Walked) → text ≡ bytes ++ rest → IsSeparator bytes rest → IsValidAnswer (at + length bytes) rest walked → IsValidAnswer at text walked
+answer_after_gap at text bytes rest (Ok tokens) whole s rest_valid =
     let l = split_len text bytes rest whole in
-    to_same at text tokens ((at + length bytes) + length rest) (at + length text) [] (omega arith) (over_gap at text bytes rest tokens ((at + length bytes) + length rest) [] whole s told)
-told_gap at text bytes rest (Err place) whole s told = record {
-  tokens = told.tokens;
-  to = told.to;
-  rest = told.rest;
-  offset = told.offset;
-  leads = over_gap at text bytes rest told.tokens told.to told.rest whole s told.leads;
-  offence = told.offence;
-  here = told.here;
+    to_same at text tokens ((at + length bytes) + length rest) (at + length text) [] (omega arith) (over_separator at text bytes rest tokens ((at + length bytes) + length rest) [] whole s rest_valid)
+answer_after_gap at text bytes rest (Err place) whole s rest_valid = record {
+  tokens = rest_valid.tokens;
+  to = rest_valid.to;
+  rest = rest_valid.rest;
+  offset = rest_valid.offset;
+  leads = over_separator at text bytes rest rest_valid.tokens rest_valid.to rest_valid.rest whole s rest_valid.leads;
+  offence = rest_valid.offence;
+  here = rest_valid.here;
 }
 
-told_token : (at : ℕ) (text bytes rest : List ℕ) (k : TokenKind) (walked : Walked) → text ≡ bytes ++ rest → IsToken k bytes → goes_on k bytes rest ≡ false → IsRightAnswer (at + length bytes) rest walked
-    → IsRightAnswer at text (with_first (record { kind = k; start = at; end = at + length bytes }) walked)
-told_token at text bytes rest k (Ok tokens) whole form ends told =
+answer_after_token : (at : ℕ) (text bytes rest : List ℕ) (k : TokenKind) (walked : Walked) → text ≡ bytes ++ rest → IsToken k bytes → goes_on k bytes rest ≡ false → IsValidAnswer (at + length bytes) rest walked
+    → IsValidAnswer at text (with_first (record { kind = k; start = at; end = at + length bytes }) walked)
+answer_after_token at text bytes rest k (Ok tokens) whole form ends rest_valid =
     let l = split_len text bytes rest whole in
     let t : Token = record { kind = k; start = at; end = at + length bytes } in
-    to_same at text (t ∷ tokens) ((at + length bytes) + length rest) (at + length text) [] (omega arith) (over_token at text bytes rest k tokens ((at + length bytes) + length rest) [] whole form ends told)
-told_token at text bytes rest k (Err place) whole form ends told = record {
-  tokens = record { kind = k; start = at; end = at + length bytes } ∷ told.tokens;
-  to = told.to;
-  rest = told.rest;
-  offset = told.offset;
-  leads = over_token at text bytes rest k told.tokens told.to told.rest whole form ends told.leads;
-  offence = told.offence;
-  here = told.here;
+    to_same at text (t ∷ tokens) ((at + length bytes) + length rest) (at + length text) [] (omega arith) (over_token at text bytes rest k tokens ((at + length bytes) + length rest) [] whole form ends rest_valid)
+answer_after_token at text bytes rest k (Err place) whole form ends rest_valid = record {
+  tokens = record { kind = k; start = at; end = at + length bytes } ∷ rest_valid.tokens;
+  to = rest_valid.to;
+  rest = rest_valid.rest;
+  offset = rest_valid.offset;
+  leads = over_token at text bytes rest k rest_valid.tokens rest_valid.to rest_valid.rest whole form ends rest_valid.leads;
+  offence = rest_valid.offence;
+  here = rest_valid.here;
 }
 
 -- the first n bytes of `text` are the piece `bytes`, and `walked` is the walk's result for the bytes after it
-right_answer_on : (at n : ℕ) (text bytes rest : List ℕ) (walked : Walked) → text ≡ bytes ++ rest → n ≡ length bytes → IsRightAnswer (at + n) (drop n text) walked → IsRightAnswer (at + length bytes) rest walked
-right_answer_on at n text bytes rest walked whole len told =
+valid_answer_on : (at n : ℕ) (text bytes rest : List ℕ) (walked : Walked) → text ≡ bytes ++ rest → n ≡ length bytes → IsValidAnswer (at + n) (drop n text) walked → IsValidAnswer (at + length bytes) rest walked
+valid_answer_on at n text bytes rest walked whole len rest_valid =
     let left : drop n text ≡ rest = ap (drop n) whole ∙ drop_at bytes rest n (sym len) in
-    subst (λ (x : ℕ). IsRightAnswer (at + x) rest walked) len (subst (λ (x : List ℕ). IsRightAnswer (at + n) x walked) left told)
+    subst (λ (x : ℕ). IsValidAnswer (at + x) rest walked) len (subst (λ (x : List ℕ). IsValidAnswer (at + n) x walked) left rest_valid)
 
-told_step : (at : ℕ) (text : List ℕ) (p : TextPiece) → Sees text p → HasBytes p → ((to : ℕ) (rest : List ℕ) → length rest < length text → IsRightAnswer to rest (tokens_at to rest)) → 0 < length text → IsRightAnswer at text (step tokens_at at p text)
-told_step at text (piece_.Separator n) s long told some =
-    told_gap at text s.bytes s.rest (tokens_at (at + n) (drop n text)) s.whole s.separator
-    (right_answer_on at n text s.bytes s.rest (tokens_at (at + n) (drop n text)) s.whole s.len (told (at + n) (drop n text) (omega (arith, length-drop n text))))
-told_step at text (piece_.Token k n) s long told some =
+answer_after_step : (at : ℕ) (text : List ℕ) (p : TextPiece) → Sees text p → HasBytes p → ((to : ℕ) (rest : List ℕ) → length rest < length text → IsValidAnswer to rest (tokens_at to rest)) → 0 < length text → IsValidAnswer at text (step tokens_at at p text)
+answer_after_step at text (piece_.Separator n) s long rest_valid some =
+    answer_after_gap at text s.bytes s.rest (tokens_at (at + n) (drop n text)) s.whole s.separator
+    (valid_answer_on at n text s.bytes s.rest (tokens_at (at + n) (drop n text)) s.whole s.len (rest_valid (at + n) (drop n text) (omega (arith, length-drop n text))))
+answer_after_step at text (piece_.Token k n) s long rest_valid some =
     let walked : Walked = tokens_at (at + n) (drop n text) in
-    let here : IsRightAnswer at text (with_first (record { kind = k; start = at; end = at + length s.bytes }) walked) =
-    told_token at text s.bytes s.rest k walked s.whole s.form s.ends (right_answer_on at n text s.bytes s.rest walked s.whole s.len (told (at + n) (drop n text) (omega (arith, length-drop n text)))) in
-    subst (λ (x : ℕ). IsRightAnswer at text (with_first (record { kind = k; start = at; end = at + x }) walked)) (sym s.len) here
-told_step at text (piece_.Wrong n) s long told some = record { tokens = []; to = at; rest = text; offset = n; leads = stay at text; offence = s; here = refl }
+    let here : IsValidAnswer at text (with_first (record { kind = k; start = at; end = at + length s.bytes }) walked) =
+    answer_after_token at text s.bytes s.rest k walked s.whole s.form s.ends (valid_answer_on at n text s.bytes s.rest walked s.whole s.len (rest_valid (at + n) (drop n text) (omega (arith, length-drop n text)))) in
+    subst (λ (x : ℕ). IsValidAnswer at text (with_first (record { kind = k; start = at; end = at + x }) walked)) (sym s.len) here
+answer_after_step at text (piece_.Wrong n) s long rest_valid some = record { tokens = []; to = at; rest = text; offset = n; leads = stay at text; offence = s; here = refl }
 
-told_empty : (at : ℕ) → IsRightAnswer at [] (tokens_at at [])
+answer_of_empty : (at : ℕ) → IsValidAnswer at [] (tokens_at at [])
 unfolding tokens_at
-told_empty at = to_same at [] [] at (at + 0) [] (omega arith) (stay at [])
+answer_of_empty at = to_same at [] [] at (at + 0) [] (omega arith) (stay at [])
 
-told_up_to : (n at : ℕ) (text : List ℕ) → length text ≤ n → IsRightAnswer at text (tokens_at at text)
-told_up_to n at [] le = told_empty at
-told_up_to zero at (b ∷ rest) le = absurd (omega arith)
-told_up_to (suc n) at (b ∷ rest) le =
-    subst (λ (w : Walked). IsRightAnswer at (b ∷ rest) w) (sym (tokens_step at b rest))
-    (told_step at (b ∷ rest) (piece (b ∷ rest)) (sees_piece b rest) (piece_long b rest) (λ to left lt. told_up_to n to left (omega arith)) (omega arith))
+answer_up_to : (n at : ℕ) (text : List ℕ) → length text ≤ n → IsValidAnswer at text (tokens_at at text)
+answer_up_to n at [] le = answer_of_empty at
+answer_up_to zero at (b ∷ rest) le = absurd (omega arith)
+answer_up_to (suc n) at (b ∷ rest) le =
+    subst (λ (w : Walked). IsValidAnswer at (b ∷ rest) w) (sym (tokens_step at b rest))
+    (answer_after_step at (b ∷ rest) (piece (b ∷ rest)) (sees_piece b rest) (piece_has_bytes b rest) (λ to left lt. answer_up_to n to left (omega arith)) (omega arith))
 
-pub told : (at : ℕ) (text : List ℕ) → IsRightAnswer at text (tokens_at at text)
-told at text = told_up_to (length text) at text (omega arith)
+pub valid_answer : (at : ℕ) (text : List ℕ) → IsValidAnswer at text (tokens_at at text)
+valid_answer at text = answer_up_to (length text) at text (omega arith)
 
 -- ---- a result that satisfies the relation is the result of the walk
 
@@ -119,7 +119,7 @@ before_front t tokens (Err place) = refl
 
 pub leads_walk : (at : ℕ) (text : List ℕ) (tokens : List Token) (to : ℕ) (last : List ℕ) → Leads at text tokens to last → tokens_at at text ≡ with_front tokens (tokens_at to last)
 leads_walk at text tokens to last (stay a t) = sym (walk_start at text)
-leads_walk at text tokens to last (over_gap a t bytes rest ts o la whole s l) =
+leads_walk at text tokens to last (over_separator a t bytes rest ts o la whole s l) =
     let len : length text ≡ length bytes + length rest = split_len text bytes rest whole in
     let some : 0 < length bytes = separator_len bytes rest s in
     walk_one at text (omega arith) ∙ ap (λ (p : TextPiece). step tokens_at at p text) (gap_piece text bytes rest whole s)

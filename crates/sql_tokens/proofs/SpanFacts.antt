@@ -11,19 +11,19 @@ use Rattle.sql_tokens.specs.declared.token.TokenKind.{TokenKind}
 use Rattle.sql_tokens.specs.declared.token.TokenKind.TheVariants as kind
 use Rattle.sql_tokens.specs.Words.{IsTokenOf, slice}
 use Rattle.sql_tokens.specs.Tokens.{is_letter, is_digit, is_word_byte, is_in_line, begins_with, IsEnclosed, IsToken, IsSeparator}
-use Rattle.sql_tokens.specs.Lexing.{Leads, stay, over_gap, over_token, TokensAreInOrder, HasItsForm}
+use Rattle.sql_tokens.specs.Lexing.{Leads, stay, over_separator, over_token, TokensAreInOrder, HasItsForm}
 use Rattle.sql_tokens.proofs.Characters.{blank_ascii, word_byte_ascii, letter_is_word_byte, digit_ascii, sign_ascii, pair_second, line_end_ascii}
 use Rattle.sql_tokens.proofs.Readings.{token_len}
 
 -- ---- order
 
-later : (a b end : ℕ) (tokens : List Token) → a ≤ b → TokensAreInOrder b end tokens → TokensAreInOrder a end tokens
-later a b end [] le h = omega arith
-later a b end (t ∷ tokens) le h = let k : b ≤ t.start = h.0 in (omega arith, h.1, h.2)
+in_order_from_earlier : (a b end : ℕ) (tokens : List Token) → a ≤ b → TokensAreInOrder b end tokens → TokensAreInOrder a end tokens
+in_order_from_earlier a b end [] le h = omega arith
+in_order_from_earlier a b end (t ∷ tokens) le h = let k : b ≤ t.start = h.0 in (omega arith, h.1, h.2)
 
 pub in_order : (at : ℕ) (text : List ℕ) (tokens : List Token) (to : ℕ) (last : List ℕ) → Leads at text tokens to last → TokensAreInOrder at to tokens
 in_order at text tokens to last (stay a t) = omega arith
-in_order at text tokens to last (over_gap a t bytes rest ts o la whole s l) = later at (at + length bytes) to tokens (omega arith) (in_order (at + length bytes) rest tokens to last l)
+in_order at text tokens to last (over_separator a t bytes rest ts o la whole s l) = in_order_from_earlier at (at + length bytes) to tokens (omega arith) (in_order (at + length bytes) rest tokens to last l)
 in_order at text tokens to last (over_token a t bytes rest k ts o la whole form ends l) =
     let some : 0 < length bytes = token_len k bytes form in
     (omega arith, omega arith, in_order (at + length bytes) rest ts to last l)
@@ -99,13 +99,13 @@ slice_is all front bytes rest at whole len =
     let n : (at + length bytes) - at ≡ length bytes = omega arith in
     ap (λ (k : ℕ). take k (drop at all)) n ∙ ap (take (length bytes)) (ap (drop at) whole ∙ drop_at front (bytes ++ rest) at len) ∙ take_at bytes rest (length bytes) refl
 
-pub within : (all front : List ℕ) (at : ℕ) (text : List ℕ) (tokens : List Token) (to : ℕ) (last : List ℕ) → all ≡ front ++ text → length front ≡ at → IsUtf8 text → Leads at text tokens to last → All (IsTokenOf all) tokens
-within all front at text tokens to last split place utf8 (stay a t) = All-nil (IsTokenOf all)
-within all front at text tokens to last split place utf8 (over_gap a t bytes rest ts o la whole s l) =
-    within all (front ++ bytes) (at + length bytes) rest tokens to last
+pub tokens_within : (all front : List ℕ) (at : ℕ) (text : List ℕ) (tokens : List Token) (to : ℕ) (last : List ℕ) → all ≡ front ++ text → length front ≡ at → IsUtf8 text → Leads at text tokens to last → All (IsTokenOf all) tokens
+tokens_within all front at text tokens to last split place utf8 (stay a t) = All-nil (IsTokenOf all)
+tokens_within all front at text tokens to last split place utf8 (over_separator a t bytes rest ts o la whole s l) =
+    tokens_within all (front ++ bytes) (at + length bytes) rest tokens to last
     (split ∙ ap (λ (x : List ℕ). front ++ x) whole ∙ sym (append_assoc front bytes rest)) (omega (arith, length-append front bytes))
     (rest_utf8 text bytes rest whole utf8 (cut_separator text bytes rest whole utf8 s)) l
-within all front at text tokens to last split place utf8 (over_token a t bytes rest k ts o la whole form ends l) =
+tokens_within all front at text tokens to last split place utf8 (over_token a t bytes rest k ts o la whole form ends l) =
     let cut : IsCharBoundary text (length bytes) = cut_after_ascii text bytes rest whole utf8 (token_ends_ascii k bytes form) in
     let here : all ≡ front ++ (bytes ++ rest) = split ∙ ap (λ (x : List ℕ). front ++ x) whole in
     let len : length all ≡ length front + (length bytes + length rest) = ap length here ∙ length-append front (bytes ++ rest) ∙ ap (λ (n : ℕ). length front + n) (length-append bytes rest) in
@@ -116,12 +116,12 @@ within all front at text tokens to last split place utf8 (over_token a t bytes r
       utf8 = subst (λ (x : List ℕ). IsUtf8 x) (sym (slice_is all front bytes rest at here place)) (front_utf8 text bytes rest whole utf8 cut);
     } in
     All-cons (IsTokenOf all) this ts is
-    (within all (front ++ bytes) (at + length bytes) rest ts to last (here ∙ sym (append_assoc front bytes rest)) (omega (arith, length-append front bytes))
+    (tokens_within all (front ++ bytes) (at + length bytes) rest ts to last (here ∙ sym (append_assoc front bytes rest)) (omega (arith, length-append front bytes))
     (rest_utf8 text bytes rest whole utf8 cut) l)
 
 pub have_forms : (all front : List ℕ) (at : ℕ) (text : List ℕ) (tokens : List Token) (to : ℕ) (last : List ℕ) → all ≡ front ++ text → length front ≡ at → Leads at text tokens to last → All (HasItsForm all) tokens
 have_forms all front at text tokens to last split place (stay a t) = All-nil (HasItsForm all)
-have_forms all front at text tokens to last split place (over_gap a t bytes rest ts o la whole s l) =
+have_forms all front at text tokens to last split place (over_separator a t bytes rest ts o la whole s l) =
     have_forms all (front ++ bytes) (at + length bytes) rest tokens to last
     (split ∙ ap (λ (x : List ℕ). front ++ x) whole ∙ sym (append_assoc front bytes rest)) (omega (arith, length-append front bytes)) l
 have_forms all front at text tokens to last split place (over_token a t bytes rest k ts o la whole form ends l) =

@@ -6,45 +6,45 @@ use Rattle.std.proofs.lemmas.Str.{IsCharBoundary-after_ascii, IsUtf8-drop}
 use Rattle.std.specs.Str.{IsUtf8, IsCharBoundary}
 use Rattle.sql_tokens.specs.Words.{unquoted, in_upper_case, name_of_bytes, literal_of_bytes}
 
-abbrev pub IsFree : ℕ → List ℕ → Type 0
-IsFree q bytes = (i : ℕ) → i < length bytes → get_or bytes i 0 ≢ q
+abbrev pub HasNoQuote : ℕ → List ℕ → Type 0
+HasNoQuote q bytes = (i : ℕ) → i < length bytes → get_or bytes i 0 ≢ q
 
-free_rest : (q b : ℕ) (rest : List ℕ) → IsFree q (b ∷ rest) → IsFree q rest
+free_rest : (q b : ℕ) (rest : List ℕ) → HasNoQuote q (b ∷ rest) → HasNoQuote q rest
 free_rest q b rest free i lt = free (suc i) (omega arith)
 
-single_plain : (q b : ℕ) (rest : List ℕ) → b ≢ q → unquoted q (b ∷ rest) ≡ b ∷ unquoted q rest
-single_plain q b [] ne = rw (ne_eqb b q ne) refl
-single_plain q b (c ∷ rest) ne = rw (ne_eqb b q ne) refl
+unquoted_plain : (q b : ℕ) (rest : List ℕ) → b ≢ q → unquoted q (b ∷ rest) ≡ b ∷ unquoted q rest
+unquoted_plain q b [] ne = rw (ne_eqb b q ne) refl
+unquoted_plain q b (c ∷ rest) ne = rw (ne_eqb b q ne) refl
 
-single_front : (q : ℕ) (before rest : List ℕ) → IsFree q before → unquoted q (before ++ rest) ≡ before ++ unquoted q rest
-single_front q [] rest free = refl
-single_front q (b ∷ before) rest free = single_plain q b (before ++ rest) (free 0 (omega arith)) ∙ ap (λ (x : List ℕ). b ∷ x) (single_front q before rest (free_rest q b before free))
+unquoted_front : (q : ℕ) (before rest : List ℕ) → HasNoQuote q before → unquoted q (before ++ rest) ≡ before ++ unquoted q rest
+unquoted_front q [] rest free = refl
+unquoted_front q (b ∷ before) rest free = unquoted_plain q b (before ++ rest) (free 0 (omega arith)) ∙ ap (λ (x : List ℕ). b ∷ x) (unquoted_front q before rest (free_rest q b before free))
 
-single_free : (q : ℕ) (bytes : List ℕ) → IsFree q bytes → unquoted q bytes ≡ bytes
-single_free q [] free = refl
-single_free q (b ∷ bytes) free = single_plain q b bytes (free 0 (omega arith)) ∙ ap (λ (x : List ℕ). b ∷ x) (single_free q bytes (free_rest q b bytes free))
+unquoted_without_quotes : (q : ℕ) (bytes : List ℕ) → HasNoQuote q bytes → unquoted q bytes ≡ bytes
+unquoted_without_quotes q [] free = refl
+unquoted_without_quotes q (b ∷ bytes) free = unquoted_plain q b bytes (free 0 (omega arith)) ∙ ap (λ (x : List ℕ). b ∷ x) (unquoted_without_quotes q bytes (free_rest q b bytes free))
 
-single_pair : (q : ℕ) (rest : List ℕ) → unquoted q (q ∷ q ∷ rest) ≡ q ∷ unquoted q rest
-single_pair q rest = rw (eq-eqb q q refl) refl
+unquoted_pair : (q : ℕ) (rest : List ℕ) → unquoted q (q ∷ q ∷ rest) ≡ q ∷ unquoted q rest
+unquoted_pair q rest = rw (eq-eqb q q refl) refl
 
-single_closed : (q : ℕ) (after : List ℕ) → ((more : List ℕ) → after ≢ q ∷ more) → unquoted q (q ∷ after) ≡ []
-single_closed q [] ends = rw (eq-eqb q q refl) refl
-single_closed q (c ∷ after) ends = rw (eq-eqb q q refl, ne_eqb c q (λ e. ends after (ap (λ (x : ℕ). x ∷ after) e))) refl
+unquoted_closed : (q : ℕ) (after : List ℕ) → ((more : List ℕ) → after ≢ q ∷ more) → unquoted q (q ∷ after) ≡ []
+unquoted_closed q [] ends = rw (eq-eqb q q refl) refl
+unquoted_closed q (c ∷ after) ends = rw (eq-eqb q q refl, ne_eqb c q (λ e. ends after (ap (λ (x : ℕ). x ∷ after) e))) refl
 
 module _ (q : ℕ) (found rest total : List ℕ) where
-  pub single_goes_on : (before after more : List ℕ) → found ++ unquoted q rest ≡ total → rest ≡ before ++ q ∷ after → IsFree q before → after ≡ q ∷ more → ((found ++ before) ++ q ∷ []) ++ unquoted q more ≡ total
-  single_goes_on before after more so_far split free pair =
+  pub unquoted_step : (before after more : List ℕ) → found ++ unquoted q rest ≡ total → rest ≡ before ++ q ∷ after → HasNoQuote q before → after ≡ q ∷ more → ((found ++ before) ++ q ∷ []) ++ unquoted q more ≡ total
+  unquoted_step before after more so_far split free pair =
       let e : unquoted q rest ≡ before ++ q ∷ unquoted q more =
-      ap (unquoted q) split ∙ single_front q before (q ∷ after) free ∙ ap (λ (x : List ℕ). before ++ unquoted q (q ∷ x)) pair ∙ ap (λ (x : List ℕ). before ++ x) (single_pair q more) in
+      ap (unquoted q) split ∙ unquoted_front q before (q ∷ after) free ∙ ap (λ (x : List ℕ). before ++ unquoted q (q ∷ x)) pair ∙ ap (λ (x : List ℕ). before ++ x) (unquoted_pair q more) in
       append_assoc (found ++ before) (q ∷ []) (unquoted q more) ∙ append_assoc found before (q ∷ unquoted q more) ∙ ap (λ (x : List ℕ). found ++ x) (sym e) ∙ so_far
 
-  pub single_ends : (before after : List ℕ) → found ++ unquoted q rest ≡ total → rest ≡ before ++ q ∷ after → IsFree q before → ((more : List ℕ) → after ≢ q ∷ more) → found ++ before ≡ total
-  single_ends before after so_far split free ends =
-      let e : unquoted q rest ≡ before ++ [] = ap (unquoted q) split ∙ single_front q before (q ∷ after) free ∙ ap (λ (x : List ℕ). before ++ x) (single_closed q after ends) in
+  pub unquoted_end : (before after : List ℕ) → found ++ unquoted q rest ≡ total → rest ≡ before ++ q ∷ after → HasNoQuote q before → ((more : List ℕ) → after ≢ q ∷ more) → found ++ before ≡ total
+  unquoted_end before after so_far split free ends =
+      let e : unquoted q rest ≡ before ++ [] = ap (unquoted q) split ∙ unquoted_front q before (q ∷ after) free ∙ ap (λ (x : List ℕ). before ++ x) (unquoted_closed q after ends) in
       ap (λ (x : List ℕ). found ++ x) (sym (append-nil before) ∙ sym e) ∙ so_far
 
-  pub single_whole : found ++ unquoted q rest ≡ total → IsFree q rest → found ++ rest ≡ total
-  single_whole so_far free = ap (λ (x : List ℕ). found ++ x) (sym (single_free q rest free)) ∙ so_far
+  pub unquoted_whole : found ++ unquoted q rest ≡ total → HasNoQuote q rest → found ++ rest ≡ total
+  unquoted_whole so_far free = ap (λ (x : List ℕ). found ++ x) (sym (unquoted_without_quotes q rest free)) ∙ so_far
 
 pub name_of_word : (bytes : List ℕ) → ((rest : List ℕ) → bytes ≢ 34 ∷ rest) → in_upper_case bytes ≡ name_of_bytes bytes
 name_of_word [] other = refl

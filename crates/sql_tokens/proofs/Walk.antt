@@ -39,9 +39,9 @@ symbol_long : (b : ℕ) (rest : List ℕ) → HasBytes (symbol b rest)
 unfolding symbol
 symbol_long b rest = long_cond (is_two_byte_symbol b (slice_index rest 0)) _ _ (omega arith) (long_cond (is_one_byte_symbol b) (piece_.Token kind.Symbol 1) (piece_.Wrong 0) (omega arith) (omega arith))
 
-pub piece_long : (b : ℕ) (rest : List ℕ) → HasBytes (piece (b ∷ rest))
+pub piece_has_bytes : (b : ℕ) (rest : List ℕ) → HasBytes (piece (b ∷ rest))
 unfolding piece
-piece_long b rest =
+piece_has_bytes b rest =
     long_cond (is_blank b) _ _ (omega arith)
     (long_cond (is_letter b) _ _ (omega arith)
     (long_cond (is_digit b) _ _ (omega arith)
@@ -64,7 +64,7 @@ up_same : (n m at : ℕ) (bytes : List ℕ) → length bytes ≤ n → length by
 up_same zero m at bytes le le' = sym (up_none m at bytes le)
 up_same (suc n) zero at bytes le le' = up_none (suc n) at bytes le'
 up_same (suc n) (suc m) at [] le le' = refl
-up_same (suc n) (suc m) at (b ∷ rest) le le' = step_same n m at b rest (up_same n m) (omega arith) (omega arith) (piece (b ∷ rest)) (piece_long b rest)
+up_same (suc n) (suc m) at (b ∷ rest) le le' = step_same n m at b rest (up_same n m) (omega arith) (omega arith) (piece (b ∷ rest)) (piece_has_bytes b rest)
 
 step_on : (at b : ℕ) (rest : List ℕ) (p : TextPiece) → HasBytes p → step (pieces_up_to (length rest)) at p (b ∷ rest) ≡ step tokens_at at p (b ∷ rest)
 unfolding tokens_at
@@ -74,7 +74,7 @@ step_on at b rest (piece_.Wrong k) l = refl
 
 pub tokens_step : (at b : ℕ) (rest : List ℕ) → tokens_at at (b ∷ rest) ≡ step tokens_at at (piece (b ∷ rest)) (b ∷ rest)
 unfolding tokens_at
-tokens_step at b rest = step_on at b rest (piece (b ∷ rest)) (piece_long b rest)
+tokens_step at b rest = step_on at b rest (piece (b ∷ rest)) (piece_has_bytes b rest)
 
 -- ---- the steps of the loop
 
@@ -88,9 +88,9 @@ walk_start start text = at (tokens_at start text) where
   at (Ok ts) = refl
   at (Err k) = refl
 
-pub walk_gap : (ts : List Token) (at b : ℕ) (rest : List ℕ) (n : ℕ) (total : Walked) → with_front ts (tokens_at at (b ∷ rest)) ≡ total → piece (b ∷ rest) ≡ piece_.Separator n
+pub walk_separator : (ts : List Token) (at b : ℕ) (rest : List ℕ) (n : ℕ) (total : Walked) → with_front ts (tokens_at at (b ∷ rest)) ≡ total → piece (b ∷ rest) ≡ piece_.Separator n
     → with_front ts (tokens_at (at + n) (drop n (b ∷ rest))) ≡ total
-walk_gap ts at b rest n total so_far e =
+walk_separator ts at b rest n total so_far e =
     let one : tokens_at at (b ∷ rest) ≡ tokens_at (at + n) (drop n (b ∷ rest)) = tokens_step at b rest ∙ ap (λ p. step tokens_at at p (b ∷ rest)) e in
     ap (with_front ts) (sym one) ∙ so_far
 

@@ -13,8 +13,8 @@ use Rattle.sql_tokens.specs.declared.token.LexError.TheVariants as error
 use Rattle.sql_tokens.specs.Words.{IsTokenOf}
 use Rattle.sql_tokens.specs.Lexing.{Leads, mark_len, IsLexed, IsBadToken, IsBad, IsRefusal, TokensAreInOrder, HasItsForm}
 use Rattle.sql_tokens.specs.Pieces.{Walked, tokens_at, IsResultOf}
-use Rattle.sql_tokens.proofs.Readings.{IsRightAnswer, told, leads_all, offence_all}
-use Rattle.sql_tokens.proofs.SpanFacts.{in_order, within, have_forms}
+use Rattle.sql_tokens.proofs.Readings.{IsValidAnswer, valid_answer, leads_all, offence_all}
+use Rattle.sql_tokens.proofs.SpanFacts.{in_order, tokens_within, have_forms}
 
 -- ---- the byte order mark
 
@@ -48,31 +48,31 @@ unmarked_utf8 (b ∷ c ∷ d ∷ rest) utf8 = marked b c d rest (eqb b 239 && (e
 unmarked_len : (text : List ℕ) → mark_len text + length (drop (mark_len text) text) ≡ length text
 unmarked_len text = omega (arith, length-drop (mark_len text) text, mark_within text)
 
-told_whole : (text : List ℕ) (walked : Walked) → tokens_at (mark_len text) (drop (mark_len text) text) ≡ walked → IsRightAnswer (mark_len text) (drop (mark_len text) text) walked
-told_whole text walked e = subst (λ (w : Walked). IsRightAnswer (mark_len text) (drop (mark_len text) text) w) e (told (mark_len text) (drop (mark_len text) text))
+valid_answer_of_text : (text : List ℕ) (walked : Walked) → tokens_at (mark_len text) (drop (mark_len text) text) ≡ walked → IsValidAnswer (mark_len text) (drop (mark_len text) text) walked
+valid_answer_of_text text walked e = subst (λ (w : Walked). IsValidAnswer (mark_len text) (drop (mark_len text) text) w) e (valid_answer (mark_len text) (drop (mark_len text) text))
 
 lexed : (text : List ℕ) (tokens : List Token) → IsUtf8 text → tokens_at (mark_len text) (drop (mark_len text) text) ≡ Ok tokens → IsLexed text tokens
 lexed text tokens utf8 e = record {
   utf8 = utf8;
-  leads = subst (λ (n : ℕ). Leads (mark_len text) (drop (mark_len text) text) tokens n []) (unmarked_len text) (told_whole text (Ok tokens) e);
+  leads = subst (λ (n : ℕ). Leads (mark_len text) (drop (mark_len text) text) tokens n []) (unmarked_len text) (valid_answer_of_text text (Ok tokens) e);
 }
 
 refused : (text : List ℕ) (at : ℕ) → IsUtf8 text → tokens_at (mark_len text) (drop (mark_len text) text) ≡ Err at → IsBadToken text at
-refused text at utf8 e = record { utf8 = utf8; offence = told_whole text (Err at) e }
+refused text at utf8 e = record { utf8 = utf8; offence = valid_answer_of_text text (Err at) e }
 
 cut_is : (text : List ℕ) (start : ℕ) → start ≡ mark_len text → tokens_at start (take (length text - start) (drop start text)) ≡ tokens_at (mark_len text) (drop (mark_len text) text)
 cut_is text start e = ap (tokens_at start) (take_rest text start) ∙ ap (λ (n : ℕ). tokens_at n (drop n text)) e
 
-module _ (text : List ℕ) (start : ℕ) (is : start ≡ mark_len text) (utf8 : IsUtf8 text) where
-  pub gave_lexed : (result : Result (List Token) LexError) → IsResultOf result (tokens_at start (take (length text - start) (drop start text))) → IfOk result (λ tokens. IsLexed text tokens)
-  gave_lexed (Ok tokens) gave = lexed text tokens utf8 (sym (cut_is text start is) ∙ gave)
-  gave_lexed (Err (error.Bad at)) gave = tt
-  gave_lexed (Err error.NoMemory) gave = tt
+module _ (text : List ℕ) (start : ℕ) (start_is_mark_len : start ≡ mark_len text) (utf8 : IsUtf8 text) where
+  pub lexed_result : (result : Result (List Token) LexError) → IsResultOf result (tokens_at start (take (length text - start) (drop start text))) → IfOk result (λ tokens. IsLexed text tokens)
+  lexed_result (Ok tokens) gave = lexed text tokens utf8 (sym (cut_is text start start_is_mark_len) ∙ gave)
+  lexed_result (Err (error.Bad at)) gave = tt
+  lexed_result (Err error.NoMemory) gave = tt
 
-  pub gave_refused : (result : Result (List Token) LexError) → IsResultOf result (tokens_at start (take (length text - start) (drop start text))) → IfErr result (λ e. IsRefusal text e)
-  gave_refused (Ok tokens) gave = tt
-  gave_refused (Err (error.Bad at)) gave = inr (refused text at utf8 (sym (cut_is text start is) ∙ gave))
-  gave_refused (Err error.NoMemory) gave = tt
+  pub refused_result : (result : Result (List Token) LexError) → IsResultOf result (tokens_at start (take (length text - start) (drop start text))) → IfErr result (λ e. IsRefusal text e)
+  refused_result (Ok tokens) gave = tt
+  refused_result (Err (error.Bad at)) gave = inr (refused text at utf8 (sym (cut_is text start start_is_mark_len) ∙ gave))
+  refused_result (Err error.NoMemory) gave = tt
 
 pub lexed_in_order : (text : List ℕ) (tokens : List Token) → IsLexed text tokens → TokensAreInOrder 0 (length text) tokens
 lexed_in_order text tokens l = from_zero tokens (in_order (mark_len text) (drop (mark_len text) text) tokens (length text) [] l.leads) where
@@ -82,7 +82,7 @@ lexed_in_order text tokens l = from_zero tokens (in_order (mark_len text) (drop 
 
 pub lexed_within : (text : List ℕ) (tokens : List Token) → IsLexed text tokens → All (IsTokenOf text) tokens
 lexed_within text tokens l =
-    within text (take (mark_len text) text) (mark_len text) (drop (mark_len text) text) tokens (length text) [] (sym (take-append-drop (mark_len text) text))
+    tokens_within text (take (mark_len text) text) (mark_len text) (drop (mark_len text) text) tokens (length text) [] (sym (take-append-drop (mark_len text) text))
     (length-take-le (mark_len text) text (mark_within text)) (unmarked_utf8 text l.utf8) l.leads
 
 pub ok_weaker : (P Q : List Token → Type 0) → ((tokens : List Token) → P tokens → Q tokens) → (result : Result (List Token) LexError) → IfOk result P → IfOk result Q
@@ -116,14 +116,14 @@ bad_walk : (text : List ℕ) (at : ℕ) → IsBadToken text at → walk_of text 
 unfolding walk_of
 bad_walk text at b = offence_all (mark_len text) (drop (mark_len text) text) at b.offence
 
-pub one_list : (text : List ℕ) (tokens others : List Token) → IsLexed text tokens → IsLexed text others → tokens ≡ others
-one_list text tokens others a b = ok_same tokens others (sym (lexed_walk text tokens a) ∙ lexed_walk text others b)
+pub one_token_list : (text : List ℕ) (tokens others : List Token) → IsLexed text tokens → IsLexed text others → tokens ≡ others
+one_token_list text tokens others a b = ok_same tokens others (sym (lexed_walk text tokens a) ∙ lexed_walk text others b)
 
-pub one_place : (text : List ℕ) (at other : ℕ) → IsBad text at → IsBad text other → at ≡ other
-one_place text at other (inl a) (inl b) = a.here ∙ sym b.here
-one_place text at other (inl a) (inr b) = absurd (a.bad b.utf8)
-one_place text at other (inr a) (inl b) = absurd (b.bad a.utf8)
-one_place text at other (inr a) (inr b) = err_same at other (sym (bad_walk text at a) ∙ bad_walk text other b)
+pub one_error_offset : (text : List ℕ) (at other : ℕ) → IsBad text at → IsBad text other → at ≡ other
+one_error_offset text at other (inl a) (inl b) = a.here ∙ sym b.here
+one_error_offset text at other (inl a) (inr b) = absurd (a.bad b.utf8)
+one_error_offset text at other (inr a) (inl b) = absurd (b.bad a.utf8)
+one_error_offset text at other (inr a) (inr b) = err_same at other (sym (bad_walk text at a) ∙ bad_walk text other b)
 
 pub never_both : (text : List ℕ) (tokens : List Token) (at : ℕ) → IsLexed text tokens → IsBad text at → ⊥
 never_both text tokens at a (inl b) = b.bad a.utf8
@@ -133,8 +133,8 @@ read_utf8 : (text : List ℕ) (walked : Walked) → IsUtf8 text → tokens_at (m
 read_utf8 text (Ok tokens) utf8 e = inl (tokens, lexed text tokens utf8 e)
 read_utf8 text (Err at) utf8 e = inr (at, inr (refused text at utf8 e))
 
-pub read_each : (text : List ℕ) → ((tokens : List Token) × IsLexed text tokens) ⊎ ((at : ℕ) × IsBad text at)
-read_each text = by (is_utf8 text) refl where
+pub tokens_or_error : (text : List ℕ) → ((tokens : List Token) × IsLexed text tokens) ⊎ ((at : ℕ) × IsBad text at)
+tokens_or_error text = by (is_utf8 text) refl where
   by : (t : Bool) → is_utf8 text ≡ t → ((tokens : List Token) × IsLexed text tokens) ⊎ ((at : ℕ) × IsBad text at)
   by true e = read_utf8 text (tokens_at (mark_len text) (drop (mark_len text) text)) (IsUtf8-from_is_utf8 text e) refl
   by false e = inr (utf8_valid_len text, inl (record { bad = λ u. false≢true (sym e ∙ is_utf8-from_IsUtf8 text u); here = refl }))

@@ -1,4 +1,4 @@
--- The tokens of a text, and the first error of a text that can't be cut into tokens. In names an error is an `offence`.
+-- The tokens of a text, and the first error of a text that can't be split into tokens. In names an error is an `offence`.
 use Rattle.std.specs.Prelude.{◌≡◌, ℕ, ◌+◌, ◌<◌, ◌≤◌, true, false, ◌&&◌, ◌==◌, if◌then◌else◌, List, [], ◌∷◌, ◌++◌, length, drop, ⊤, ◌⊎◌}
 use Rattle.std.specs.List.{list_all}
 use Rattle.std.specs.Str.{IsUtf8}
@@ -10,10 +10,10 @@ use Rattle.sql_tokens.specs.declared.token.LexError.TheVariants as error
 use Rattle.sql_tokens.specs.Words.{slice}
 use Rattle.sql_tokens.specs.Tokens.{is_not_control, is_quote, begins_some, begins_with, are_doubled, IsToken, goes_on, IsSeparator}
 
--- separators and the tokens lead from byte `at` to byte `to`. The rest of the text is `text` at byte `at`, and `last` at byte `to`
+-- separators and `tokens` fill the bytes from `at` to `to`. What remains of the text is `text` at byte `at`, and `last` at byte `to`
 pub data Leads : ℕ → List ℕ → List Token → ℕ → List ℕ → Type 0 where
   stay : (at : ℕ) (text : List ℕ) → Leads at text [] at text
-  over_gap : (at : ℕ) (text bytes rest : List ℕ) (tokens : List Token) (to : ℕ) (last : List ℕ)
+  over_separator : (at : ℕ) (text bytes rest : List ℕ) (tokens : List Token) (to : ℕ) (last : List ℕ)
       → text ≡ bytes ++ rest → IsSeparator bytes rest
       → Leads (at + length bytes) rest tokens to last → Leads at text tokens to last
   over_token : (at : ℕ) (text bytes rest : List ℕ) (kind : TokenKind) (tokens : List Token) (to : ℕ) (last : List ℕ)

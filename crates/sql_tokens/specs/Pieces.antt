@@ -16,7 +16,7 @@ abbrev pub is_in : ByteClass → ℕ → Bool
 is_in run.Word b = is_word_byte b
 is_in run.Digits b = is_digit b
 is_in run.NotLineFeed b = is_in_line b
-is_in run.Plain b = is_not_control b
+is_in run.NotControl b = is_not_control b
 
 abbrev pub further : ℕ → Option ℕ → Option ℕ
 further k None = None
@@ -93,7 +93,7 @@ abbrev pub with_front : List Token → Walked → Walked
 with_front front (Ok ts) = Ok (front ++ ts)
 with_front front (Err at) = Err at
 
--- the code's result is that of the walk over the pieces, unless memory ran out
+-- the code's result is the result of the walk over the pieces, unless memory ran out
 abbrev pub IsResultOf : Result (List Token) LexError → Walked → Type 0
 IsResultOf (Ok ts) walked = walked ≡ Ok ts
 IsResultOf (Err (error.Bad at)) walked = walked ≡ Err at

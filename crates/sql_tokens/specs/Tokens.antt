@@ -103,8 +103,8 @@ abbrev pub symbol_goes_on : List ℕ → List ℕ → Bool
 symbol_goes_on (b ∷ []) (c ∷ rest) = is_two_byte_symbol b c || ((b == 45) && (c == 45))
 symbol_goes_on bytes rest = false
 
--- whether the token goes on with the bytes after it. If so, it isn't complete: the longest token that fits is taken, and a closing quote has no quote
--- directly after it
+-- whether the token goes on with the bytes after it. If so, it isn't complete: tokens are as long as possible, and no quote directly follows a
+-- closing quote
 abbrev pub goes_on : TokenKind → List ℕ → List ℕ → Bool
 goes_on kind.Word bytes rest = begins_with is_word_byte rest
 goes_on kind.Quoted bytes rest = begins_with (λ b. b == 34) rest

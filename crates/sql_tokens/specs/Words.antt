@@ -15,7 +15,7 @@ use Rattle.sql_tokens.specs.declared.token.TokenKind.TheVariants as kind
 abbrev pub slice : List ℕ → ℕ → ℕ → List ℕ
 slice text start end = slice_range text start end
 
--- the token lies within the text, and its bytes are valid UTF-8; IsLexemeOf says the same of a lexeme, which is a token with its terminal
+-- the token lies within the text, and its bytes are valid UTF-8. `IsLexemeOf` says the same of a lexeme (a token with its terminal)
 pub record IsTokenOf (text : List ℕ) (token : Token) : Type 0 where
   pub begins : token.start ≤ token.end
   pub within : token.end ≤ length text

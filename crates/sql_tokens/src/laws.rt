@@ -16,27 +16,27 @@ pub fn one_offence()
 {}
 
 /// A text that has tokens has no error.
-pub fn not_both()
+pub fn no_error_with_tokens()
     ensures { (text : List ℕ) (tokens : List Token) (at : ℕ) → IsLexed text tokens → IsBad text at → ⊥ }
 {}
 
 /// Each text has tokens or an error.
-pub fn each_text()
+pub fn tokens_or_error_of_text()
     ensures { (text : List ℕ) → ((tokens : List Token) × IsLexed text tokens) ⊎ ((at : ℕ) × IsBad text at) }
 {}
 
 /// The bytes of a token in its text have the form of the token's kind.
-pub fn forms()
+pub fn tokens_have_forms()
     ensures { (text : List ℕ) (tokens : List Token) → IsLexed text tokens → All (HasItsForm text) tokens }
 {}
 
 /// The spans of a text's tokens follow one another within the text, and no span is empty.
-pub fn spans()
+pub fn tokens_are_in_order()
     ensures { (text : List ℕ) (tokens : List Token) → IsLexed text tokens → TokensAreInOrder 0 (length text) tokens }
 {}
 
 /// A token that can't go on with the bytes after it is the longest prefix of the text with the form of a token.
-pub fn longest()
+pub fn tokens_are_longest()
     ensures { (kind other : TokenKind) (token rest longer more : List ℕ) → IsToken kind token → goes_on kind token rest ≡ false
         → token ++ rest ≡ longer ++ more → IsToken other longer → length longer ≤ length token }
 {}

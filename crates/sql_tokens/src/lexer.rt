@@ -11,7 +11,7 @@ use base_io::Seq;
 use std::alloc::Global;
 
 /// The tokens of the bytes `text`, or the byte of the first error. The first of the bytes is byte `start` of the whole text.
-#[tactic(auto, using(crate::proofs::Walk::walk_gap, crate::proofs::Walk::walk_token, crate::proofs::Walk::walk_wrong, crate::proofs::Walk::walk_done, crate::proofs::Walk::walk_start))]
+#[tactic(auto, using(crate::proofs::Walk::walk_separator, crate::proofs::Walk::walk_token, crate::proofs::Walk::walk_wrong, crate::proofs::Walk::walk_done, crate::proofs::Walk::walk_start))]
 fn tokens_from(alloc: Global, start: u32, text: &[u8]) -> Result<Seq<Token>, LexError>
     requires { start + length text.now ≤ most_text }
     ensures { IsResultOf result (tokens_at start text.now) }
@@ -42,7 +42,7 @@ fn tokens_from(alloc: Global, start: u32, text: &[u8]) -> Result<Seq<Token>, Lex
     Ok(tokens)
 }
 
-/// The length of the byte order mark at the very start.
+/// The length of the byte order mark at the very start, or 0 without a mark.
 fn mark_len_of(text: &[u8]) -> usize
     ensures value { result ≡ mark_len text.now }
     ensures within { result ≤ length text.now }
@@ -56,8 +56,8 @@ fn mark_len_of(text: &[u8]) -> usize
 
 /// The tokens of a text. A byte order mark at the very start is skipped, but offsets count its bytes.
 ///
-/// Bytes that aren't UTF-8 are refused before anything else, at the first byte of the first bad sequence. Otherwise the first of these errors is
-/// refused:
+/// Bytes that aren't UTF-8 are refused before anything else, at the first byte of the first bad sequence. Otherwise the text is refused at the first
+/// of these errors:
 /// - a character that begins no token, at this character;
 /// - a quote that is never closed, or a delimited identifier without characters, at the opening quote;
 /// - a control character in a delimited identifier, at this character.

@@ -3,8 +3,8 @@
 //! `tokens` finds the tokens of a text, or the byte of its first error. `lexemes` gives each token its terminal. `name`, `literal` and `number` read
 //! a single token.
 //!
-//! Contracts use `IsLexed` (the tokens of a text) and `IsBad` (the byte of its first error). For single tokens they use `lexeme_of`, `IsLexemeOf` (a
-//! lexeme lies in the text), `name_of`, `literal_text_of` and `number_of`. The laws are functions without a body.
+//! Contracts use `IsLexed` (the tokens of a text) and `IsBad` (the byte of its first error). For single tokens contracts use `lexeme_of`,
+//! `IsLexemeOf` (a lexeme lies in the text), `name_of`, `literal_text_of` and `number_of`. The laws are functions without a body.
 #![tactic(auto)]
 
 mod keywords;
@@ -16,7 +16,10 @@ mod runs;
 mod terminals;
 mod token;
 
-pub use laws::{each_text, forms, longest, not_both, one_offence, one_reading, spans};
+pub use laws::{
+    no_error_with_tokens, one_offence, one_reading, tokens_are_in_order, tokens_are_longest,
+    tokens_have_forms, tokens_or_error_of_text,
+};
 pub use lexer::tokens;
 pub use names::{literal, name, number};
 pub use terminals::lexemes;

@@ -7,7 +7,7 @@ use ll_grammars::Lexeme;
 use std::alloc::Global;
 
 /// The bytes of a token in the text.
-fn part<'a>(text: &'a [u8], lexeme: &Lexeme) -> &'a str
+fn bytes_of_token<'a>(text: &'a [u8], lexeme: &Lexeme) -> &'a str
     requires { IsLexemeOf text.now lexeme.now }
     ensures { result.now ≡ slice text.now lexeme.now.start lexeme.now.end }
 {
@@ -18,7 +18,7 @@ fn part<'a>(text: &'a [u8], lexeme: &Lexeme) -> &'a str
 }
 
 /// The characters before the closing quote. Two quotes in a row are read as one.
-#[tactic(auto, using(crate::proofs::Unquoting::single_goes_on, crate::proofs::Unquoting::single_ends, crate::proofs::Unquoting::single_whole))]
+#[tactic(auto, using(crate::proofs::Unquoting::unquoted_step, crate::proofs::Unquoting::unquoted_end, crate::proofs::Unquoting::unquoted_whole))]
 fn unquote(alloc: Global, quote: char, text: &str) -> Result<String, NoMemory>
     requires { quote < 128 }
     ensures { IfOk result (λ found. string_bytes found ≡ unquoted quote text.now) }
@@ -64,7 +64,7 @@ pub fn name(alloc: Global, text: &[u8], lexeme: &Lexeme) -> Result<Name, NoMemor
     requires { IsLexemeOf text.now lexeme.now }
     ensures { IfOk result (λ name. name ≡ name_of text.now lexeme.now) }
 {
-    let found = name_text(alloc, part(text, lexeme))?;
+    let found = name_text(alloc, bytes_of_token(text, lexeme))?;
     Name::from_str(alloc, found.as_str())
 }
 
@@ -74,7 +74,7 @@ pub fn literal(alloc: Global, text: &[u8], lexeme: &Lexeme) -> Result<Name, NoMe
     requires { IsLexemeOf text.now lexeme.now }
     ensures { IfOk result (λ name. name ≡ literal_text_of text.now lexeme.now) }
 {
-    let found = literal_text(alloc, part(text, lexeme))?;
+    let found = literal_text(alloc, bytes_of_token(text, lexeme))?;
     Name::from_str(alloc, found.as_str())
 }
 

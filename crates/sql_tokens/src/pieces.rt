@@ -48,7 +48,7 @@ fn identifier_piece(rest: &[u8]) -> TextPiece
             if n == 1 {
                 return TextPiece::Wrong(0);
             }
-            let plain = ByteClass::Plain.len(rest);
+            let plain = ByteClass::NotControl.len(rest);
             if plain < n {
                 TextPiece::Wrong(plain + 1)
             } else {

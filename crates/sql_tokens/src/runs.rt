@@ -9,7 +9,7 @@ pub enum ByteClass {
     Word,
     Digits,
     NotLineFeed,
-    Plain,
+    NotControl,
 }
 
 impl ByteClass {
@@ -20,7 +20,7 @@ impl ByteClass {
             ByteClass::Word => byte.is_ascii_alphanumeric() || byte == b'_',
             ByteClass::Digits => byte.is_ascii_digit(),
             ByteClass::NotLineFeed => byte != b'\n',
-            ByteClass::Plain => byte >= b' ',
+            ByteClass::NotControl => byte >= b' ',
         }
     }
 

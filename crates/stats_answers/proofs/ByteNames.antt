@@ -14,10 +14,10 @@ use Rattle.schema_types.specs.declared.errors.SchemaError.{SchemaError}
 use Rattle.schema_types.specs.declared.types.Column.{Column}
 use Rattle.schema_types.specs.declared.types.Schema.{Schema}
 use Rattle.schema_types.specs.declared.types.Table.{Table}
-use Rattle.schema_types.specs.Meaning.{schema_or_refusal, element_column, schema_of, table_of, unless_found, within_limits}
+use Rattle.schema_types.specs.Meaning.{schema_or_refusal, element_column, schema_of, table_of, unless_found, if_within_limits}
 use Rattle.schema_types.specs.Names.{first}
 use Rattle.schema_types.specs.Offences.{offences}
-use Rattle.schema_types.specs.Refusals.{above, column_counts, nullable_offsets, text_lengths}
+use Rattle.schema_types.specs.Refusals.{numbers_above, column_counts, nullable_offsets, text_lengths}
 use Rattle.schema_types.specs.Texts.{Declares}
 use Rattle.stats_file.specs.Bytes.{AreBytes}
 use Rattle.stats_words.proofs.TextFacts.{utf8_bytes}
@@ -25,40 +25,40 @@ use Rattle.stats_reading.specs.Names.{HasByteColumns}
 
 -- ---- names
 
-front_bytes : (k : ℕ) (bytes : List ℕ) → AreBytes bytes → AreBytes (take k bytes)
-front_bytes zero bytes are = tt
-front_bytes (suc k) [] are = tt
-front_bytes (suc k) (b ∷ bytes) are = (are.0, front_bytes k bytes are.1)
+take_bytes : (k : ℕ) (bytes : List ℕ) → AreBytes bytes → AreBytes (take k bytes)
+take_bytes zero bytes are = tt
+take_bytes (suc k) [] are = tt
+take_bytes (suc k) (b ∷ bytes) are = (are.0, take_bytes k bytes are.1)
 
-rest_bytes : (k : ℕ) (bytes : List ℕ) → AreBytes bytes → AreBytes (drop k bytes)
-rest_bytes zero bytes are = are
-rest_bytes (suc k) [] are = tt
-rest_bytes (suc k) (b ∷ bytes) are = rest_bytes k bytes are.1
+drop_bytes : (k : ℕ) (bytes : List ℕ) → AreBytes bytes → AreBytes (drop k bytes)
+drop_bytes zero bytes are = are
+drop_bytes (suc k) [] are = tt
+drop_bytes (suc k) (b ∷ bytes) are = drop_bytes k bytes are.1
 
-single_bytes : (quote : ℕ) (bytes : List ℕ) → AreBytes bytes → AreBytes (unquoted quote bytes)
-single_bytes quote [] are = tt
-single_bytes quote (b ∷ []) are = cond_both (b == quote) [] (b ∷ []) AreBytes (λ e. tt) (λ e. are)
-single_bytes quote (b ∷ c ∷ rest) are =
+unquoted_bytes : (quote : ℕ) (bytes : List ℕ) → AreBytes bytes → AreBytes (unquoted quote bytes)
+unquoted_bytes quote [] are = tt
+unquoted_bytes quote (b ∷ []) are = cond_both (b == quote) [] (b ∷ []) AreBytes (λ e. tt) (λ e. are)
+unquoted_bytes quote (b ∷ c ∷ rest) are =
     cond_both (b == quote) (if c == quote then quote ∷ unquoted quote rest else []) (b ∷ unquoted quote (c ∷ rest)) AreBytes
-    (λ e. cond_both (c == quote) (quote ∷ unquoted quote rest) [] AreBytes (λ f. (grind (arith, nat_tests), single_bytes quote rest are.1.1)) (λ f. tt))
-    (λ e. (are.0, single_bytes quote (c ∷ rest) are.1))
+    (λ e. cond_both (c == quote) (quote ∷ unquoted quote rest) [] AreBytes (λ f. (grind (arith, nat_tests), unquoted_bytes quote rest are.1.1)) (λ f. tt))
+    (λ e. (are.0, unquoted_bytes quote (c ∷ rest) are.1))
 
 upper_byte : (c : ℕ) → c < 256 → to_ascii_uppercase c < 256
 upper_byte c small = grind (arith, nat_tests)
 
-folded_bytes : (bytes : List ℕ) → AreBytes bytes → AreBytes (in_upper_case bytes)
-folded_bytes [] are = tt
-folded_bytes (b ∷ bytes) are = (upper_byte b are.0, folded_bytes bytes are.1)
+upper_case_bytes : (bytes : List ℕ) → AreBytes bytes → AreBytes (in_upper_case bytes)
+upper_case_bytes [] are = tt
+upper_case_bytes (b ∷ bytes) are = (upper_byte b are.0, upper_case_bytes bytes are.1)
 
 named_bytes : (bytes : List ℕ) → AreBytes bytes → AreBytes (name_of_bytes bytes)
 named_bytes [] are = tt
 named_bytes (b ∷ rest) are =
-    cond_both (b == 34) (unquoted 34 rest) (in_upper_case (b ∷ rest)) AreBytes (λ e. single_bytes 34 rest are.1) (λ e. folded_bytes (b ∷ rest) are)
+    cond_both (b == 34) (unquoted 34 rest) (in_upper_case (b ∷ rest)) AreBytes (λ e. unquoted_bytes 34 rest are.1) (λ e. upper_case_bytes (b ∷ rest) are)
 
 name_bytes : (text : List ℕ) (lexeme : Lexeme) → AreBytes text → AreBytes (name_of text lexeme)
 unfolding name_of
 name_bytes text lexeme are =
-    named_bytes (slice text lexeme.start lexeme.end) (front_bytes (lexeme.end - lexeme.start) (drop lexeme.start text) (rest_bytes lexeme.start text are))
+    named_bytes (slice text lexeme.start lexeme.end) (take_bytes (lexeme.end - lexeme.start) (drop lexeme.start text) (drop_bytes lexeme.start text are))
 
 -- ---- schemas
 
@@ -84,19 +84,19 @@ schema_bytes : (text : List ℕ) (tables : List TableNode) → AreBytes text →
 unfolding schema_of
 schema_bytes text tables are = tables_bytes text tables tables are
 
-passed : (found : Option ℕ) (cause : ℕ → SchemaError) (rest : Result Schema SchemaError) (schema : Schema) → unless_found found cause rest ≡ Ok schema → rest ≡ Ok schema
-passed None cause rest schema e = e
-passed (Some n) cause rest schema e = absurd (cc)
+rest_if_not_found : (found : Option ℕ) (cause : ℕ → SchemaError) (rest : Result Schema SchemaError) (schema : Schema) → unless_found found cause rest ≡ Ok schema → rest ≡ Ok schema
+rest_if_not_found None cause rest schema e = e
+rest_if_not_found (Some n) cause rest schema e = absurd (cc)
 
 same_schema : (a b : Schema) → ◌≡◌ {A = Result Schema SchemaError} (Ok a) (Ok b) → a ≡ b
 same_schema a b e = cc
 
 pub declared_bytes : (text : List ℕ) (schema : Schema) → Declares text (Ok schema) → HasByteColumns schema
-unfolding schema_or_refusal within_limits
+unfolding schema_or_refusal if_within_limits
 declared_bytes text schema d =
-    let named = passed (first (offences text d.tables)) _ _ schema d.answers in
-    let full = passed (first (nullable_offsets text d.tables)) _ _ schema named in
-    let few = passed (first (above 64 (length d.tables ∷ []))) _ _ schema full in
-    let counts = passed (first (above 64 (column_counts d.tables))) _ _ schema few in
-    let short = passed (first (above 1000000 (text_lengths text d.tables))) _ _ schema counts in
+    let named = rest_if_not_found (first (offences text d.tables)) _ _ schema d.answers in
+    let full = rest_if_not_found (first (nullable_offsets text d.tables)) _ _ schema named in
+    let few = rest_if_not_found (first (numbers_above 64 (length d.tables ∷ []))) _ _ schema full in
+    let counts = rest_if_not_found (first (numbers_above 64 (column_counts d.tables))) _ _ schema few in
+    let short = rest_if_not_found (first (numbers_above 1000000 (text_lengths text d.tables))) _ _ schema counts in
     subst HasByteColumns (same_schema (schema_of text d.tables) schema short) (schema_bytes text d.tables (utf8_bytes text d.spells.lexed.utf8))

@@ -7,7 +7,7 @@ use Rattle.schema_types.specs.Validity.{IsValid}
 use Rattle.stats_file.specs.declared.types.StatsError.{StatsError}
 use Rattle.stats_file.specs.declared.types.StatsError.TheVariants as error
 use Rattle.stats_file.specs.declared.types.StatsFile.{StatsFile}
-use Rattle.stats_file.specs.Answers.{IsAllowedResult, BeginsWithLine, EndsTooEarly, HasNoEnd, IsFrontOfFile, IsFrontOfText, IsReadUpTo, IsRuleLine, IsSyntaxLine, BreaksGrammar}
+use Rattle.stats_file.specs.Answers.{IsAllowedResult, BeginsWithLine, EndsTooEarly, HasNoLineEnd, IsFrontOfFile, IsFrontOfText, IsReadUpTo, IsRuleLine, IsSyntaxLine, BreaksGrammar}
 use Rattle.stats_file.specs.Grammar.{IsText}
 use Rattle.stats_file.proofs.GrammarFacts.{file_is_text}
 use Rattle.stats_words.proofs.SplitFacts.{not_without, split_same}
@@ -36,10 +36,10 @@ one_line left a b rest other x y =
     let same = split_same 10 x.text y.text rest other x.no_end y.no_end (sym (with_line left a rest x) ∙ with_line left b other y) in
     x.ended ∙ ap (λ (l : List ℕ). l ++ (10 ∷ [])) same.0 ∙ sym y.ended
 
-no_line : (left line rest : List ℕ) → HasNoEnd left → BeginsWithLine left line rest → ⊥
-no_line left line rest none next = not_without 10 next.text rest (subst HasNoEnd (with_line left line rest next) none)
+no_line : (left line rest : List ℕ) → HasNoLineEnd left → BeginsWithLine left line rest → ⊥
+no_line left line rest none next = not_without 10 next.text rest (subst HasNoLineEnd (with_line left line rest next) none)
 
--- the lines begin some statistics file. The lines with the next line begin no such file
+-- these lines begin some statistics file. Together with the next line, they begin no statistics file
 record Stops (schema : Schema) (bytes : List ℕ) (lines : Lines) (left : List ℕ) : Type 0 where
   read : IsReadUpTo schema bytes lines left
   halts : (line rest : List ℕ) → BeginsWithLine left line rest → IsFrontOfFile schema (lines ++ (line ∷ [])) → ⊥
@@ -57,27 +57,27 @@ record IsFrontOf (a b : Lines) (p q : List ℕ) : Type 0 where
   left : p ≡ concat more ++ q
   are : AllEnded more
 
-grown : (x : List ℕ) (a b : Lines) (p q : List ℕ) → IsFrontOf a b p q → IsFrontOf (x ∷ a) (x ∷ b) p q
-grown x a b p q h = record { more = h.more; whole = ap (λ (m : Lines). x ∷ m) h.whole; left = h.left; are = h.are }
+front_with_line : (x : List ℕ) (a b : Lines) (p q : List ℕ) → IsFrontOf a b p q → IsFrontOf (x ∷ a) (x ∷ b) p q
+front_with_line x a b p q h = record { more = h.more; whole = ap (λ (m : Lines). x ∷ m) h.whole; left = h.left; are = h.are }
 
 text_first : (x : List ℕ) (a : Lines) (p : List ℕ) (is : IsEnded x) → concat (x ∷ a) ++ p ≡ is.text ++ (10 ∷ (concat a ++ p))
 text_first x a p is =
     append_assoc x (concat a) p ∙ ap (λ (l : List ℕ). l ++ (concat a ++ p)) is.whole ∙ append_assoc is.text (codes "\n") (concat a ++ p)
 
-meet : (a b : Lines) (p q : List ℕ) → AllEnded a → AllEnded b → concat a ++ p ≡ concat b ++ q → IsFrontOf a b p q ⊎ IsFrontOf b a q p
-meet [] b p q are_a are_b e = inl (record { more = b; whole = refl; left = e; are = are_b })
-meet (x ∷ a) [] p q are_a are_b e = inr (record { more = x ∷ a; whole = refl; left = sym e; are = are_a })
-meet (x ∷ a) (y ∷ b) p q (is_x, are_a) (is_y, are_b) e = by (meet a b p q are_a are_b same.1)
+one_begins_the_other : (a b : Lines) (p q : List ℕ) → AllEnded a → AllEnded b → concat a ++ p ≡ concat b ++ q → IsFrontOf a b p q ⊎ IsFrontOf b a q p
+one_begins_the_other [] b p q are_a are_b e = inl (record { more = b; whole = refl; left = e; are = are_b })
+one_begins_the_other (x ∷ a) [] p q are_a are_b e = inr (record { more = x ∷ a; whole = refl; left = sym e; are = are_a })
+one_begins_the_other (x ∷ a) (y ∷ b) p q (is_x, are_a) (is_y, are_b) e = by (one_begins_the_other a b p q are_a are_b same.1)
   where
     same : (is_x.text ≡ is_y.text) × (concat a ++ p ≡ concat b ++ q)
-    same = split_same 10 is_x.text is_y.text (concat a ++ p) (concat b ++ q) is_x.free is_y.free (sym (text_first x a p is_x) ∙ e ∙ text_first y b q is_y)
+    same = split_same 10 is_x.text is_y.text (concat a ++ p) (concat b ++ q) is_x.no_line_end is_y.no_line_end (sym (text_first x a p is_x) ∙ e ∙ text_first y b q is_y)
 
     first : x ≡ y
     first = is_x.whole ∙ ap (λ (t : List ℕ). t ++ codes "\n") same.0 ∙ sym is_y.whole
 
     by : IsFrontOf a b p q ⊎ IsFrontOf b a q p → IsFrontOf (x ∷ a) (y ∷ b) p q ⊎ IsFrontOf (y ∷ b) (x ∷ a) q p
-    by (inl h) = inl (subst (λ (z : List ℕ). IsFrontOf (x ∷ a) (z ∷ b) p q) first (grown x a b p q h))
-    by (inr h) = inr (subst (λ (z : List ℕ). IsFrontOf (z ∷ b) (x ∷ a) q p) first (grown x b a q p h))
+    by (inl h) = inl (subst (λ (z : List ℕ). IsFrontOf (x ∷ a) (z ∷ b) p q) first (front_with_line x a b p q h))
+    by (inr h) = inr (subst (λ (z : List ℕ). IsFrontOf (z ∷ b) (x ∷ a) q p) first (front_with_line x b a q p h))
 
 same_stop : (schema : Schema) (bytes : List ℕ) (a b : Lines) (p q : List ℕ) → Stops schema bytes a p → Stops schema bytes b q → IsFrontOf a b p q → (b ≡ a) × (p ≡ q)
 same_stop schema bytes a b p q stop other h = by h.more h.whole h.left h.are
@@ -87,7 +87,7 @@ same_stop schema bytes a b p q stop other h = by h.more h.whole h.left h.are
     by (z ∷ more) whole left (is, are) =
         let begins = other.read.begins in
         absurd (stop.halts z (concat more ++ q)
-        (record { text = is.text; no_end = is.free; ended = is.whole; whole = left ∙ append_assoc z (concat more) q })
+        (record { text = is.text; no_end = is.no_line_end; ended = is.whole; whole = left ∙ append_assoc z (concat more) q })
         (record {
           file = begins.file;
           keeps = begins.keeps;
@@ -97,7 +97,7 @@ same_stop schema bytes a b p q stop other h = by h.more h.whole h.left h.are
 
 one_stop : (schema : Schema) (bytes : List ℕ) (a b : Lines) (p q : List ℕ) → Stops schema bytes a p → Stops schema bytes b q → (a ≡ b) × (p ≡ q)
 one_stop schema bytes a b p q stop other =
-    by (meet a b p q (read_ended schema bytes a p stop.read) (read_ended schema bytes b q other.read) (sym stop.read.whole ∙ other.read.whole))
+    by (one_begins_the_other a b p q (read_ended schema bytes a p stop.read) (read_ended schema bytes b q other.read) (sym stop.read.whole ∙ other.read.whole))
   where
     by : IsFrontOf a b p q ⊎ IsFrontOf b a q p → (a ≡ b) × (p ≡ q)
     by (inl h) = let same = same_stop schema bytes a b p q stop other h in (sym same.0, same.1)
@@ -169,12 +169,12 @@ module _ (schema : Schema) (bytes : List ℕ) (good : IsValid schema) (columns :
       by : (refused b ≡ Ok file) ⊎ (refused b ≡ Err error.NoMemory) → (Ok file ≡ refused error.NoMemory) ⊎ (Ok file ≡ refused b)
       by (inl e) = inr (sym e)
       by (inr e) = absurd (some e)
-  one_answer (Err a) (Err b) h k some = by (wants_memory a)
+  one_answer (Err a) (Err b) h k some = by (is_no_memory_or_not a)
     where
-      wants_memory : (e : StatsError) → (e ≡ error.NoMemory) ⊎ (e ≢ error.NoMemory)
-      wants_memory (error.Syntax n) = inr (λ f. cc)
-      wants_memory (error.Rule n) = inr (λ f. cc)
-      wants_memory error.NoMemory = inl refl
+      is_no_memory_or_not : (e : StatsError) → (e ≡ error.NoMemory) ⊎ (e ≢ error.NoMemory)
+      is_no_memory_or_not (error.Syntax n) = inr (λ f. cc)
+      is_no_memory_or_not (error.Rule n) = inr (λ f. cc)
+      is_no_memory_or_not error.NoMemory = inl refl
 
       by : (a ≡ error.NoMemory) ⊎ (a ≢ error.NoMemory) → (refused a ≡ refused error.NoMemory) ⊎ (refused a ≡ refused b)
       by (inl e) = inl (ap Err e)

@@ -17,19 +17,19 @@ pub allowed : (schema : Schema) (text : List ℕ) → IsValid schema → IsAllow
 unfolding stats_answer
 allowed schema text good = (decided_result schema text).answers good
 
-pub never_memory : (schema : Schema) (text : List ℕ) → stats_answer schema text ≢ Err error.NoMemory
+pub never_out_of_memory : (schema : Schema) (text : List ℕ) → stats_answer schema text ≢ Err error.NoMemory
 unfolding stats_answer
-never_memory schema text = (decided_result schema text).some
+never_out_of_memory schema text = (decided_result schema text).not_no_memory
 
-pub only : (schema : Schema) (text : List ℕ) (answer : Result StatsFile StatsError) → IsValid schema → HasByteColumns schema → IsAllowedResult schema text answer
+pub no_other_result : (schema : Schema) (text : List ℕ) (answer : Result StatsFile StatsError) → IsValid schema → HasByteColumns schema → IsAllowedResult schema text answer
     → (answer ≡ Err error.NoMemory) ⊎ (answer ≡ stats_answer schema text)
-only schema text answer good columns h = one_answer schema text good columns answer (stats_answer schema text) h (allowed schema text good) (never_memory schema text)
+no_other_result schema text answer good columns h = one_answer schema text good columns answer (stats_answer schema text) h (allowed schema text good) (never_out_of_memory schema text)
 
-pub keeps : (schema : Schema) (text : List ℕ) (file : StatsFile) → IsValid schema → stats_answer schema text ≡ Ok file → KeepsRules schema file × (text ≡ file_text schema file)
-keeps schema text file good e = subst (IsAllowedResult schema text) e (allowed schema text good)
+pub result_keeps_rules : (schema : Schema) (text : List ℕ) (file : StatsFile) → IsValid schema → stats_answer schema text ≡ Ok file → KeepsRules schema file × (text ≡ file_text schema file)
+result_keeps_rules schema text file good e = subst (IsAllowedResult schema text) e (allowed schema text good)
 
-pub written : (schema : Schema) (file : StatsFile) → IsValid schema → HasByteColumns schema → KeepsRules schema file → stats_answer schema (file_text schema file) ≡ Ok file
-written schema file good columns keeps = by (stats_answer schema (file_text schema file)) (only schema (file_text schema file) (Ok file) good columns (keeps, refl))
+pub written_file_is_read : (schema : Schema) (file : StatsFile) → IsValid schema → HasByteColumns schema → KeepsRules schema file → stats_answer schema (file_text schema file) ≡ Ok file
+written_file_is_read schema file good columns keeps = by (stats_answer schema (file_text schema file)) (no_other_result schema (file_text schema file) (Ok file) good columns (keeps, refl))
   where
     by : (answer : Result StatsFile StatsError) → (Ok file ≡ Err error.NoMemory) ⊎ (Ok file ≡ answer) → answer ≡ Ok file
     by answer (inl e) = absurd (cc)

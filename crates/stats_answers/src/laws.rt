@@ -1,4 +1,4 @@
-//! Laws of the results for texts. These functions do nothing.
+//! Laws about the results of reading texts. These functions do nothing.
 ghost use Rattle.std.specs.Prelude.{◌≡◌, ◌≢◌, ◌⊎◌, ℕ, List, Result, Ok, Err};
 ghost use Rattle.schema_types.specs.declared.types.Schema.{Schema};
 ghost use Rattle.schema_types.specs.Texts.{IsSchemaOf};
@@ -17,13 +17,13 @@ ghost use Rattle.stats_answers.specs.StatsTexts.{stats_answer};
 /// text is this file.
 pub fn stats_texts()
     ensures allowed { (schema : Schema) (text : List ℕ) → IsValid schema → IsAllowedResult schema text (stats_answer schema text) }
-    ensures only { (schema : Schema) (text : List ℕ) (answer : Result StatsFile StatsError)
+    ensures no_other_result { (schema : Schema) (text : List ℕ) (answer : Result StatsFile StatsError)
         → IsValid schema → HasByteColumns schema → IsAllowedResult schema text answer
         → (answer ≡ Err error.NoMemory) ⊎ (answer ≡ stats_answer schema text) }
-    ensures never_memory { (schema : Schema) (text : List ℕ) → stats_answer schema text ≢ Err error.NoMemory }
-    ensures keeps { (schema : Schema) (text : List ℕ) (file : StatsFile) → IsValid schema → stats_answer schema text ≡ Ok file
+    ensures never_out_of_memory { (schema : Schema) (text : List ℕ) → stats_answer schema text ≢ Err error.NoMemory }
+    ensures result_keeps_rules { (schema : Schema) (text : List ℕ) (file : StatsFile) → IsValid schema → stats_answer schema text ≡ Ok file
         → KeepsRules schema file × (text ≡ file_text schema file) }
-    ensures written { (schema : Schema) (file : StatsFile) → IsValid schema → HasByteColumns schema → KeepsRules schema file
+    ensures written_file_is_read { (schema : Schema) (file : StatsFile) → IsValid schema → HasByteColumns schema → KeepsRules schema file
         → stats_answer schema (file_text schema file) ≡ Ok file }
 {}
 

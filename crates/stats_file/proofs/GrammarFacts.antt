@@ -47,9 +47,9 @@ name_bytes : (table : Table) (i : ℕ) (d : Column) → i < length table.columns
 name_bytes table i d lt names =
     subst (λ o. AreBytes (column_name o)) (sym (slice_get-get_or table.columns i d lt)) (names.columns i d lt)
 
-pub pair_is : (table : Table) (rows : ℕ) (pair : PairStats) → rows ≤ 4000000 → HasByteNames table → IsPair table rows pair → HasByteValues pair → ArePairLines (pair_lines table pair)
+pub are_pair_lines : (table : Table) (rows : ℕ) (pair : PairStats) → rows ≤ 4000000 → HasByteNames table → IsPair table rows pair → HasByteValues pair → ArePairLines (pair_lines table pair)
 unfolding pair_lines
-pair_is table rows pair few names is bytes =
+are_pair_lines table rows pair within_limit names is bytes =
     let filter = name_bytes table pair.filter is.filter (slice_get_within table.columns pair.filter is.filter is.filter_is) names in
     let joined = name_bytes table pair.joined is.filter is.joined names in
     record {
@@ -66,15 +66,15 @@ pair_is table rows pair few names is bytes =
         second_is = hex_word _ joined;
         whole = refl;
       };
-      whole_is = record { word = runs_text (runs_of pair.whole); word_is = list_word rows pair.whole few is.whole; whole = refl };
+      whole_is = record { word = runs_text (runs_of pair.whole); word_is = list_word rows pair.whole within_limit is.whole; whole = refl };
       frequent_are = all_mapped value_line IsFrequentLine pair.frequent (λ k d lt. record {
         first = datum_text (get_or pair.frequent k d).0;
         second = runs_text (runs_of (get_or pair.frequent k d).1);
         first_is = value_word (get_or pair.frequent k d).0 is.filter.kind (is.frequent.values k d lt) (bytes.frequent k d lt);
-        second_is = list_word rows (get_or pair.frequent k d).1 few (is.frequent.lists k d lt);
+        second_is = list_word rows (get_or pair.frequent k d).1 within_limit (is.frequent.lists k d lt);
         whole = refl;
       });
-      rest_is = record { word = runs_text (runs_of pair.rest); word_is = list_word rows pair.rest few is.rest; whole = refl };
+      rest_is = record { word = runs_text (runs_of pair.rest); word_is = list_word rows pair.rest within_limit is.rest; whole = refl };
       cuts_are = all_mapped cut_line IsCutLine pair.cuts (λ k d lt. record {
         word = datum_text (get_or pair.cuts k d);
         word_is = value_word (get_or pair.cuts k d) is.filter.kind (cuts_are_of is.filter.kind rows pair.cuts pair.nodes is.tree k d lt) (bytes.cuts k d lt);
@@ -82,7 +82,7 @@ pair_is table rows pair few names is bytes =
       });
       nodes_are = all_mapped histogram_node_line IsNodeLine pair.nodes (λ k d lt. record {
         word = runs_text (runs_of (get_or pair.nodes k d));
-        word_is = list_word rows (get_or pair.nodes k d) few (nodes_are_lists is.filter.kind rows pair.cuts pair.nodes is.tree k d lt);
+        word_is = list_word rows (get_or pair.nodes k d) within_limit (nodes_are_lists is.filter.kind rows pair.cuts pair.nodes is.tree k d lt);
         whole = refl;
       });
       all = refl;
@@ -91,7 +91,7 @@ pair_is table rows pair few names is bytes =
 table_is : (table : Table) (section : TableStats) → section.rows ≤ 4000000 → HasByteNames table → All (IsPair table section.rows) section.pairs → All HasByteValues section.pairs
     → AreTableLines (table_lines (Some table) section)
 unfolding table_lines
-table_is table section few names pairs bytes = record {
+table_is table section within_limit names pairs bytes = record {
   head = table_line table.name section.rows;
   pairs = map (pair_lines table) section.pairs;
   head_is = record {
@@ -102,7 +102,7 @@ table_is table section few names pairs bytes = record {
     whole = refl;
   };
   pairs_are = all_mapped (pair_lines table) ArePairLines section.pairs (λ k d lt.
-      pair_is table section.rows (get_or section.pairs k d) few names (pairs k d lt) (bytes k d lt));
+      are_pair_lines table section.rows (get_or section.pairs k d) within_limit names (pairs k d lt) (bytes k d lt));
   all = ap (λ lines. table_line table.name section.rows ∷ lines) (joined_map (pair_lines table) section.pairs);
 }
 

@@ -15,10 +15,10 @@ use Rattle.piece_math.specs.declared.pieces.Piece.{Piece}
 use Rattle.stats_file.specs.Grammar.{are_hex_pairs, is_hex_digit, IsHexWord, IsListWord, IsNumeral, IsRunWord, IsSignedNumeral}
 use Rattle.stats_file.specs.Lines.{hex_byte, hex_digit, hex_text, run_text, runs_text}
 use Rattle.stats_file.specs.Rules.{IsList}
-use Rattle.stats_file.specs.Runs.{in_front, run_of, runs_of}
+use Rattle.stats_file.specs.Runs.{with_number_in_front, run_of, runs_of}
 
-pub own : IsNumeralModel (λ ds. list_all is_ascii_digit ds ≡ true) (digits_value 10)
-own = numerals_by_value _ (search rules)
+pub ascii_digits_are_numerals : IsNumeralModel (λ ds. list_all is_ascii_digit ds ≡ true) (digits_value 10)
+ascii_digits_are_numerals = numerals_by_value _ (search rules)
 
 digits_then : (ds : List ℕ) → list_all is_ascii_digit ds ≡ true → 48 < get_or ds 0 0 → IsNumeral ds
 digits_then [] are lt = absurd (omega arith)
@@ -29,7 +29,7 @@ digits_then (d ∷ ds) are lt =
 
 pub numeral : (n : ℕ) → n < 2 ^ 64 → IsNumeral (decimal n)
 numeral zero fits = subst (λ (ds : List ℕ). IsNumeral ds) (sym (decimal_digit 0 (omega arith))) refl
-numeral (suc n) fits = digits_then (decimal (suc n)) (digits_decimal own (suc n) fits) (first_decimal (suc n) (omega arith) fits)
+numeral (suc n) fits = digits_then (decimal (suc n)) (digits_decimal ascii_digits_are_numerals (suc n) fits) (first_decimal (suc n) (omega arith) fits)
 
 not_zero : (n : ℕ) → suc n < 2 ^ 64 → decimal (suc n) ≢ codes "0"
 not_zero n fits e =
@@ -59,32 +59,32 @@ hex_word bytes are = (flat_map hex_byte bytes, refl, pairs_are bytes are)
 abbrev Within : ℕ → Piece → Type 0
 Within n run = (run.value ≤ n) × (run.count ≤ n)
 
-grow : (m k : ℕ) (runs : List Piece) → m ≤ k → AllByRecursion (Within m) runs → AllByRecursion (Within k) runs
-grow m k [] le are = tt
-grow m k (run ∷ runs) le are =
+within_greater : (m k : ℕ) (runs : List Piece) → m ≤ k → AllByRecursion (Within m) runs → AllByRecursion (Within k) runs
+within_greater m k [] le are = tt
+within_greater m k (run ∷ runs) le are =
     let value : run.value ≤ m = are.0.0 in
     let count : run.count ≤ m = are.0.1 in
-    ((omega arith, omega arith), grow m k runs le are.1)
+    ((omega arith, omega arith), within_greater m k runs le are.1)
 
-step : (x m : ℕ) (runs : List Piece) → 0 < x → AllByRecursion (Within m) runs → AllByRecursion (Within (x + m)) (in_front x runs)
+step : (x m : ℕ) (runs : List Piece) → 0 < x → AllByRecursion (Within m) runs → AllByRecursion (Within (x + m)) (with_number_in_front x runs)
 step x m [] some are = ((omega arith, omega arith), tt)
 step x m (run ∷ runs) some are =
     let value : run.value ≤ m = are.0.0 in
     let count : run.count ≤ m = are.0.1 in
     elim (x == run.value) as (λ b. AllByRecursion (Within (x + m)) (if b then run_of x (run.count + 1) ∷ runs else run_of x 1 ∷ (run ∷ runs))) [
-      | true ↦ ((omega arith, omega arith), grow m (x + m) runs (omega arith) are.1)
-      | false ↦ ((omega arith, omega arith), ((omega arith, omega arith), grow m (x + m) runs (omega arith) are.1))
+      | true ↦ ((omega arith, omega arith), within_greater m (x + m) runs (omega arith) are.1)
+      | false ↦ ((omega arith, omega arith), ((omega arith, omega arith), within_greater m (x + m) runs (omega arith) are.1))
     ]
 
 abbrev total : List ℕ → ℕ
 total [] = 0
 total (x ∷ list) = x + total list
 
-bounded : (list : List ℕ) → All (λ x. 0 < x) list → AllByRecursion (Within (total list)) (runs_of list)
+runs_within_total : (list : List ℕ) → All (λ x. 0 < x) list → AllByRecursion (Within (total list)) (runs_of list)
 unfolding runs_of
-bounded [] are = tt
-bounded (x ∷ list) are =
-    step x (total list) (runs_of list) (are 0 0 (omega arith)) (bounded list (λ k d lt. are (suc k) d (omega arith)))
+runs_within_total [] are = tt
+runs_within_total (x ∷ list) are =
+    step x (total list) (runs_of list) (are 0 0 (omega arith)) (runs_within_total list (λ k d lt. are (suc k) d (omega arith)))
 
 run_words : (n : ℕ) (runs : List Piece) → n < 2 ^ 64 → AllByRecursion (Within n) runs → AllByRecursion IsRunWord (map run_text runs)
 run_words n [] small are = tt
@@ -110,7 +110,7 @@ total_is [] = refl
 total_is (x ∷ list) = ap (λ rest. x + rest) (total_is list) ∙ sym (sum_by-cons (λ y. y) x list)
 
 pub list_word : (rows : ℕ) (list : List ℕ) → rows ≤ 4000000 → IsList rows list → IsListWord (runs_text (runs_of list))
-list_word rows list few is =
+list_word rows list within_limit is =
     let same = total_is list in
     let within : sum list ≤ rows = is.within in
-    list_words (total list) (runs_of list) (omega arith) (bounded list is.positive)
+    list_words (total list) (runs_of list) (omega arith) (runs_within_total list is.positive)

@@ -1,4 +1,4 @@
--- The results that a reader may return for the bytes of a file, and the line that a refusal names.
+-- The results that a reader may return for the bytes of a file, and which line a refusal names.
 use Rattle.std.specs.Prelude.{ℕ, ◌≡◌, ◌≢◌, ◌+◌, ◌⊎◌, List, [], ◌∷◌, ◌++◌, length, All, Result, Ok, Err, ⊤}
 use Rattle.std.specs.List.{concat}
 use Rattle.schema_types.specs.declared.types.Schema.{Schema}
@@ -21,13 +21,13 @@ pub record IsFrontOfFile (schema : Schema) (lines : List (List ℕ)) : Type 0 wh
   pub more : List (List ℕ)
   pub whole : lines ++ more ≡ file_lines schema file
 
-abbrev pub HasNoEnd : List ℕ → Type 0
-HasNoEnd bytes = All (λ byte. byte ≢ 10) bytes
+abbrev pub HasNoLineEnd : List ℕ → Type 0
+HasNoLineEnd bytes = All (λ byte. byte ≢ 10) bytes
 
 -- the bytes `left` are this line, with its line end, followed by the bytes `rest`
 pub record BeginsWithLine (left line rest : List ℕ) : Type 0 where
   pub text : List ℕ
-  pub no_end : HasNoEnd text
+  pub no_end : HasNoLineEnd text
   pub ended : line ≡ text ++ (10 ∷ [])
   pub whole : left ≡ line ++ rest
 
@@ -45,7 +45,7 @@ pub record BreaksGrammar (lines : List (List ℕ)) (left : List ℕ) : Type 0 wh
 
 -- the bytes `left` have no line end, and the text isn't complete: some bytes are left, or the lines aren't all lines of a file
 pub record EndsTooEarly (schema : Schema) (lines : List (List ℕ)) (left : List ℕ) : Type 0 where
-  pub no_line : HasNoEnd left
+  pub no_line : HasNoLineEnd left
   pub fails : (file : StatsFile) → KeepsRules schema file → lines ≡ file_lines schema file → left ≡ [] → ⊥
 
 -- the number, counted from 1, of the first line that breaks the grammar. In a text that ends too early it is the line that is missing or has no line

@@ -1,4 +1,4 @@
--- Schemas and files whose names and texts are lists of bytes, numbers below 256. All schemas and files in a program's memory are like this.
+-- Schemas and files whose names and texts are lists of bytes (numbers below 256). All schemas and files in a program's memory are like this.
 use Rattle.std.specs.Prelude.{ℕ, ◌<◌, ⊤, List, All}
 use Rattle.std.specs.List.{AllByRecursion}
 use Rattle.schema_types.specs.declared.types.Column.{Column}

@@ -21,7 +21,7 @@ pair_without_rows = record { filter = 0; joined = 0; whole = []; frequent = []; 
 abbrev pub stats_without_rows : StatsFile
 stats_without_rows = record { accuracy = 1; tables = record { table = 0; rows = 0; pairs = pair_without_rows ∷ [] } ∷ [] }
 
--- the statistics of a column with the values 1, 1, 1, 2, 2, 3 by itself, without a histogram
+-- the statistics of a column with the values 1, 1, 1, 2, 2, 3 that is also the joined column, without a histogram
 abbrev pub six_rows : PairStats
 six_rows = record {
   filter = 0;

@@ -34,7 +34,7 @@ IsHexWord word = (pairs : List ℕ) × (word ≡ 120 ∷ pairs) × (are_hex_pair
 abbrev pub IsValueWord : List ℕ → Type 0
 IsValueWord word = IsSignedNumeral word ⊎ IsHexWord word
 
--- N*N: a value, a star, and how often the value comes in a row
+-- N*N, a run of equal numbers: the number, a star, and how many there are
 pub record IsRunWord (word : List ℕ) : Type 0 where
   pub value : List ℕ
   pub count : List ℕ
@@ -55,13 +55,13 @@ IsListWord word = (word ≡ codes "-") ⊎ AreRunWords word
 
 -- ---- lines, each with its end
 
--- a fixed beginning and then one word
+-- the line is a fixed beginning and then one word
 pub record IsLineOf (front : List ℕ) (IsWord : List ℕ → Type 0) (line : List ℕ) : Type 0 where
   pub word : List ℕ
   pub word_is : IsWord word
   pub whole : line ≡ front ++ (word ++ codes "\n")
 
--- a fixed beginning, and then two words with a blank between them
+-- the line is a fixed beginning, and then two words with a blank between them
 pub record IsLineOfTwo (front : List ℕ) (IsFirst IsSecond : List ℕ → Type 0) (line : List ℕ) : Type 0 where
   pub first : List ℕ
   pub second : List ℕ
@@ -95,7 +95,7 @@ IsNodeLine = IsLineOf (codes "node ") IsListWord
 
 -- ---- texts, as lists of lines
 
--- a pair: its columns, `whole`, any number of `frequent`, `rest`, any number of `cut`, any number of `node`
+-- the lines of a pair: its columns, `whole`, any number of `frequent` lines, `rest`, any number of `cut` lines, and any number of `node` lines
 pub record ArePairLines (lines : List (List ℕ)) : Type 0 where
   pub head : List ℕ
   pub whole : List ℕ
@@ -111,7 +111,7 @@ pub record ArePairLines (lines : List (List ℕ)) : Type 0 where
   pub nodes_are : AllByRecursion IsNodeLine nodes
   pub all : lines ≡ head ∷ (whole ∷ (frequent ++ (rest ∷ (cuts ++ nodes))))
 
--- a table: its name and rows, and any number of pairs
+-- the lines of a table: its name and number of rows, and any number of pairs
 pub record AreTableLines (lines : List (List ℕ)) : Type 0 where
   pub head : List ℕ
   pub pairs : List (List (List ℕ))
@@ -119,7 +119,7 @@ pub record AreTableLines (lines : List (List ℕ)) : Type 0 where
   pub pairs_are : AllByRecursion ArePairLines pairs
   pub all : lines ≡ head ∷ flat_map (λ pair. pair) pairs
 
--- a text: its first line, any number of tables, and `end`
+-- the lines of a text: its first line, any number of tables, and `end`
 pub record IsText (lines : List (List ℕ)) : Type 0 where
   pub head : List ℕ
   pub tables : List (List (List ℕ))

@@ -23,7 +23,7 @@ abbrev pub datum_text : Datum → List ℕ
 datum_text (datum.Int number) = signed_decimal number
 datum_text (datum.Text bytes) = hex_text bytes
 
--- a run: its value, a star, and how often this value comes in a row
+-- a run of equal numbers: the number, a star, and how many there are
 abbrev pub run_text : Piece → List ℕ
 run_text run = decimal run.value ++ (codes "*" ++ decimal run.count)
 

@@ -41,7 +41,7 @@ pub record IsList (rows : ℕ) (list : List ℕ) : Type 0 where
 
 -- the frequent values of a column of this kind: at most 32 different values, each with its list
 pub record AreFrequent (kind : Kind) (rows : ℕ) (frequent : List (Datum × List ℕ)) : Type 0 where
-  pub few : length frequent ≤ 32
+  pub within_limit : length frequent ≤ 32
   pub differ : AllPairs (λ (a b : Datum × List ℕ). a.0 ≢ b.0) frequent
   pub values : All (λ (f : Datum × List ℕ). IsOfKind kind f.0) frequent
   pub lists : All (λ (f : Datum × List ℕ). IsList rows f.1) frequent
@@ -85,7 +85,7 @@ pub record HaveSameFilterCounts (a b : PairStats) : Type 0 where
 
 -- two pairs agree. If they have the same joined column, they have the same list of all rows. If they have the same filter column, they count the same
 -- rows
-pub record Agree (a b : PairStats) : Type 0 where
+pub record PairsAgree (a b : PairStats) : Type 0 where
   pub joined : a.joined ≡ b.joined → a.whole ≡ b.whole
   pub filter : a.filter ≡ b.filter → HaveSameFilterCounts a b
 
@@ -96,7 +96,7 @@ pub record IsSection (schema : Schema) (section : TableStats) : Type 0 where
   pub rows : section.rows ≤ most_rows
   pub pairs : All (IsPair table section.rows) section.pairs
   pub order : AllPairs ComesBefore section.pairs
-  pub agree : AllPairs Agree section.pairs
+  pub agree : AllPairs PairsAgree section.pairs
 
 -- all rules: the accuracy is 1 to 64, and tables are in the schema's order, each at most once
 pub record KeepsRules (schema : Schema) (file : StatsFile) : Type 0 where

@@ -25,72 +25,72 @@ use Rattle.stats_file.specs.declared.types.PairStats.{PairStats}
 use Rattle.stats_file.specs.declared.types.TableStats.{TableStats}
 use Rattle.stats_file.specs.Rules.{IsList, IsPair, IsHistogramOf}
 
-pub record PairFalls (pair : PairStats) : Type 0 where
+pub record PairListsDescend (pair : PairStats) : Type 0 where
   pub whole : IsDescending pair.whole
   pub value : (value : Value) → IsDescending (list_of_value pair value)
   pub node : (size leaf : ℕ) → IsDescending (list_of_node pair size leaf)
 
 -- ---- the lists of a pair that keeps the rules
 
-none_falls : IsDescending []
-none_falls r = omega arith
+empty_descends : IsDescending []
+empty_descends r = omega arith
 
-one_falls : (x : ℕ) → IsDescending (x ∷ [])
-one_falls x zero = omega arith
-one_falls x (suc r) = omega arith
+single_descends : (x : ℕ) → IsDescending (x ∷ [])
+single_descends x zero = omega arith
+single_descends x (suc r) = omega arith
 
-value_falls : (rows : ℕ) (value : Value) (frequent : List (Datum × List ℕ)) (rest : List ℕ) → AllByRecursion (λ (f : Datum × List ℕ). IsList rows f.1) frequent → IsDescending rest
+value_list_descends : (rows : ℕ) (value : Value) (frequent : List (Datum × List ℕ)) (rest : List ℕ) → AllByRecursion (λ (f : Datum × List ℕ). IsList rows f.1) frequent → IsDescending rest
     → IsDescending (option_map_or (λ (found : Datum × List ℕ). found.1) (find (λ (found : Datum × List ℕ). is_value value found.0) frequent) rest)
-value_falls rows value [] rest all last = last
-value_falls rows value (f ∷ frequent) rest all last = elim (cases_Bool (is_value value f.0)) [
+value_list_descends rows value [] rest all last = last
+value_list_descends rows value (f ∷ frequent) rest all last = elim (cases_Bool (is_value value f.0)) [
   | inl e ↦ rw e all.0.falls
-  | inr e ↦ rw e (value_falls rows value frequent rest all.1 last)
+  | inr e ↦ rw e (value_list_descends rows value frequent rest all.1 last)
 ]
 
-lists_fall : (rows : ℕ) (lists : List (List ℕ)) → All (IsList rows) lists → (i : ℕ) → IsDescending (get_or lists i [])
-lists_fall rows lists all i = elim (cases_lt i (length lists)) [
+lists_descend : (rows : ℕ) (lists : List (List ℕ)) → All (IsList rows) lists → (i : ℕ) → IsDescending (get_or lists i [])
+lists_descend rows lists all i = elim (cases_lt i (length lists)) [
   | inl there ↦ (all i [] there).falls
-  | inr past ↦ rw (get_or_past lists i [] past) none_falls
+  | inr past ↦ rw (get_or_past lists i [] past) empty_descends
 ]
 
-nodes_fall : (kind : Kind) (rows : ℕ) (cuts : List Datum) (nodes : List (List ℕ)) → IsHistogramOf kind rows cuts nodes → (i : ℕ) → IsDescending (get_or nodes i [])
-nodes_fall kind zero cuts nodes is i = rw is.1 none_falls
-nodes_fall kind (suc n) cuts nodes is i = lists_fall (suc n) nodes is.lists i
+node_lists_descend : (kind : Kind) (rows : ℕ) (cuts : List Datum) (nodes : List (List ℕ)) → IsHistogramOf kind rows cuts nodes → (i : ℕ) → IsDescending (get_or nodes i [])
+node_lists_descend kind zero cuts nodes is i = rw is.1 empty_descends
+node_lists_descend kind (suc n) cuts nodes is i = lists_descend (suc n) nodes is.lists i
 
 module _ (section : TableStats) (from_stats_file : IsSectionOfSome section) where
-  pair_falls : All PairFalls section.pairs
-  pair_falls i d low =
-      let p : IsPair from_stats_file.is.table section.rows (get_or section.pairs i d) = from_stats_file.is.pairs i d low in
+  pair_lists_descend : All PairListsDescend section.pairs
+  pair_lists_descend i d i_in_range =
+      let p : IsPair from_stats_file.is.table section.rows (get_or section.pairs i d) = from_stats_file.is.pairs i d i_in_range in
       let pair : PairStats = get_or section.pairs i d in
       record {
         whole = p.whole.falls;
-        value = λ value. value_falls section.rows value pair.frequent pair.rest (recursion_from_All (λ (f : Datum × List ℕ). IsList section.rows f.1) pair.frequent p.frequent.lists) p.rest.falls;
-        node = λ size leaf. nodes_fall p.filter.kind section.rows pair.cuts pair.nodes p.tree (node_place size leaf);
+        value = λ value. value_list_descends section.rows value pair.frequent pair.rest (recursion_from_All (λ (f : Datum × List ℕ). IsList section.rows f.1) pair.frequent p.frequent.lists) p.rest.falls;
+        node = λ size leaf. node_lists_descend p.filter.kind section.rows pair.cuts pair.nodes p.tree (node_place size leaf);
       }
 
-  its_falls : (filter joined : ℕ) → PairFalls (pair_for section filter joined)
-  its_falls filter joined =
-      each_pair PairFalls section pair_falls (record { whole = none_falls; value = λ value. none_falls; node = λ size leaf. none_falls }) filter joined
+  pair_for_descends : (filter joined : ℕ) → PairListsDescend (pair_for section filter joined)
+  pair_for_descends filter joined =
+      each_pair PairListsDescend section pair_lists_descend (record { whole = empty_descends; value = λ value. empty_descends; node = λ size leaf. empty_descends }) filter joined
 
   -- ---- the lists of an entry
 
-  one_key_falls : (rows : ℕ) → IsDescending (list_of_one_key rows)
-  one_key_falls rows = cond_both (eqb rows 0) [] (rows ∷ []) IsDescending (λ e. none_falls) (λ e. one_falls rows)
+  one_key_list_descends : (rows : ℕ) → IsDescending (list_of_one_key rows)
+  one_key_list_descends rows = cond_both (eqb rows 0) [] (rows ∷ []) IsDescending (λ e. empty_descends) (λ e. single_descends rows)
 
-  whole_falls : (needs : Needs) (joined : ℕ) → IsDescending (whole_list section needs joined)
-  whole_falls needs joined = by needs.filters
+  whole_list_descends : (needs : Needs) (joined : ℕ) → IsDescending (whole_list section needs joined)
+  whole_list_descends needs joined = by needs.filters
     where
       by : (filters : List ℕ) → IsDescending (whole_by section needs filters joined)
       by [] = cond_both (eqb (length needs.joined) 0) (list_of_one_key section.rows) (pair_for section joined joined).whole IsDescending
-          (λ e. one_key_falls section.rows) (λ e. (its_falls joined joined).whole)
-      by (column ∷ columns) = (its_falls column (paired_with needs joined column)).whole
+          (λ e. one_key_list_descends section.rows) (λ e. (pair_for_descends joined joined).whole)
+      by (column ∷ columns) = (pair_for_descends column (paired_with needs joined column)).whole
 
-  pub file_lists_fall : (needs : Needs) (joined : ℕ) → ListsDescend (stats_file_lists section needs joined)
-  file_lists_fall needs joined = record {
-    whole = whole_falls needs joined;
+  pub file_lists_descend : (needs : Needs) (joined : ℕ) → ListsDescend (stats_file_lists section needs joined)
+  file_lists_descend needs joined = record {
+    whole = whole_list_descends needs joined;
     equal = λ column value.
         cond_both (list_any (λ other. eqb column other) needs.filters) (list_of_value (pair_for section column (paired_with needs joined column)) value) (whole_list section needs joined) IsDescending
-        (λ e. (its_falls column (paired_with needs joined column)).value value) (λ e. whole_falls needs joined);
+        (λ e. (pair_for_descends column (paired_with needs joined column)).value value) (λ e. whole_list_descends needs joined);
     range = λ range. range_falls range;
   }
     where
@@ -100,4 +100,4 @@ module _ (section : TableStats) (from_stats_file : IsSectionOfSome section) wher
           let first : ℕ = unwrap_or (option_map (leaf_of_value pair) range.low) 0 in
           let last : ℕ = unwrap_or (option_map (leaf_of_value pair) range.high) 31 in
           cond_both (list_any (λ other. eqb range.column other) needs.filters) (list_between pair range.low range.high) (whole_list section needs joined) IsDescending
-          (λ e. (its_falls range.column (paired_with needs joined range.column)).node (node_size first last) first) (λ e. whole_falls needs joined)
+          (λ e. (pair_for_descends range.column (paired_with needs joined range.column)).node (node_size first last) first) (λ e. whole_list_descends needs joined)

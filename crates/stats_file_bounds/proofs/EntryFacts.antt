@@ -8,9 +8,9 @@ use Rattle.std.proofs.lemmas.List.{get_or_default}
 use Rattle.berge_tree.specs.declared.edges.Edge.{Edge}
 use Rattle.degree_sequences.specs.Degrees.{different}
 use Rattle.degree_sequences.proofs.Counting.{is_in, is_in-different}
-use Rattle.gathered_stats.specs.Asked.{asked_columns, column_asked, joined_columns}
+use Rattle.gathered_stats.specs.Asked.{asked_columns, compared_column, joined_columns}
 use Rattle.join_graph.specs.Conjuncts.{equalities_of}
-use Rattle.level_bounds.proofs.Lists.{each_of, in_filter_map}
+use Rattle.level_bounds.proofs.Lists.{at_member, in_filter_map}
 use Rattle.predicate_bounds.specs.declared.columns.EntryStats.{EntryStats}
 use Rattle.predicate_bounds.specs.declared.columns.ColumnSteps.{ColumnSteps}
 use Rattle.predicate_bounds.specs.declared.steps.Step.{Step}
@@ -30,16 +30,16 @@ use Rattle.stats_file_bounds.specs.Found.{is_missing, no_section, section_for}
 
 -- ---- columns that steps compare with literals are filter columns
 
-pub asks_among : (needs : Needs) (steps : List Step) → needs.filters ≡ different (filter_map column_asked steps) → All (AsksForFilterColumn needs) steps
-asks_among needs steps is k d low = by (column_asked (get_or steps k d)) refl
+pub asks_among : (needs : Needs) (steps : List Step) → needs.filters ≡ different (filter_map compared_column steps) → All (AsksForFilterColumn needs) steps
+asks_among needs steps is k d k_in_range = by (compared_column (get_or steps k d)) refl
   where
-    by : (o : Option ℕ) → column_asked (get_or steps k d) ≡ o → IfSome o (λ column. IsTrue (is_filter needs column))
+    by : (o : Option ℕ) → compared_column (get_or steps k d) ≡ o → IfSome o (λ column. IsTrue (is_filter needs column))
     by None e = tt
     by (Some column) e =
-        let asked : List ℕ = filter_map column_asked steps in
+        let asked : List ℕ = filter_map compared_column steps in
         subst (λ (s : List ℕ). is_in s column ≡ true) (sym is)
-        (each_of (λ x. is_in (different asked) x ≡ true) asked (is_in-different asked) column
-        (in_filter_map column_asked steps (get_or steps k d) column (k, low, get_or_default steps k (get_or steps k d) d low) e))
+        (at_member (λ x. is_in (different asked) x ≡ true) asked (is_in-different asked) column
+        (in_filter_map compared_column steps (get_or steps k d) column (k, k_in_range, get_or_default steps k (get_or steps k d) d k_in_range) e))
 
 -- ---- the statistics of an entry
 
@@ -47,18 +47,18 @@ same_needs : (a b : Needs) → a.filters ≡ b.filters → a.joined ≡ b.joined
 same_needs a b e f = ap (λ (x : List ℕ). record a { filters = x }) e ∙ ap (λ (x : List ℕ). record b { joined = x }) f
 
 module _ (query : Query) (file : StatsFile) (entry : ℕ) where
-  pub its_needs : (needs : Needs) (steps : List Step) (equalities : List Edge) → needs.filters ≡ different (filter_map column_asked steps) → needs.joined ≡ joined_columns entry equalities
+  pub its_needs : (needs : Needs) (steps : List Step) (equalities : List Edge) → needs.filters ≡ different (filter_map compared_column steps) → needs.joined ≡ joined_columns entry equalities
       → steps ≡ steps_of entry query.conjuncts → equalities ≡ equalities_of query → needs ≡ needs_of query entry
   its_needs needs steps equalities filters joined its_steps own =
-      same_needs needs (needs_of query entry) (filters ∙ ap (λ (s : List Step). different (filter_map column_asked s)) its_steps) (joined ∙ ap (joined_columns entry) own)
+      same_needs needs (needs_of query entry) (filters ∙ ap (λ (s : List Step). different (filter_map compared_column s)) its_steps) (joined ∙ ap (joined_columns entry) own)
 
   pub its_section : (section : TableStats) → Some section ≡ section_of file (table_of query entry) → section ≡ section_for query file entry
   its_section section is = ap (λ (o : Option TableStats). unwrap_or o no_section) is
 
-  pub entry_told : (section : TableStats) (needs : Needs) (steps : List Step) (stats : EntryStats) → section ≡ section_for query file entry → needs ≡ needs_of query entry
+  pub entry_has_stats : (section : TableStats) (needs : Needs) (steps : List Step) (stats : EntryStats) → section ≡ section_for query file entry → needs ≡ needs_of query entry
       → steps ≡ steps_of entry query.conjuncts → map (λ (g : ColumnSteps). g.column) stats.columns ≡ asked_columns entry (equalities_of query)
       → All (AreStepsFromStatsFile section needs steps) stats.columns → HasStatsFromFile query file entry stats
-  entry_told section needs steps stats of_section of_needs of_steps columns are = record {
+  entry_has_stats section needs steps stats of_section of_needs of_steps columns are = record {
     columns = columns;
     steps = subst (λ (s : TableStats). All (AreStepsFromStatsFile s (needs_of query entry) (steps_of entry query.conjuncts)) stats.columns) of_section
         (subst (λ (n : Needs). All (AreStepsFromStatsFile section n (steps_of entry query.conjuncts)) stats.columns) of_needs
@@ -68,6 +68,6 @@ module _ (query : Query) (file : StatsFile) (entry : ℕ) where
   -- ---- the first entry for which the file lacks something
 
   pub need_cause : (e : NeedError) → entry < length query.from → ((k : ℕ) → k < entry → is_missing query file k ≡ false) → IsEntryCause query file entry e → IsNeedCause query file e
-  need_cause (error.Missing from) low before cause =
-      first_found (is_missing query file) 0 (length query.from) entry (omega arith) (omega (arith, low)) (λ k from below. before k below) cause.1 ∙ ap Some (sym cause.0)
-  need_cause error.NoMemory low before cause = tt
+  need_cause (error.Missing from) entry_in_range before cause =
+      first_found (is_missing query file) 0 (length query.from) entry (omega arith) (omega (arith, entry_in_range)) (λ k from below. before k below) cause.1 ∙ ap Some (sym cause.0)
+  need_cause error.NoMemory entry_in_range before cause = tt

@@ -1,4 +1,4 @@
--- If `find` finds an element in a list, the element has each property that all elements have.
+-- If `find` finds an element in a list, this element has each property that all elements of the list have.
 use Rattle.std.proofs.Common.{◌≡◌, ℕ, zero, suc, ◌+◌, ◌<◌, ◌≤◌, Bool, false, List, [], ◌∷◌, None, Some, ap, sym, ◌∙◌, subst, inl, inr, arith}
 use Rattle.std.specs.Prelude.{find, unwrap_or}
 use Rattle.std.specs.List.{All, AllByRecursion, range_with_len}

@@ -17,14 +17,14 @@ use Rattle.column_stats.proofs.NodeLists.{node_size-is}
 use Rattle.degree_sequences.specs.Degrees.{different}
 use Rattle.degree_sequences.specs.Domination.{DominatesKeys}
 use Rattle.degree_sequences.proofs.Counting.{is_in, is_in-different}
-use Rattle.degree_sequences.proofs.DegreeLists.{places_fit}
+use Rattle.degree_sequences.proofs.DegreeLists.{length_at_most_sum}
 use Rattle.filtered_lists.specs.Ranges.{Range}
 use Rattle.filtered_lists.specs.Standing.{CountsStandFor, ListsStandFor, has_value, is_from, is_in_range, is_up_to, rows_where, value_in_row}
 use Rattle.filtered_lists.proofs.Counting.{all_pass}
 use Rattle.gathered_stats.specs.Asked.{joined_columns}
 use Rattle.join_graph.specs.Conjuncts.{equalities_of}
 use Rattle.level_bounds.specs.Keys.{Keys}
-use Rattle.level_bounds.proofs.Lists.{all_from, each_of, in_filter, in_map, true_in}
+use Rattle.level_bounds.proofs.Lists.{from_members, at_member, in_filter, in_map, in_from_test}
 use Rattle.query_bounds.specs.Statistics.{StandFor}
 use Rattle.query_types.specs.declared.types.Query.{Query}
 use Rattle.query_types.specs.Named.{NamesItsEntries}
@@ -45,71 +45,71 @@ use Rattle.stats_file_bounds.specs.FileStatistics.{stats_file_counts, stats_file
 use Rattle.stats_file_bounds.specs.Found.{are_columns, first_missing, has_pair, is_missing, no_pair, pair_for, pair_in, section_for}
 use Rattle.stats_file_bounds.proofs.Finding.{none_passes}
 use Rattle.stats_file_of_query.proofs.Leaves.{range_length}
-use Rattle.stats_file_bounds.proofs.Small.{its_within}
-use Rattle.stats_file_bounds.proofs.Sums.{IsJoined, contained, found_at, its, joined_needed, lead_joined, pair_found, partner_found, whole_sum}
-use Rattle.stats_file_bounds.proofs.Telling.{IsThere, is_there, section_from_file, its_pairs, place_low, section_is}
+use Rattle.stats_file_bounds.proofs.Small.{pair_for_within}
+use Rattle.stats_file_bounds.proofs.Sums.{IsJoined, contained, found_at, pair_for_found, joined_needed, lead_joined, pair_found, partner_found, whole_sum}
+use Rattle.stats_file_bounds.proofs.Telling.{IsThere, is_there, section_from_file, its_pairs, place_entry_in_range, section_is}
 
 -- ---- the lists of a pair dominate keys of their rows
 
-module _ (pair : PairStats) (tables : Tables) (entry : ℕ) (key : ℕ → ℕ) (stands : PairStandsFor pair tables entry key) (few : length pair.cuts ≤ 32) where
+module _ (pair : PairStats) (tables : Tables) (entry : ℕ) (key : ℕ → ℕ) (stands : PairStandsFor pair tables entry key) (cuts_within_limit : length pair.cuts ≤ 32) where
   abbrev rows : List ℕ
   rows = range_with_len 0 (row_counts tables entry)
 
   abbrev value_at : ℕ → Value
   value_at row = value_in_row tables entry pair.filter row
 
-  leaf_small : (value : Value) → leaf_of_value pair value ≤ 31
-  leaf_small value =
-      last_place-within (λ leaf. value_le (leaf_cut pair leaf) value) (range_with_len 0 (length pair.cuts)) 31 (omega (arith, few, range_length (length pair.cuts) 0))
+  leaf_in_range : (value : Value) → leaf_of_value pair value ≤ 31
+  leaf_in_range value =
+      last_place-within (λ leaf. value_le (leaf_cut pair leaf) value) (range_with_len 0 (length pair.cuts)) 31 (omega (arith, cuts_within_limit, range_length (length pair.cuts) 0))
 
   abbrev first_leaf : Option Value → ℕ
-  first_leaf low = unwrap_or (option_map (leaf_of_value pair) low) 0
+  first_leaf lower = unwrap_or (option_map (leaf_of_value pair) lower) 0
 
   abbrev last_leaf : Option Value → ℕ
-  last_leaf high = unwrap_or (option_map (leaf_of_value pair) high) 31
+  last_leaf upper = unwrap_or (option_map (leaf_of_value pair) upper) 31
 
-  first_small : (low : Option Value) → first_leaf low ≤ 31
-  first_small None = omega arith
-  first_small (Some low) = leaf_small low
+  first_leaf_in_range : (lower : Option Value) → first_leaf lower ≤ 31
+  first_leaf_in_range None = omega arith
+  first_leaf_in_range (Some lower) = leaf_in_range lower
 
-  last_small : (high : Option Value) → last_leaf high ≤ 31
-  last_small None = omega arith
-  last_small (Some high) = leaf_small high
+  last_leaf_in_range : (upper : Option Value) → last_leaf upper ≤ 31
+  last_leaf_in_range None = omega arith
+  last_leaf_in_range (Some upper) = leaf_in_range upper
 
-  from_first : (low : Option Value) (value : Value) → is_from low value ≡ true → first_leaf low ≤ leaf_of_value pair value
+  from_first : (lower : Option Value) (value : Value) → is_from lower value ≡ true → first_leaf lower ≤ leaf_of_value pair value
   from_first None value h = omega arith
-  from_first (Some low) value h =
-      last_place-mono (λ leaf. value_le (leaf_cut pair leaf) low) (λ leaf. value_le (leaf_cut pair leaf) value)
-      (λ leaf under. value_le-trans (leaf_cut pair leaf) low value under (le_from_ge value low h)) (range_with_len 0 (length pair.cuts))
+  from_first (Some lower) value h =
+      last_place-mono (λ leaf. value_le (leaf_cut pair leaf) lower) (λ leaf. value_le (leaf_cut pair leaf) value)
+      (λ leaf under. value_le-trans (leaf_cut pair leaf) lower value under (le_from_ge value lower h)) (range_with_len 0 (length pair.cuts))
 
-  up_to_last : (high : Option Value) (value : Value) → is_up_to high value ≡ true → leaf_of_value pair value ≤ last_leaf high
-  up_to_last None value h = leaf_small value
-  up_to_last (Some high) value h =
-      last_place-mono (λ leaf. value_le (leaf_cut pair leaf) value) (λ leaf. value_le (leaf_cut pair leaf) high)
-      (λ leaf under. value_le-trans (leaf_cut pair leaf) value high under h) (range_with_len 0 (length pair.cuts))
+  up_to_last : (upper : Option Value) (value : Value) → is_up_to upper value ≡ true → leaf_of_value pair value ≤ last_leaf upper
+  up_to_last None value h = leaf_in_range value
+  up_to_last (Some upper) value h =
+      last_place-mono (λ leaf. value_le (leaf_cut pair leaf) value) (λ leaf. value_le (leaf_cut pair leaf) upper)
+      (λ leaf under. value_le-trans (leaf_cut pair leaf) value upper under h) (range_with_len 0 (length pair.cuts))
 
-  pub between_dominates : (low high : Option Value)
-      → DominatesKeys (list_between pair low high) (map key (rows_where tables entry (λ row. is_from low (value_at row) && is_up_to high (value_at row))))
-  between_dominates low high =
-      let first : ℕ = first_leaf low in
-      let last : ℕ = last_leaf high in
+  pub between_dominates : (lower upper : Option Value)
+      → DominatesKeys (list_between pair lower upper) (map key (rows_where tables entry (λ row. is_from lower (value_at row) && is_up_to upper (value_at row))))
+  between_dominates lower upper =
+      let first : ℕ = first_leaf lower in
+      let last : ℕ = last_leaf upper in
       let size : ℕ = node_size first last in
-      let test : ℕ → Bool = λ row. is_from low (value_at row) && is_up_to high (value_at row) in
+      let test : ℕ → Bool = λ row. is_from lower (value_at row) && is_up_to upper (value_at row) in
       let holds : ℕ → Bool = λ row. in_node size first (leaf_of_value pair (value_at row)) in
-      fewer_dominated key test holds (list_between pair low high) rows
+      fewer_dominated key test holds (list_between pair lower upper) rows
       (all_in_range (PassesBoth key test holds) 0 (row_counts tables entry)
       (λ row low_row h.
-      let parts = and_parts (is_from low (value_at row)) (is_up_to high (value_at row)) h in
-      node_between first last (leaf_of_value pair (value_at row)) (first_small low) (last_small high) (from_first low (value_at row) parts.0) (up_to_last high (value_at row) parts.1)))
-      (stands.node size first (node_size-is first last) (omega (arith, first_small low)))
+      let parts = and_parts (is_from lower (value_at row)) (is_up_to upper (value_at row)) h in
+      node_between first last (leaf_of_value pair (value_at row)) (first_leaf_in_range lower) (last_leaf_in_range upper) (from_first lower (value_at row) parts.0) (up_to_last upper (value_at row) parts.1)))
+      (stands.node size first (node_size-is first last) (omega (arith, first_leaf_in_range lower)))
 
 -- ---- the list of all rows dominates the keys of fewer rows
 
-fewer_rows : (tables : Tables) (entry : ℕ) (key : ℕ → ℕ) (s : List ℕ) (test : ℕ → Bool) → DominatesKeys s (map key (range_with_len 0 (row_counts tables entry)))
+filtered_rows_dominated : (tables : Tables) (entry : ℕ) (key : ℕ → ℕ) (s : List ℕ) (test : ℕ → Bool) → DominatesKeys s (map key (range_with_len 0 (row_counts tables entry)))
     → DominatesKeys s (map key (rows_where tables entry test))
-fewer_rows tables entry key s test dominates =
+filtered_rows_dominated tables entry key s test dominates =
     let rows : List ℕ = range_with_len 0 (row_counts tables entry) in
-    fewer_dominated key test (λ row. true) s rows (all_in_range (PassesBoth key test (λ row. true)) 0 (row_counts tables entry) (λ row low h. refl))
+    fewer_dominated key test (λ row. true) s rows (all_in_range (PassesBoth key test (λ row. true)) 0 (row_counts tables entry) (λ row row_in_range h. refl))
     (subst (λ (those : List ℕ). DominatesKeys s (map key those)) (sym (all_pass (λ row. true) rows)) dominates)
 
 -- ---- each filter column is paired with a joined column
@@ -123,7 +123,7 @@ partner_joined needs joined filter_column has = some needs.joined has
 
 -- ---- the statistics of an entry stand for its table
 
-module _ (section : TableStats) (from_stats_file : IsSectionOfSome section) (needs : Needs) (all : list_all (has_pair section) (pairs_of needs) ≡ true)
+module _ (section : TableStats) (from_stats_file : IsSectionOfSome section) (needs : Needs) (has_all_pairs : list_all (has_pair section) (pairs_of needs) ≡ true)
     (tables : Tables) (entry : ℕ) (key : ℕ → ℕ → ℕ) (tells : (column : ℕ) → SeparatesValues tables entry column (key column)) (stands : SectionStandsFor section tables entry) where
   found_stands : (filter_column joined : ℕ) (p : PairStats) → pair_in section filter_column joined ≡ Some p
       → (p.filter ≡ filter_column) × (p.joined ≡ joined) × PairStandsFor p tables entry (key joined)
@@ -143,13 +143,13 @@ module _ (section : TableStats) (from_stats_file : IsSectionOfSome section) (nee
   pair_stands : (filter_column joined : ℕ) → Contains needs.filters filter_column → IsJoined needs joined
       → ((its_pair filter_column joined).filter ≡ filter_column) × PairStandsFor (its_pair filter_column joined) tables entry (key (paired_with needs joined filter_column))
   pair_stands filter_column joined has joins =
-      let found = partner_found section from_stats_file needs all filter_column joined has joins in
+      let found = partner_found section from_stats_file needs has_all_pairs filter_column joined has joins in
       let holds = found_stands filter_column (paired_with needs joined filter_column) found.0 found.1 in
-      let same : its_pair filter_column joined ≡ found.0 = its section from_stats_file needs all filter_column (paired_with needs joined filter_column) found.0 found.1 in
+      let same : its_pair filter_column joined ≡ found.0 = pair_for_found section from_stats_file needs has_all_pairs filter_column (paired_with needs joined filter_column) found.0 found.1 in
       (ap (λ (p : PairStats). p.filter) same ∙ holds.0, subst (λ (p : PairStats). PairStandsFor p tables entry (key (paired_with needs joined filter_column))) (sym same) holds.2)
 
-  pair_few : (filter_column joined : ℕ) → length (its_pair filter_column joined).cuts ≤ 32
-  pair_few filter_column joined = (its_within section from_stats_file filter_column (paired_with needs joined filter_column)).cuts
+  pair_cuts_within_limit : (filter_column joined : ℕ) → length (its_pair filter_column joined).cuts ≤ 32
+  pair_cuts_within_limit filter_column joined = (pair_for_within section from_stats_file filter_column (paired_with needs joined filter_column)).cuts
 
   value_dominates : (filter_column joined : ℕ) → Contains needs.filters filter_column → IsJoined needs joined → (value : Value)
       → DominatesKeys (list_of_value (its_pair filter_column joined) value) (map (key (paired_with needs joined filter_column)) (rows_where tables entry (has_value tables entry filter_column value)))
@@ -164,7 +164,7 @@ module _ (section : TableStats) (from_stats_file : IsSectionOfSome section) (nee
       let its_stands = pair_stands range.column joined has joins in
       subst (λ c. DominatesKeys (list_between (its_pair range.column joined) range.low range.high) (map (key (paired_with needs joined range.column))
       (rows_where tables entry (λ row. is_from range.low (value_in_row tables entry c row) && is_up_to range.high (value_in_row tables entry c row)))))
-      its_stands.0 (between_dominates (its_pair range.column joined) tables entry (key (paired_with needs joined range.column)) its_stands.1 (pair_few range.column joined) range.low range.high)
+      its_stands.0 (between_dominates (its_pair range.column joined) tables entry (key (paired_with needs joined range.column)) its_stands.1 (pair_cuts_within_limit range.column joined) range.low range.high)
 
   -- ---- the lists of a joined column dominate keys
 
@@ -176,10 +176,10 @@ module _ (section : TableStats) (from_stats_file : IsSectionOfSome section) (nee
           let not_none : eqb (length needs.joined) 0 ≡ false = some needs.joined has in
           let needed : Contains (pairs_of needs) (column_pair joined joined) =
           subst (λ (f : List ℕ). Contains (pairs_between f needs.joined) (column_pair joined joined)) (sym is) (joined_needed needs.joined joined has) in
-          let found = pair_found section from_stats_file needs all joined joined needed in
+          let found = pair_found section from_stats_file needs has_all_pairs joined joined needed in
           let holds = found_stands joined joined found.0 found.1 in
           rw not_none (subst (λ (p : PairStats). DominatesKeys p.whole (map (key joined) (range_with_len 0 (row_counts tables entry))))
-          (sym (its section from_stats_file needs all joined joined found.0 found.1)) holds.2.whole)
+          (sym (pair_for_found section from_stats_file needs has_all_pairs joined joined found.0 found.1)) holds.2.whole)
         where
           some : (joins : List ℕ) → Contains joins joined → eqb (length joins) 0 ≡ false
           some [] has = absurd (omega (arith, has.1))
@@ -194,26 +194,26 @@ module _ (section : TableStats) (from_stats_file : IsSectionOfSome section) (nee
         whole = whole_dominates joined has;
         equal = λ column value. elim (cases_Bool (list_any (λ other. eqb column other) needs.filters)) [
           | inl t ↦ rw t (subst (λ j. DominatesKeys (list_of_value (its_pair column joined) value) (map (key j) (rows_where tables entry (has_value tables entry column value))))
-              (partner_joined needs joined column has) (value_dominates column joined (true_in needs.filters column t) joins value))
-          | inr n ↦ rw n (fewer_rows tables entry (key joined) (whole_list section needs joined) (has_value tables entry column value) (whole_dominates joined has))
+              (partner_joined needs joined column has) (value_dominates column joined (in_from_test needs.filters column t) joins value))
+          | inr n ↦ rw n (filtered_rows_dominated tables entry (key joined) (whole_list section needs joined) (has_value tables entry column value) (whole_dominates joined has))
         ];
         range = λ range. elim (cases_Bool (list_any (λ other. eqb range.column other) needs.filters)) [
           | inl t ↦ rw t (subst (λ j. DominatesKeys (list_between (its_pair range.column joined) range.low range.high) (map (key j) (rows_where tables entry (is_in_range tables entry range))))
-              (partner_joined needs joined range.column has) (range_dominates range joined (true_in needs.filters range.column t) joins))
-          | inr n ↦ rw n (fewer_rows tables entry (key joined) (whole_list section needs joined) (is_in_range tables entry range) (whole_dominates joined has))
+              (partner_joined needs joined range.column has) (range_dominates range joined (in_from_test needs.filters range.column t) joins))
+          | inr n ↦ rw n (filtered_rows_dominated tables entry (key joined) (whole_list section needs joined) (is_in_range tables entry range) (whole_dominates joined has))
         ];
       }
 
   -- ---- the numbers of rows aren't too low
 
   fits : (s : List ℕ) (test : ℕ → Bool) (k : ℕ → ℕ) → DominatesKeys s (map k (rows_where tables entry test)) → length (rows_where tables entry test) ≤ sum s
-  fits s test k dominates = omega (arith, places_fit s (map k (rows_where tables entry test)) dominates, length-map (rows_where tables entry test) k)
+  fits s test k dominates = omega (arith, length_at_most_sum s (map k (rows_where tables entry test)) dominates, length-map (rows_where tables entry test) k)
 
   abbrev lead : ℕ
   lead = get_or needs.joined 0 0
 
   all_rows : sum (whole_list section needs lead) ≡ row_counts tables entry
-  all_rows = whole_sum section from_stats_file needs all lead (lead_joined needs) ∙ stands.rows
+  all_rows = whole_sum section from_stats_file needs has_all_pairs lead (lead_joined needs) ∙ stands.rows
 
   fewer : (test : ℕ → Bool) → length (rows_where tables entry test) ≤ sum (whole_list section needs lead)
   fewer test = omega (arith, all_rows, kept_few test (range_with_len 0 (row_counts tables entry)), range_length (row_counts tables entry) 0)
@@ -227,12 +227,12 @@ module _ (section : TableStats) (from_stats_file : IsSectionOfSome section) (nee
     whole = omega (arith, all_rows);
     equal = λ column value. elim (cases_Bool (list_any (λ other. eqb column other) needs.filters)) [
       | inl t ↦ rw t (fits (list_of_value (its_pair column lead) value) (has_value tables entry column value) (key (paired_with needs lead column))
-          (value_dominates column lead (true_in needs.filters column t) (lead_joined needs) value))
+          (value_dominates column lead (in_from_test needs.filters column t) (lead_joined needs) value))
       | inr n ↦ rw n (fewer (has_value tables entry column value))
     ];
     range = λ range. elim (cases_Bool (list_any (λ other. eqb range.column other) needs.filters)) [
       | inl t ↦ rw t (fits (list_between (its_pair range.column lead) range.low range.high) (is_in_range tables entry range) (key (paired_with needs lead range.column))
-          (range_dominates range lead (true_in needs.filters range.column t) (lead_joined needs)))
+          (range_dominates range lead (in_from_test needs.filters range.column t) (lead_joined needs)))
       | inr n ↦ rw n (fewer (is_in_range tables entry range))
     ];
   }
@@ -245,34 +245,34 @@ joined_has es p k =
     let has : Contains L p.column =
     in_map (λ (q : Place). q.column) (filter (λ (q : Place). eqb q.entry p.entry) (places_of es)) p
     (in_filter (λ (q : Place). eqb q.entry p.entry) (places_of es) p k (eq-eqb p.entry p.entry refl)) in
-    true_in (different L) p.column (each_of (λ x. is_in (different L) x ≡ true) L (is_in-different L) p.column has)
+    in_from_test (different L) p.column (at_member (λ x. is_in (different L) x ≡ true) L (is_in-different L) p.column has)
 
 module _ (query : Query) (file : StatsFile) (is : KeepsRulesOfSome file) (tables : Tables) (key : Keys) (stands : StandsFor query file tables)
     (none : first_missing query file ≡ None) (own : NamesItsEntries query) (tells : (entry column : ℕ) → SeparatesValues tables entry column (key entry column)) where
-  missing_none : (entry : ℕ) → entry < length query.from → is_missing query file entry ≡ false
-  missing_none entry low = none_passes (is_missing query file) 0 (length query.from) none entry (omega arith) (omega (arith, low))
+  nothing_missing : (entry : ℕ) → entry < length query.from → is_missing query file entry ≡ false
+  nothing_missing entry entry_in_range = none_passes (is_missing query file) 0 (length query.from) none entry (omega arith) (omega (arith, entry_in_range))
 
   its_section : (entry : ℕ) → entry < length query.from → SectionStandsFor (section_for query file entry) tables entry
-  its_section entry low =
-      let t : IsThere query file entry = is_there query file entry (missing_none entry low) in
-      subst (λ (s : TableStats). SectionStandsFor s tables entry) (sym (section_is query file entry t)) (stands entry t.section low t.is)
+  its_section entry entry_in_range =
+      let t : IsThere query file entry = is_there query file entry (nothing_missing entry entry_in_range) in
+      subst (λ (s : TableStats). SectionStandsFor s tables entry) (sym (section_is query file entry t)) (stands entry t.section entry_in_range t.is)
 
   abbrev section : ℕ → TableStats
   section entry = section_for query file entry
 
   lists_of : (p : Place) → Contains (places_of (equalities_of query)) p → ListsStandFor (stats_file_lists (section p.entry) (needs_of query p.entry) p.column) tables p.entry (key p.entry p.column)
   lists_of p has =
-      let low : p.entry < length query.from = place_low query own p has in
-      let t : IsThere query file p.entry = is_there query file p.entry (missing_none p.entry low) in
+      let in_range : p.entry < length query.from = place_entry_in_range query own p has in
+      let t : IsThere query file p.entry = is_there query file p.entry (nothing_missing p.entry in_range) in
       lists_stand (section p.entry) (section_from_file query file is p.entry t) (needs_of query p.entry) (its_pairs query file is p.entry t) tables p.entry (key p.entry) (tells p.entry)
-      (its_section p.entry low) p.column (joined_has (equalities_of query) p has)
+      (its_section p.entry in_range) p.column (joined_has (equalities_of query) p has)
 
   pub known_stands : StandFor query (stats_file_statistics query file) tables key
   known_stands = record {
-    counts = λ entry low.
-        let t : IsThere query file entry = is_there query file entry (missing_none entry low) in
+    counts = λ entry entry_in_range.
+        let t : IsThere query file entry = is_there query file entry (nothing_missing entry entry_in_range) in
         counts_stand (section entry) (section_from_file query file is entry t) (needs_of query entry) (its_pairs query file is entry t) tables entry (key entry) (tells entry)
-        (its_section entry low);
-    lists = all_from (λ (p : Place). ListsStandFor (stats_file_lists (section p.entry) (needs_of query p.entry) p.column) tables p.entry (key p.entry p.column))
+        (its_section entry entry_in_range);
+    lists = from_members (λ (p : Place). ListsStandFor (stats_file_lists (section p.entry) (needs_of query p.entry) p.column) tables p.entry (key p.entry p.column))
         (places_of (equalities_of query)) lists_of;
   }

@@ -54,26 +54,26 @@ nodes_within : (kind : Kind) (rows : ℕ) (cuts : List Datum) (nodes : List (Lis
 nodes_within kind zero cuts nodes is i = rw is.1 (omega arith)
 nodes_within kind (suc n) cuts nodes is i = lists_within (suc n) nodes is.lists i
 
-cuts_few : (kind : Kind) (rows : ℕ) (cuts : List Datum) (nodes : List (List ℕ)) → IsHistogramOf kind rows cuts nodes → length cuts ≤ 32
-cuts_few kind zero cuts nodes is = omega (arith, ap (λ (s : List Datum). length s) is.0)
-cuts_few kind (suc n) cuts nodes is = omega (arith, is.leaves)
+cut_count_within_limit : (kind : Kind) (rows : ℕ) (cuts : List Datum) (nodes : List (List ℕ)) → IsHistogramOf kind rows cuts nodes → length cuts ≤ 32
+cut_count_within_limit kind zero cuts nodes is = omega (arith, ap (λ (s : List Datum). length s) is.0)
+cut_count_within_limit kind (suc n) cuts nodes is = omega (arith, is.leaves)
 
 pub pair_within : (section : TableStats) → IsSectionOfSome section → All (IsWithin section.rows) section.pairs
-pair_within section from_stats_file i d low =
-    let p : IsPair from_stats_file.is.table section.rows (get_or section.pairs i d) = from_stats_file.is.pairs i d low in
+pair_within section from_stats_file i d i_in_range =
+    let p : IsPair from_stats_file.is.table section.rows (get_or section.pairs i d) = from_stats_file.is.pairs i d i_in_range in
     let pair : PairStats = get_or section.pairs i d in
     record {
       whole = p.whole.within;
       value = λ value. value_within section.rows value pair.frequent pair.rest (recursion_from_All (λ (f : Datum × List ℕ). IsList section.rows f.1) pair.frequent p.frequent.lists) p.rest;
       node = λ size leaf. nodes_within p.filter.kind section.rows pair.cuts pair.nodes p.tree (node_place size leaf);
-      cuts = cuts_few p.filter.kind section.rows pair.cuts pair.nodes p.tree;
+      cuts = cut_count_within_limit p.filter.kind section.rows pair.cuts pair.nodes p.tree;
     }
 
-none_within : (rows : ℕ) → IsWithin rows no_pair
-none_within rows = record { whole = omega arith; value = λ value. omega arith; node = λ size leaf. omega arith; cuts = omega arith }
+no_pair_within : (rows : ℕ) → IsWithin rows no_pair
+no_pair_within rows = record { whole = omega arith; value = λ value. omega arith; node = λ size leaf. omega arith; cuts = omega arith }
 
-pub its_within : (section : TableStats) → IsSectionOfSome section → (filter joined : ℕ) → IsWithin section.rows (pair_for section filter joined)
-its_within section from_stats_file filter joined = each_pair (IsWithin section.rows) section (pair_within section from_stats_file) (none_within section.rows) filter joined
+pub pair_for_within : (section : TableStats) → IsSectionOfSome section → (filter joined : ℕ) → IsWithin section.rows (pair_for section filter joined)
+pair_for_within section from_stats_file filter joined = each_pair (IsWithin section.rows) section (pair_within section from_stats_file) (no_pair_within section.rows) filter joined
 
 -- ---- the lists of an entry
 
@@ -85,29 +85,29 @@ whole_within section from_stats_file needs joined = by needs.filters
   where
     by : (filters : List ℕ) → sum (whole_by section needs filters joined) ≤ section.rows
     by [] = cond_both (eqb (length needs.joined) 0) (list_of_one_key section.rows) (pair_for section joined joined).whole (λ s. sum s ≤ section.rows)
-        (λ e. one_key_within section.rows) (λ e. (its_within section from_stats_file joined joined).whole)
-    by (column ∷ columns) = (its_within section from_stats_file column (paired_with needs joined column)).whole
+        (λ e. one_key_within section.rows) (λ e. (pair_for_within section from_stats_file joined joined).whole)
+    by (column ∷ columns) = (pair_for_within section from_stats_file column (paired_with needs joined column)).whole
 
-few : (section : TableStats) → IsSectionOfSome section → (s : List ℕ) → sum s ≤ section.rows → IsTrue (leb (sum s) (2 ^ 32))
-few section from_stats_file s within = le-leb (sum s) (2 ^ 32) (omega (arith, within, from_stats_file.is.rows))
+sum_within_limit : (section : TableStats) → IsSectionOfSome section → (s : List ℕ) → sum s ≤ section.rows → IsTrue (leb (sum s) (2 ^ 32))
+sum_within_limit section from_stats_file s within = le-leb (sum s) (2 ^ 32) (omega (arith, within, from_stats_file.is.rows))
 
 pub step_small : (section : TableStats) → IsSectionOfSome section → (needs : Needs) (joined : ℕ) (s : Step) → IsTrue (is_small (with_list (stats_file_lists section needs joined) s))
-step_small section from_stats_file needs joined step.Whole = few section from_stats_file (whole_list section needs joined) (whole_within section from_stats_file needs joined)
+step_small section from_stats_file needs joined step.Whole = sum_within_limit section from_stats_file (whole_list section needs joined) (whole_within section from_stats_file needs joined)
 step_small section from_stats_file needs joined (step.Equal column literal) =
-    few section from_stats_file ((stats_file_lists section needs joined).equal column (value_of literal))
+    sum_within_limit section from_stats_file ((stats_file_lists section needs joined).equal column (value_of literal))
     (cond_both (list_any (λ other. eqb column other) needs.filters) (list_of_value (pair_for section column (paired_with needs joined column)) (value_of literal)) (whole_list section needs joined)
-    (λ s. sum s ≤ section.rows) (λ e. (its_within section from_stats_file column (paired_with needs joined column)).value (value_of literal)) (λ e. whole_within section from_stats_file needs joined))
+    (λ s. sum s ≤ section.rows) (λ e. (pair_for_within section from_stats_file column (paired_with needs joined column)).value (value_of literal)) (λ e. whole_within section from_stats_file needs joined))
 step_small section from_stats_file needs joined (step.Within range) =
     let r : ranges.Range = range_of range in
     let pair : PairStats = pair_for section r.column (paired_with needs joined r.column) in
     let first : ℕ = unwrap_or (option_map (leaf_of_value pair) r.low) 0 in
     let last : ℕ = unwrap_or (option_map (leaf_of_value pair) r.high) 31 in
-    few section from_stats_file ((stats_file_lists section needs joined).range r)
+    sum_within_limit section from_stats_file ((stats_file_lists section needs joined).range r)
     (cond_both (list_any (λ other. eqb r.column other) needs.filters) (list_between pair r.low r.high) (whole_list section needs joined) (λ s. sum s ≤ section.rows)
-    (λ e. (its_within section from_stats_file r.column (paired_with needs joined r.column)).node (node_size first last) first) (λ e. whole_within section from_stats_file needs joined))
+    (λ e. (pair_for_within section from_stats_file r.column (paired_with needs joined r.column)).node (node_size first last) first) (λ e. whole_within section from_stats_file needs joined))
 step_small section from_stats_file needs joined step.And = refl
 step_small section from_stats_file needs joined step.NoRows = refl
 step_small section from_stats_file needs joined step.Or = refl
 
-pub section_filed : (file : StatsFile) → KeepsRulesOfSome file → All IsSectionOfSome file.tables
-section_filed file is i d low = record { schema = is.schema; is = is.keeps.tables i d low }
+pub sections_keep_rules : (file : StatsFile) → KeepsRulesOfSome file → All IsSectionOfSome file.tables
+sections_keep_rules file is i d i_in_range = record { schema = is.schema; is = is.keeps.tables i d i_in_range }

@@ -8,13 +8,13 @@ use Rattle.std.proofs.lemmas.List.Elements.{Contains-append_left, Contains-appen
 use Rattle.csv_tables.specs.Values.{Value}
 use Rattle.cond_stats.specs.Leaves.{node_size}
 use Rattle.column_stats.specs.Nodes.{node_place}
-use Rattle.entry_sets.proofs.Listing.{in_front, one_in}
+use Rattle.entry_sets.proofs.Listing.{in_front, in_front_or_rest}
 use Rattle.filtered_lists.specs.Standing.{SumTo}
-use Rattle.level_bounds.proofs.Lists.{all_true, in_map, true_in}
+use Rattle.level_bounds.proofs.Lists.{all_true, in_map, in_from_test}
 use Rattle.stats_file.specs.declared.types.Datum.{Datum}
 use Rattle.stats_file.specs.declared.types.PairStats.{PairStats}
 use Rattle.stats_file.specs.declared.types.TableStats.{TableStats}
-use Rattle.stats_file.specs.Rules.{Agree, HaveSameFilterCounts}
+use Rattle.stats_file.specs.Rules.{PairsAgree, HaveSameFilterCounts}
 use Rattle.stats_file_of_query.specs.declared.needs.Needs.{Needs}
 use Rattle.stats_file_of_query.specs.declared.column_pairs.ColumnPair.{ColumnPair}
 use Rattle.stats_file_of_query.specs.Needs.{pairs_of}
@@ -36,7 +36,7 @@ found_at p (y ∷ xs) x e = elim (cases_Bool (p y)) [
 
 -- ---- pairs whose lists have equal sums
 
-pub record HaveSums (a b : PairStats) : Type 0 where
+pub record HaveEqualSums (a b : PairStats) : Type 0 where
   pub value : (value : Value) → sum (list_of_value a value) ≡ sum (list_of_value b value)
   pub between : (low high : Option Value) → sum (list_between a low high) ≡ sum (list_between b low high)
 
@@ -75,37 +75,37 @@ same_end : (a b : PairStats) → a.cuts ≡ b.cuts → (end : Option Value) → 
 same_end a b same None = refl
 same_end a b same (Some value) = ap Some (same_leaf a b same value)
 
-pub count_sums : (a b : PairStats) → HaveSameFilterCounts a b → HaveSums a b
+pub count_sums : (a b : PairStats) → HaveSameFilterCounts a b → HaveEqualSums a b
 count_sums a b same = record {
   value = λ value. same_value value a.frequent b.frequent a.rest b.rest same.values same.totals same.rest;
-  between = λ low high.
-      let first : ℕ = unwrap_or (option_map (leaf_of_value a) low) 0 in
-      let last : ℕ = unwrap_or (option_map (leaf_of_value a) high) 31 in
+  between = λ lower upper.
+      let first : ℕ = unwrap_or (option_map (leaf_of_value a) lower) 0 in
+      let last : ℕ = unwrap_or (option_map (leaf_of_value a) upper) 31 in
       same_at a.nodes b.nodes same.nodes (node_place (node_size first last) first)
-      ∙ ap (λ (o : Option ℕ). sum (list_of_node b (node_size (unwrap_or o 0) last) (unwrap_or o 0))) (same_end a b same.cuts low)
-      ∙ ap (λ (o : Option ℕ). sum (list_of_node b (node_size (unwrap_or (option_map (leaf_of_value b) low) 0) (unwrap_or o 31)) (unwrap_or (option_map (leaf_of_value b) low) 0))) (same_end a b same.cuts high);
+      ∙ ap (λ (o : Option ℕ). sum (list_of_node b (node_size (unwrap_or o 0) last) (unwrap_or o 0))) (same_end a b same.cuts lower)
+      ∙ ap (λ (o : Option ℕ). sum (list_of_node b (node_size (unwrap_or (option_map (leaf_of_value b) lower) 0) (unwrap_or o 31)) (unwrap_or (option_map (leaf_of_value b) lower) 0))) (same_end a b same.cuts upper);
 }
 
-same_sums_back : (a b : PairStats) → HaveSums a b → HaveSums b a
-same_sums_back a b same = record { value = λ value. sym (same.value value); between = λ low high. sym (same.between low high) }
+equal_sums_symmetric : (a b : PairStats) → HaveEqualSums a b → HaveEqualSums b a
+equal_sums_symmetric a b same = record { value = λ value. sym (same.value value); between = λ lower upper. sym (same.between lower upper) }
 
-same_pair : (a b : PairStats) → a ≡ b → HaveSums a b
-same_pair a b same = subst (λ (p : PairStats). HaveSums a p) same (record { value = λ value. refl; between = λ low high. refl })
+same_pair : (a b : PairStats) → a ≡ b → HaveEqualSums a b
+same_pair a b same = subst (λ (p : PairStats). HaveEqualSums a p) same (record { value = λ value. refl; between = λ lower upper. refl })
 
 module _ (section : TableStats) (from_stats_file : IsSectionOfSome section) where
-  pub found_sums : (filter one other : ℕ) (a b : PairStats) → pair_in section filter one ≡ Some a → pair_in section filter other ≡ Some b → HaveSums a b
+  pub found_sums : (filter one other : ℕ) (a b : PairStats) → pair_in section filter one ≡ Some a → pair_in section filter other ≡ Some b → HaveEqualSums a b
   found_sums filter one other a b here there =
       let at = found_at (are_columns filter one) section.pairs a here in
       let to = found_at (are_columns filter other) section.pairs b there in
       let a_filter : a.filter ≡ filter = filter_is filter one a at.3 in
       let b_filter : b.filter ≡ filter = filter_is filter other b to.3 in
       elim (cases_lt at.0 to.0) [
-        | inl before ↦ (let agree : Agree a b = subst (λ (p : PairStats). Agree a p) (to.2 no_pair) (subst (λ (p : PairStats). Agree p (get_or section.pairs to.0 no_pair)) (at.2 no_pair) (from_stats_file.is.agree at.0 to.0 no_pair before to.1)) in
+        | inl before ↦ (let agree : PairsAgree a b = subst (λ (p : PairStats). PairsAgree a p) (to.2 no_pair) (subst (λ (p : PairStats). PairsAgree p (get_or section.pairs to.0 no_pair)) (at.2 no_pair) (from_stats_file.is.agree at.0 to.0 no_pair before to.1)) in
             count_sums a b (agree.filter (a_filter ∙ sym b_filter)))
         | inr not_before ↦ elim (cases_eq at.0 to.0) [
           | inl same ↦ same_pair a b (sym (at.2 no_pair) ∙ ap (λ (i : ℕ). get_or section.pairs i no_pair) same ∙ to.2 no_pair)
-          | inr apart ↦ (let agree : Agree b a = subst (λ (p : PairStats). Agree b p) (at.2 no_pair) (subst (λ (p : PairStats). Agree p (get_or section.pairs at.0 no_pair)) (to.2 no_pair) (from_stats_file.is.agree to.0 at.0 no_pair (omega (arith, not_before, apart)) at.1)) in
-              same_sums_back b a (count_sums b a (agree.filter (b_filter ∙ sym a_filter))))
+          | inr apart ↦ (let agree : PairsAgree b a = subst (λ (p : PairStats). PairsAgree b p) (at.2 no_pair) (subst (λ (p : PairStats). PairsAgree p (get_or section.pairs at.0 no_pair)) (to.2 no_pair) (from_stats_file.is.agree to.0 at.0 no_pair (omega (arith, not_before, apart)) at.1)) in
+              equal_sums_symmetric b a (count_sums b a (agree.filter (b_filter ∙ sym a_filter))))
         ]
       ]
     where
@@ -137,7 +137,7 @@ lead_joined needs = by needs.joined
 
 pub in_lists : {X Y : Type 0} (f : X → List Y) (xs : List X) (x : X) (y : Y) → Contains xs x → Contains (f x) y → Contains (flat_map f xs) y
 in_lists f [] x y has also = absurd (omega (arith, has.1))
-in_lists f (z ∷ xs) x y has also = elim (one_in z xs x has) [
+in_lists f (z ∷ xs) x y has also = elim (in_front_or_rest z xs x has) [
   | inl later ↦ Contains-append_right (f z) (flat_map f xs) y (in_lists f xs x y later also)
   | inr is ↦ Contains-append_left (f z) (flat_map f xs) y (subst (λ w. Contains (f w) y) is also)
 ]
@@ -158,16 +158,16 @@ there : (o : Option PairStats) → is_some o ≡ true → (p : PairStats) × (o 
 there None h = absurd (cc)
 there (Some p) h = (p, refl)
 
-module _ (section : TableStats) (from_stats_file : IsSectionOfSome section) (needs : Needs) (all : list_all (has_pair section) (pairs_of needs) ≡ true) where
+module _ (section : TableStats) (from_stats_file : IsSectionOfSome section) (needs : Needs) (has_all_pairs : list_all (has_pair section) (pairs_of needs) ≡ true) where
   pub pair_found : (filter joined : ℕ) → Contains (pairs_of needs) (column_pair filter joined) → (p : PairStats) × (pair_in section filter joined ≡ Some p)
-  pair_found filter joined has = there (pair_in section filter joined) (all_true (has_pair section) (pairs_of needs) all (column_pair filter joined) has)
+  pair_found filter joined has = there (pair_in section filter joined) (all_true (has_pair section) (pairs_of needs) has_all_pairs (column_pair filter joined) has)
 
   pub partner_found : (filter joined : ℕ) → Contains needs.filters filter → IsJoined needs joined → (p : PairStats) × (pair_in section filter (paired_with needs joined filter) ≡ Some p)
   unfolding IsJoined
   partner_found filter joined has joins = pair_found filter (paired_with needs joined filter) (filter_needed needs.filters needs.joined filter joined has joins)
 
-  pub its : (filter joined : ℕ) (p : PairStats) → pair_in section filter joined ≡ Some p → pair_for section filter joined ≡ p
-  its filter joined p is = ap (λ (o : Option PairStats). unwrap_or o no_pair) is
+  pub pair_for_found : (filter joined : ℕ) (p : PairStats) → pair_in section filter joined ≡ Some p → pair_for section filter joined ≡ p
+  pair_for_found filter joined p is = ap (λ (o : Option PairStats). unwrap_or o no_pair) is
 
   -- ---- equal sums for different joined columns
 
@@ -191,19 +191,19 @@ module _ (section : TableStats) (from_stats_file : IsSectionOfSome section) (nee
         | inl t ↦ rw t (one_key section.rows)
         | inr n ↦ (let has : Contains needs.joined joined = none_joined needs.joined n joins in
             let found = pair_found joined joined (subst (λ (f : List ℕ). Contains (pairs_between f needs.joined) (column_pair joined joined)) (sym is) (joined_needed needs.joined joined has)) in
-            rw n (ap (λ (p : PairStats). sum p.whole) (its joined joined found.0 found.1) ∙ found_whole section from_stats_file joined joined found.0 found.1))
+            rw n (ap (λ (p : PairStats). sum p.whole) (pair_for_found joined joined found.0 found.1) ∙ found_whole section from_stats_file joined joined found.0 found.1))
       ]
       by (column ∷ columns) is =
           let found = partner_found column joined (subst (λ (f : List ℕ). Contains f column) (sym is) (in_front column columns column refl)) joins in
-          ap (λ (p : PairStats). sum p.whole) (its column (paired_with needs joined column) found.0 found.1) ∙ found_whole section from_stats_file column (paired_with needs joined column) found.0 found.1
+          ap (λ (p : PairStats). sum p.whole) (pair_for_found column (paired_with needs joined column) found.0 found.1) ∙ found_whole section from_stats_file column (paired_with needs joined column) found.0 found.1
 
   partners_sum : (filter one other : ℕ) → Contains needs.filters filter → IsJoined needs one → IsJoined needs other
-      → HaveSums (pair_for section filter (paired_with needs one filter)) (pair_for section filter (paired_with needs other filter))
+      → HaveEqualSums (pair_for section filter (paired_with needs one filter)) (pair_for section filter (paired_with needs other filter))
   partners_sum filter one other has joins also =
       let here = partner_found filter one has joins in
       let there = partner_found filter other has also in
-      subst (λ (p : PairStats). HaveSums p (pair_for section filter (paired_with needs other filter))) (sym (its filter (paired_with needs one filter) here.0 here.1))
-      (subst (HaveSums here.0) (sym (its filter (paired_with needs other filter) there.0 there.1))
+      subst (λ (p : PairStats). HaveEqualSums p (pair_for section filter (paired_with needs other filter))) (sym (pair_for_found filter (paired_with needs one filter) here.0 here.1))
+      (subst (HaveEqualSums here.0) (sym (pair_for_found filter (paired_with needs other filter) there.0 there.1))
       (found_sums section from_stats_file filter (paired_with needs one filter) (paired_with needs other filter) here.0 there.0 here.1 there.1))
 
   pub sums_are : (joined : ℕ) → IsJoined needs joined → SumTo (stats_file_lists section needs joined) (stats_file_counts section needs)
@@ -214,11 +214,11 @@ module _ (section : TableStats) (from_stats_file : IsSectionOfSome section) (nee
       record {
         whole = wholes;
         equal = λ column value. elim (cases_Bool (list_any (λ other. eqb column other) needs.filters)) [
-          | inl t ↦ rw t ((partners_sum column joined lead (true_in needs.filters column t) joins leads).value value)
+          | inl t ↦ rw t ((partners_sum column joined lead (in_from_test needs.filters column t) joins leads).value value)
           | inr n ↦ rw n wholes
         ];
         range = λ range. elim (cases_Bool (list_any (λ other. eqb range.column other) needs.filters)) [
-          | inl t ↦ rw t ((partners_sum range.column joined lead (true_in needs.filters range.column t) joins leads).between range.low range.high)
+          | inl t ↦ rw t ((partners_sum range.column joined lead (in_from_test needs.filters range.column t) joins leads).between range.low range.high)
           | inr n ↦ rw n wholes
         ];
       }

@@ -10,17 +10,17 @@ use Rattle.berge_tree.specs.declared.edges.Place.{Place}
 use Rattle.berge_tree.specs.Equalities.{places_of}
 use Rattle.entry_sets.proofs.Listing.{in_front, in_rest}
 use Rattle.gathered_stats.specs.Asked.{asked_columns, joined_columns, or_no_column}
-use Rattle.gathered_stats.proofs.Joined.{place_asked, some_asked}
-use Rattle.gathered_stats.proofs.StatisticsOfTables.{first_one, found_one}
+use Rattle.gathered_stats.proofs.Joined.{place_asked, asked_not_empty}
+use Rattle.gathered_stats.proofs.StatisticsOfTables.{first_has, found_has}
 use Rattle.join_graph.specs.Conjuncts.{equalities_of, equality_of}
 use Rattle.level_bounds.proofs.EqualityFacts.{equality_names}
-use Rattle.level_bounds.proofs.Lists.{all_from, each_of, from_filter_map}
+use Rattle.level_bounds.proofs.Lists.{from_members, at_member, from_filter_map}
 use Rattle.predicate_bounds.specs.declared.columns.ColumnSteps.{ColumnSteps}
 use Rattle.predicate_bounds.specs.declared.columns.EntryStats.{EntryStats}
 use Rattle.predicate_bounds.specs.declared.columns.QueryStats.{QueryStats}
 use Rattle.predicate_bounds.specs.Steps.{steps_of}
 use Rattle.predicate_bounds.specs.StatsLists.{steps_with_lists, columns_of, no_columns}
-use Rattle.query_bounds.specs.Statistics.{HasStatistics, TellsColumn, TellsRowBound}
+use Rattle.query_bounds.specs.Statistics.{HasStatistics, HasColumnLists, HasRowBoundLists}
 use Rattle.query_types.specs.declared.types.Cond.{Cond}
 use Rattle.query_types.specs.declared.types.Query.{Query}
 use Rattle.query_types.specs.Named.{NamesItsEntries, entries_named}
@@ -30,9 +30,9 @@ use Rattle.stats_file_of_query.specs.Needs.{needed, needs_of, pairs_of, table_of
 use Rattle.stats_file_of_query.specs.Standing.{section_of}
 use Rattle.stats_file_bounds.specs.Entries.{AreStepsFromStatsFile, KeepsRulesOfSome, IsSectionOfSome, HasStatsFromFile}
 use Rattle.stats_file_bounds.specs.FileStatistics.{stats_file_lists, stats_file_statistics}
-use Rattle.stats_file_bounds.specs.Found.{has_all, has_pair, is_missing, no_section, section_for}
+use Rattle.stats_file_bounds.specs.Found.{has_each_pair, has_pair, is_missing, no_section, section_for}
 use Rattle.stats_file_bounds.proofs.Finding.{found_one as found_holds}
-use Rattle.stats_file_bounds.proofs.Small.{section_filed, whole_within}
+use Rattle.stats_file_bounds.proofs.Small.{sections_keep_rules, whole_within}
 use Rattle.stats_file_bounds.proofs.Sums.{IsJoined, sums_are}
 
 -- ---- the loop over entries
@@ -45,9 +45,9 @@ module _ (P : ℕ → EntryStats → Type 0) where
   pub one_each : (n : ℕ) (old new : List EntryStats) (one : EntryStats) → AreEach n old → P n one → new ≡ old ++ one ∷ [] → AreEach (n + 1) new
   one_each n old new one before here pushed = record {
     as_many = ap (λ (s : List EntryStats). length s) pushed ∙ length_push old one ∙ omega (arith, before.as_many);
-    each = λ entry low. subst (λ (s : List EntryStats). P entry (get_or s entry no_columns)) (sym pushed) (elim (cases_eq entry n) [
+    each = λ entry entry_in_range. subst (λ (s : List EntryStats). P entry (get_or s entry no_columns)) (sym pushed) (elim (cases_eq entry n) [
       | inl same ↦ subst (P entry) (sym (get_or_push old one no_columns entry (before.as_many ∙ sym same))) (subst (λ (m : ℕ). P m one) (sym same) here)
-      | inr apart ↦ (let earlier : entry < n = omega (arith, low, apart) in
+      | inr apart ↦ (let earlier : entry < n = omega (arith, entry_in_range, apart) in
           subst (P entry) (sym (get_or_append_left old (one ∷ []) no_columns entry (omega (arith, earlier, before.as_many)))) (before.each entry earlier))
     ]);
   }
@@ -55,8 +55,8 @@ module _ (P : ℕ → EntryStats → Type 0) where
 -- ---- the entries of joined columns are entries of the query
 
 module _ (query : Query) (own : NamesItsEntries query) where
-  pub place_low : (p : Place) → Contains (places_of (equalities_of query)) p → p.entry < length query.from
-  place_low p has = each_of (λ (q : Place). q.entry < length query.from) (places_of (equalities_of query)) (all_low (equalities_of query) (λ e h. h)) p has
+  pub place_entry_in_range : (p : Place) → Contains (places_of (equalities_of query)) p → p.entry < length query.from
+  place_entry_in_range p has = at_member (λ (q : Place). q.entry < length query.from) (places_of (equalities_of query)) (all_low (equalities_of query) (λ e h. h)) p has
     where
       edge_low : (e : Edge) → Contains (equalities_of query) e → (e.left.entry < length query.from) × (e.right.entry < length query.from)
       edge_low e has =
@@ -80,7 +80,7 @@ module _ (query : Query) (file : StatsFile) where
     pub is : section_of file (table_of query entry) ≡ Some section
     pub all : list_all (has_pair section) (needed query entry) ≡ true
 
-  there_by : (entry : ℕ) (o : Option TableStats) → section_of file (table_of query entry) ≡ o → has_all (needed query entry) o ≡ true → IsThere entry
+  there_by : (entry : ℕ) (o : Option TableStats) → section_of file (table_of query entry) ≡ o → has_each_pair (needed query entry) o ≡ true → IsThere entry
   there_by entry None is all = absurd (cc)
   there_by entry (Some section) is all = record { section = section; is = is; all = all }
 
@@ -91,7 +91,7 @@ module _ (query : Query) (file : StatsFile) where
   pub is_there : (entry : ℕ) → is_missing query file entry ≡ false → IsThere entry
   is_there entry none =
       there_by entry (section_of file (table_of query entry)) refl
-      (not_false (has_all (needed query entry) (section_of file (table_of query entry))) none)
+      (not_false (has_each_pair (needed query entry) (section_of file (table_of query entry))) none)
 
   pub section_is : (entry : ℕ) (t : IsThere entry) → section_for query file entry ≡ t.section
   section_is entry t = ap (λ (o : Option TableStats). unwrap_or o no_section) t.is
@@ -100,7 +100,7 @@ module _ (query : Query) (file : StatsFile) where
     pub section_from_file : (entry : ℕ) → IsThere entry → IsSectionOfSome (section_for query file entry)
     section_from_file entry t =
         subst IsSectionOfSome (sym (section_is entry t))
-        (found_holds IsSectionOfSome (λ (s : TableStats). s.table == table_of query entry) file.tables t.section (recursion_from_All IsSectionOfSome file.tables (section_filed file is)) t.is)
+        (found_holds IsSectionOfSome (λ (s : TableStats). s.table == table_of query entry) file.tables t.section (recursion_from_All IsSectionOfSome file.tables (sections_keep_rules file is)) t.is)
 
     pub its_pairs : (entry : ℕ) (t : IsThere entry) → list_all (has_pair (section_for query file entry)) (pairs_of (needs_of query entry)) ≡ true
     its_pairs entry t = ap (λ (s : TableStats). list_all (has_pair s) (needed query entry)) (section_is entry t) ∙ t.all
@@ -114,19 +114,19 @@ module _ (query : Query) (file : StatsFile) where
         by [] is has = inl is
         by (c ∷ joined) is has = inr (subst (λ (s : List ℕ). Contains s column) (sym is) has)
 
-    module _ (own : NamesItsEntries query) (stats : QueryStats) (told : (entry : ℕ) → entry < length query.from → HasStatsFromFile query file entry (get_or stats.entries entry no_columns))
+    module _ (own : NamesItsEntries query) (stats : QueryStats) (entries_have_stats : (entry : ℕ) → entry < length query.from → HasStatsFromFile query file entry (get_or stats.entries entry no_columns))
         (none_missing : (entry : ℕ) → entry < length query.from → is_missing query file entry ≡ false) where
       abbrev section : ℕ → TableStats
       section entry = section_for query file entry
 
-      tells_entry : (entry : ℕ) → entry < length query.from → TellsRowBound query stats (stats_file_statistics query file) entry
-      tells_entry entry low =
-          let here : HasStatsFromFile query file entry (get_or stats.entries entry no_columns) = told entry low in
-          let t : IsThere entry = is_there entry (none_missing entry low) in
+      tells_entry : (entry : ℕ) → entry < length query.from → HasRowBoundLists query stats (stats_file_statistics query file) entry
+      tells_entry entry entry_in_range =
+          let here : HasStatsFromFile query file entry (get_or stats.entries entry no_columns) = entries_have_stats entry entry_in_range in
+          let t : IsThere entry = is_there entry (none_missing entry entry_in_range) in
           let from_stats_file : IsSectionOfSome (section entry) = section_from_file entry t in
           let columns : List ColumnSteps = columns_of stats entry in
-          let some : 0 < length columns = omega (arith, some_asked entry (equalities_of query), ap (λ (s : List ℕ). length s) here.columns, length-map columns (λ (g : ColumnSteps). g.column)) in
-          let first = first_one (AreStepsFromStatsFile (section entry) (needs_of query entry) (steps_of entry query.conjuncts)) columns some here.steps in
+          let is_positive : 0 < length columns = omega (arith, asked_not_empty entry (equalities_of query), ap (λ (s : List ℕ). length s) here.columns, length-map columns (λ (g : ColumnSteps). g.column)) in
+          let first = first_has (AreStepsFromStatsFile (section entry) (needs_of query entry) (steps_of entry query.conjuncts)) columns is_positive here.steps in
           let joins : IsJoined (needs_of query entry) first.0.column = asked_joined entry first.0.column (subst (λ (s : List ℕ). Contains s first.0.column) here.columns first.2) in
           record {
             column = first.0.column;
@@ -135,13 +135,13 @@ module _ (query : Query) (file : StatsFile) where
             small = omega (arith, whole_within (section entry) from_stats_file (needs_of query entry) (get_or (joined_columns entry (equalities_of query)) 0 0), from_stats_file.is.rows);
           }
 
-      tells_column : (p : Place) → Contains (places_of (equalities_of query)) p → TellsColumn query stats (stats_file_statistics query file) p.entry p.column
+      tells_column : (p : Place) → Contains (places_of (equalities_of query)) p → HasColumnLists query stats (stats_file_statistics query file) p.entry p.column
       tells_column p has =
-          let low : p.entry < length query.from = place_low query own p has in
-          let here : HasStatsFromFile query file p.entry (get_or stats.entries p.entry no_columns) = told p.entry low in
-          let t : IsThere p.entry = is_there p.entry (none_missing p.entry low) in
+          let in_range : p.entry < length query.from = place_entry_in_range query own p has in
+          let here : HasStatsFromFile query file p.entry (get_or stats.entries p.entry no_columns) = entries_have_stats p.entry in_range in
+          let t : IsThere p.entry = is_there p.entry (none_missing p.entry in_range) in
           let asked : Contains (asked_columns p.entry (equalities_of query)) p.column = place_asked (equalities_of query) p has in
-          let one = found_one (AreStepsFromStatsFile (section p.entry) (needs_of query p.entry) (steps_of p.entry query.conjuncts)) (columns_of stats p.entry) p.column
+          let one = found_has (AreStepsFromStatsFile (section p.entry) (needs_of query p.entry) (steps_of p.entry query.conjuncts)) (columns_of stats p.entry) p.column
           (subst (λ (s : List ℕ). Contains s p.column) (sym here.columns) asked) here.steps in
           record {
             lists = ap (option_map (λ (g : ColumnSteps). g.steps)) one.1
@@ -153,5 +153,5 @@ module _ (query : Query) (file : StatsFile) where
       all_told as_many = record {
         one_each = as_many;
         entries = tells_entry;
-        columns = all_from (λ (p : Place). TellsColumn query stats (stats_file_statistics query file) p.entry p.column) (places_of (equalities_of query)) tells_column;
+        columns = from_members (λ (p : Place). HasColumnLists query stats (stats_file_statistics query file) p.entry p.column) (places_of (equalities_of query)) tells_column;
       }

@@ -1,6 +1,6 @@
 -- The statistics that a file gives for each entry of a query, and the reasons why a file may give no statistics.
 use Rattle.std.specs.Prelude.{ℕ, ◌≡◌, All, IfSome, List, map, Some, true, ⊤}
-use Rattle.gathered_stats.specs.Asked.{asked_columns, column_asked}
+use Rattle.gathered_stats.specs.Asked.{asked_columns, compared_column}
 use Rattle.join_graph.specs.Conjuncts.{equalities_of}
 use Rattle.predicate_bounds.specs.declared.columns.ColumnSteps.{ColumnSteps}
 use Rattle.predicate_bounds.specs.declared.columns.EntryStats.{EntryStats}
@@ -30,10 +30,10 @@ pub record IsSectionOfSome (section : TableStats) : Type 0 where
   pub schema : Schema
   pub is : IsSection schema section
 
--- if a step compares a column with literals, this column is a filter column. A step is a comparison of an own conjunct, an AND or an OR
--- (predicate_bounds)
+-- if a step compares a column with literals, this column is a filter column. A step (predicate_bounds) is a comparison, an AND or an OR of own
+-- conjuncts, or gives all rows or no rows
 abbrev pub AsksForFilterColumn : Needs → Step → Type 0
-AsksForFilterColumn needs step = IfSome (column_asked step) (λ column. IsTrue (is_filter needs column))
+AsksForFilterColumn needs step = IfSome (compared_column step) (λ column. IsTrue (is_filter needs column))
 
 -- the steps of a joined column, each with its list from the file
 abbrev pub AreStepsFromStatsFile : TableStats → Needs → List Step → ColumnSteps → Type 0

@@ -22,7 +22,7 @@ abbrev pub list_of_one_key : ℕ → List ℕ
 list_of_one_key rows = if rows == 0 then [] else (rows ∷ [])
 
 -- the list of all rows. It is taken from the pair of the first filter column. An entry without filter columns has it from the pair of the joined
--- column with itself. If the entry needs no pair, all rows have the same key
+-- column with itself. An entry that needs no pair gets the list of one key that all rows have
 abbrev pub whole_by : TableStats → Needs → List ℕ → ℕ → List ℕ
 whole_by section needs [] joined = if length needs.joined == 0 then list_of_one_key section.rows else (pair_for section joined joined).whole
 whole_by section needs (column ∷ columns) joined = (pair_for section column (paired_with needs joined column)).whole
@@ -45,7 +45,7 @@ stats_file_lists section needs joined = record {
 
 -- ---- the numbers of rows of an entry
 
--- the numbers of rows that lists count: their sums
+-- for each list the number of rows that it counts: its sum
 abbrev pub counts_of : ColumnLists → RowCounts
 counts_of lists = record {
   whole = sum lists.whole;

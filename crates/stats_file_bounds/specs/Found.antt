@@ -19,14 +19,14 @@ pair_in section filter joined = find (are_columns filter joined) section.pairs
 abbrev pub has_pair : TableStats → ColumnPair → Bool
 has_pair section pair = is_some (pair_in section pair.filter pair.joined)
 
--- whether there is a section that has all of these pairs
-abbrev pub has_all : List ColumnPair → Option TableStats → Bool
-has_all pairs None = false
-has_all pairs (Some section) = list_all (has_pair section) pairs
+-- whether a section was found that has all of these pairs
+abbrev pub has_each_pair : List ColumnPair → Option TableStats → Bool
+has_each_pair pairs None = false
+has_each_pair pairs (Some section) = list_all (has_pair section) pairs
 
 -- whether the file lacks a section or a pair that an entry needs
 abbrev pub is_missing : Query → StatsFile → ℕ → Bool
-is_missing query file entry = not (has_all (needed query entry) (section_of file (table_of query entry)))
+is_missing query file entry = not (has_each_pair (needed query entry) (section_of file (table_of query entry)))
 
 -- the first entry for which the file lacks something, if there is one
 abbrev pub first_missing : Query → StatsFile → Option ℕ

@@ -112,7 +112,7 @@ fn list_of_range(
     }
 }
 
-// A step of an entry's own conjuncts, with its list. `whole` is the list of all rows.
+// A step of an entry's own conjuncts, with its list. `whole` is the list of all rows of the entry's table.
 fn list_step(
     alloc: Global,
     section: &TableStats,

@@ -40,7 +40,7 @@ fn has_pair(section: &TableStats, pair: &ColumnPair) -> bool
 }
 
 /// Whether the section has all of these pairs.
-pub(crate) fn has_all(section: &TableStats, pairs: &[ColumnPair]) -> bool
+pub(crate) fn has_each_pair(section: &TableStats, pairs: &[ColumnPair]) -> bool
     ensures { result ≡ list_all (has_pair section.now) pairs.now }
 {
     pairs.iter().all(|pair| has_pair(section, pair))

@@ -11,7 +11,7 @@ ghost use Rattle.stats_file_bounds.specs.Found.{first_missing, is_missing};
 
 use crate::entry::list_columns;
 use crate::errors::NeedError;
-use crate::find::{has_all, section_of};
+use crate::find::{has_each_pair, section_of};
 use base_io::Seq;
 use gathered_stats::asked_columns;
 use join_graph::Parts;
@@ -52,7 +52,7 @@ fn entry_stats(
     let needs = needs_of(alloc, steps.as_slice(), parts.equalities.as_slice(), entry)?;
     let mut pairs = Seq::new(alloc);
     needs.add_pairs(&mut pairs)?;
-    if !has_all(section, pairs.as_slice()) {
+    if !has_each_pair(section, pairs.as_slice()) {
         return Err(NeedError::Missing { from: entry });
     }
     let columns = asked_columns(alloc, parts.equalities.as_slice(), entry)?;

@@ -13,10 +13,10 @@ use Rattle.entry_sets.proofs.Listing.{in_front}
 use Rattle.filtered_lists.specs.Lists.{ColumnLists, filtered_list}
 use Rattle.filtered_lists.specs.Standing.{SumTo}
 use Rattle.filtered_lists.proofs.Lists.{sum-filtered}
-use Rattle.gathered_stats.specs.Asked.{column_asked}
+use Rattle.gathered_stats.specs.Asked.{compared_column}
 use Rattle.gathered_stats.specs.Statistics.{statistics_of}
 use Rattle.join_graph.specs.Conjuncts.{equalities_of}
-use Rattle.level_bounds.proofs.Lists.{map_alike, range_within, true_in}
+use Rattle.level_bounds.proofs.Lists.{map_same_on_members, range_within, in_from_test}
 use Rattle.predicate_bounds.specs.declared.steps.Step.{Step}
 use Rattle.predicate_bounds.specs.Steps.{steps_of}
 use Rattle.query_bounds.specs.Bounds.{entry_bounds, is_among, is_at, scan_bounds, scan_list, scan_row_bound, set_bounds}
@@ -48,17 +48,17 @@ use Rattle.stats_file_bounds.specs.FileStatistics.{stats_file_counts, stats_file
 use Rattle.stats_file_bounds.specs.Found.{first_missing, has_pair, is_missing, pair_for, pair_in, section_for}
 use Rattle.stats_file_bounds.proofs.EntryFacts.{asks_among}
 use Rattle.join_graph.proofs.FromEntries.{names_its_entries}
-use Rattle.stats_file_bounds.proofs.Sums.{IsJoined, contained, its, joined_needed, lead_joined, pair_found, partner_found, whole_sum}
-use Rattle.stats_file_bounds.proofs.Telling.{IsThere, is_there, section_from_file, its_pairs, place_low, section_is}
+use Rattle.stats_file_bounds.proofs.Sums.{IsJoined, contained, pair_for_found, joined_needed, lead_joined, pair_found, partner_found, whole_sum}
+use Rattle.stats_file_bounds.proofs.Telling.{IsThere, is_there, section_from_file, its_pairs, place_entry_in_range, section_is}
 use Rattle.stats_file_bounds.proofs.NeverUnder.{joined_has, partner_joined}
 use Rattle.stats_file_exactness.proofs.SameLists.{AgreeAt, filtered_alike}
 use Rattle.stats_file_exactness.proofs.Members.{any_passes}
 use Rattle.stats_file_exactness.proofs.Sections as sections
-use Rattle.stats_file_exactness.proofs.Sections.{IsSectionOf, all_there, found_is, section_there}
+use Rattle.stats_file_exactness.proofs.Sections.{IsSectionOf, has_needed_pairs, found_is, section_there}
 
 -- ---- a file that has the statistics of the tables
 
--- each pair of the file is the pair that is made from the table's rows. A pair has the statistics of a filter column for a joined column
+-- each pair of the file is the pair that is made from the table's rows. A pair has the statistics of a joined column by the values of a filter column
 pub record HasPairsOfTables (query : Query) (file : StatsFile) (tables : Tables) (accuracy : ℕ) : Type 0 where
   pub is_file : KeepsRulesOfSome file
   pub names : NamesItsEntries query
@@ -70,9 +70,9 @@ pub record HasPairsOfTables (query : Query) (file : StatsFile) (tables : Tables)
 module _ (query : Query) (file : StatsFile) (tables : Tables) (accuracy : ℕ) (knows : HasPairsOfTables query file tables accuracy) where
   -- ---- the section of an entry's table
 
-  module _ (entry : ℕ) (low : entry < length query.from) where
+  module _ (entry : ℕ) (entry_in_range : entry < length query.from) where
     there : IsThere query file entry
-    there = is_there query file entry (knows.there entry low)
+    there = is_there query file entry (knows.there entry entry_in_range)
 
     abbrev section : TableStats
     section = section_for query file entry
@@ -88,7 +88,7 @@ module _ (query : Query) (file : StatsFile) (tables : Tables) (accuracy : ℕ) (
 
     found_pair : (filter_column joined : ℕ) → (p : PairStats) × (pair_in section filter_column joined ≡ Some p) → pair_for section filter_column joined ≡ pair_in_table tables accuracy entry filter_column joined
     found_pair filter_column joined found =
-        its section from_stats_file needs all filter_column joined found.0 found.1 ∙ knows.pairs entry low filter_column joined found.0 found.1
+        pair_for_found section from_stats_file needs all filter_column joined found.0 found.1 ∙ knows.pairs entry entry_in_range filter_column joined found.0 found.1
 
     pair_is : (filter_column joined : ℕ) → Contains needs.filters filter_column → IsJoined needs joined
         → pair_for section filter_column (paired_with needs joined filter_column) ≡ pair_in_table tables accuracy entry filter_column (paired_with needs joined filter_column)
@@ -106,13 +106,13 @@ module _ (query : Query) (file : StatsFile) (tables : Tables) (accuracy : ℕ) (
 
     agree : (joined column : ℕ) → IsJoined needs joined → list_any (λ other. eqb column other) needs.filters ≡ true → AgreeAt (stats_file_lists section needs joined) (made joined) column
     agree joined column joins is = record {
-      equal = λ value. rw is (ap (λ (p : PairStats). list_of_value p value) (pair_is column joined (true_in needs.filters column is) joins)
+      equal = λ value. rw is (ap (λ (p : PairStats). list_of_value p value) (pair_is column joined (in_from_test needs.filters column is) joins)
           ∙ value_same tables accuracy entry column (paired_with needs joined column) value);
-      range = λ low high. rw is (ap (λ (p : PairStats). list_between p low high) (pair_is column joined (true_in needs.filters column is) joins)
-          ∙ range_same tables accuracy entry column (paired_with needs joined column) low high);
+      range = λ entry_in_range upper. rw is (ap (λ (p : PairStats). list_between p entry_in_range upper) (pair_is column joined (in_from_test needs.filters column is) joins)
+          ∙ range_same tables accuracy entry column (paired_with needs joined column) entry_in_range upper);
     }
 
-    asked_filter : (s : Step) → Contains (steps_of entry query.conjuncts) s → (column : ℕ) → column_asked s ≡ Some column → list_any (λ other. eqb column other) needs.filters ≡ true
+    asked_filter : (s : Step) → Contains (steps_of entry query.conjuncts) s → (column : ℕ) → compared_column s ≡ Some column → list_any (λ other. eqb column other) needs.filters ≡ true
     asked_filter s has column is =
         subst (λ (o : Option ℕ). IfSome o (λ column. IsTrue (is_filter needs column))) is
         (All-contains (AsksForFilterColumn needs) (steps_of entry query.conjuncts) s (asks_among needs (steps_of entry query.conjuncts) refl) has)
@@ -131,7 +131,7 @@ module _ (query : Query) (file : StatsFile) (tables : Tables) (accuracy : ℕ) (
 
     made_sums : SumTo (made lead) (entry_counts tables entry)
     made_sums = record {
-      whole = whole_sum section from_stats_file needs all lead (lead_joined needs) ∙ knows.rows entry low;
+      whole = whole_sum section from_stats_file needs all lead (lead_joined needs) ∙ knows.rows entry entry_in_range;
       equal = λ column value. (lists_sum tables accuracy entry (paired_with needs lead column)).equal column value;
       range = λ range. (lists_sum tables accuracy entry (paired_with needs lead range.column)).range range;
     }
@@ -164,7 +164,7 @@ module _ (query : Query) (file : StatsFile) (tables : Tables) (accuracy : ℕ) (
       made_alike : (column : ℕ) → AgreeAt (made joined) (column_lists tables accuracy entry joined) column
       made_alike column = record {
         equal = λ value. ap (λ j. (column_lists tables accuracy entry j).equal column value) (partner_joined needs joined column has);
-        range = λ low high. ap (λ j. (column_lists tables accuracy entry j).range (record { column = column; low = low; high = high })) (partner_joined needs joined column has);
+        range = λ lower upper. ap (λ j. (column_lists tables accuracy entry j).range (record { column = column; low = lower; high = upper })) (partner_joined needs joined column has);
       }
 
       list_same : scan_list query (stats_file_statistics query file) entry joined ≡ scan_list query (statistics_of tables accuracy) entry joined
@@ -176,7 +176,7 @@ module _ (query : Query) (file : StatsFile) (tables : Tables) (accuracy : ℕ) (
 
   pub scans_known : scan_bounds query (stats_file_statistics query file) ≡ scan_bounds query (statistics_of tables accuracy)
   scans_known =
-      map_alike (scan_row_bound query (stats_file_statistics query file)) (scan_row_bound query (statistics_of tables accuracy)) (range_with_len 0 (length query.from))
+      map_same_on_members (scan_row_bound query (stats_file_statistics query file)) (scan_row_bound query (statistics_of tables accuracy)) (range_with_len 0 (length query.from))
       (λ entry has. rows_same entry (omega (arith, (range_within 0 (length query.from) entry has).1)))
 
   same_bounds : (rows rows' : ℕ → ℕ) (lists lists' : ℕ → ℕ → List ℕ) → rows ≡ rows' → lists ≡ lists'
@@ -205,10 +205,10 @@ module _ (query : Query) (file : StatsFile) (tables : Tables) (accuracy : ℕ) (
           → scan_list query (stats_file_statistics query file) entry column ≡ scan_list query (statistics_of tables accuracy) entry column
       at_place (p, has, is) =
           let parts = and_parts (eqb p.entry entry) (eqb p.column column) is in
-          let low : p.entry < length query.from = place_low query knows.names p has in
+          let in_range : p.entry < length query.from = place_entry_in_range query knows.names p has in
           subst (λ c. scan_list query (stats_file_statistics query file) entry c ≡ scan_list query (statistics_of tables accuracy) entry c) (eqb-true p.column column parts.1)
           (subst (λ e. scan_list query (stats_file_statistics query file) e p.column ≡ scan_list query (statistics_of tables accuracy) e p.column) (eqb-true p.entry entry parts.0)
-          (list_same p.entry low p.column (joined_has (equalities_of query) p has)))
+          (list_same p.entry in_range p.column (joined_has (equalities_of query) p has)))
 
   pub bounds_known : entry_bounds query (stats_file_statistics query file) ≡ entry_bounds query (statistics_of tables accuracy)
   bounds_known =
@@ -220,43 +220,43 @@ module _ (query : Query) (file : StatsFile) (tables : Tables) (accuracy : ℕ) (
 
 -- ---- the statistics file of the query
 
-module _ (schema : Schema) (query : Query) (db : Database) (over : FitsQueryAndTexts schema query db) (accuracy : ℕ) (least : 0 < accuracy) (most : accuracy ≤ 64) where
+module _ (schema : Schema) (query : Query) (db : Database) (over : FitsQueryAndTexts schema query db) (accuracy : ℕ) (accuracy_positive : 0 < accuracy) (most : accuracy ≤ 64) where
   abbrev own_file : StatsFile
   own_file = file_of_query schema query (tables_of db) accuracy
 
   there_not_missing : (entry : ℕ) → entry < length query.from → is_missing query (file_of_query schema query (tables_of db) accuracy) entry ≡ false
-  there_not_missing entry low =
-      let section = section_there schema query db over accuracy entry low in
+  there_not_missing entry entry_in_range =
+      let section = section_there schema query db over accuracy entry entry_in_range in
       let is = sections.section_is schema query db over accuracy entry section.0 section.1 in
-      rw (section.1, all_there schema query db over accuracy entry low section.0 is) refl
+      rw (section.1, has_needed_pairs schema query db over accuracy entry entry_in_range section.0 is) refl
 
   pub none_missing : first_missing query (file_of_query schema query (tables_of db) accuracy) ≡ None
   none_missing = none_found (is_missing query own_file) 0 (length query.from) (λ k from to. there_not_missing k (omega (arith, to)))
 
   its_there : (entry : ℕ) → entry < length query.from → IsThere query (file_of_query schema query (tables_of db) accuracy) entry
-  its_there entry low = is_there query own_file entry (there_not_missing entry low)
+  its_there entry entry_in_range = is_there query own_file entry (there_not_missing entry entry_in_range)
 
   its_section : (entry : ℕ) → entry < length query.from → IsSectionOf schema query db over accuracy entry (section_for query (file_of_query schema query (tables_of db) accuracy) entry)
-  its_section entry low =
-      let there = its_there entry low in
+  its_section entry entry_in_range =
+      let there = its_there entry entry_in_range in
       subst (IsSectionOf schema query db over accuracy entry) (sym (section_is query own_file entry there)) (sections.section_is schema query db over accuracy entry there.section there.is)
 
-  own_knows : HasPairsOfTables query (file_of_query schema query (tables_of db) accuracy) (tables_of db) accuracy
-  own_knows = record {
-    is_file = record { schema = schema; keeps = file_keeps schema query db over accuracy least most };
+  own_has_pairs : HasPairsOfTables query (file_of_query schema query (tables_of db) accuracy) (tables_of db) accuracy
+  own_has_pairs = record {
+    is_file = record { schema = schema; keeps = file_keeps schema query db over accuracy accuracy_positive most };
     names = names_its_entries schema query over.of.query_is;
     there = there_not_missing;
-    rows = λ entry low. ap (λ (s : TableStats). s.rows) (section_is query own_file entry (its_there entry low))
-        ∙ (file_stands schema query (tables_of db) (share_rows schema query db over) accuracy entry (its_there entry low).section low (its_there entry low).is).rows;
-    pairs = λ entry low filter_column joined p found.
-        found_is schema query db over accuracy entry low (section_for query own_file entry) (its_section entry low) filter_column joined p found;
+    rows = λ entry entry_in_range. ap (λ (s : TableStats). s.rows) (section_is query own_file entry (its_there entry entry_in_range))
+        ∙ (file_stands schema query (tables_of db) (share_rows schema query db over) accuracy entry (its_there entry entry_in_range).section entry_in_range (its_there entry entry_in_range).is).rows;
+    pairs = λ entry entry_in_range filter_column joined p found.
+        found_is schema query db over accuracy entry entry_in_range (section_for query own_file entry) (its_section entry entry_in_range) filter_column joined p found;
   }
 
   pub scans_same : scan_bounds query (stats_file_statistics query (file_of_query schema query (tables_of db) accuracy)) ≡ scan_bounds query (statistics_of (tables_of db) accuracy)
-  scans_same = scans_known query own_file (tables_of db) accuracy own_knows
+  scans_same = scans_known query own_file (tables_of db) accuracy own_has_pairs
 
   pub bounds_same : entry_bounds query (stats_file_statistics query (file_of_query schema query (tables_of db) accuracy)) ≡ entry_bounds query (statistics_of (tables_of db) accuracy)
-  bounds_same = bounds_known query own_file (tables_of db) accuracy own_knows
+  bounds_same = bounds_known query own_file (tables_of db) accuracy own_has_pairs
 
   pub sets_same : set_bounds query (stats_file_statistics query (file_of_query schema query (tables_of db) accuracy)) ≡ set_bounds query (statistics_of (tables_of db) accuracy)
-  sets_same = sets_known query own_file (tables_of db) accuracy own_knows
+  sets_same = sets_known query own_file (tables_of db) accuracy own_has_pairs

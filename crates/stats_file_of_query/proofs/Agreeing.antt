@@ -1,4 +1,4 @@
--- Any two pairs of a table agree (`Agree` of stats_file).
+-- Any two pairs of a table agree (`PairsAgree` of stats_file).
 use Rattle.std.proofs.Common.{◌≡◌, ℕ, ◌+◌, ◌*◌, ◌/◌, ◌<◌, ◌≤◌, Bool, eqb, List, [], ◌∷◌, ◌++◌, length, map, sum, refl, ap, sym, ◌∙◌, arith}
 use Rattle.std.specs.List.{count_by, flat_map, range_with_len, zip}
 use Rattle.std.proofs.Math.Path.{fun_ext}
@@ -13,7 +13,7 @@ use Rattle.column_stats.specs.declared.stats.FrequentList.{FrequentList}
 use Rattle.column_stats.specs.Nodes.{lists_of_size, node_lists, node_sizes}
 use Rattle.column_stats.specs.Stats.{frequent_list, frequent_lists}
 use Rattle.degree_sequences.specs.Degrees.{degree}
-use Rattle.level_bounds.proofs.Lists.{map_both}
+use Rattle.level_bounds.proofs.Lists.{map_of_map}
 use Rattle.stats_file.specs.declared.types.Datum.{Datum}
 use Rattle.stats_file.specs.Rules.{HaveSameFilterCounts}
 use Rattle.stats_file_of_query.specs.Pairs.{frequent_in, pair_stats_of}
@@ -32,7 +32,7 @@ module _ (le : ℕ → ℕ → Bool) (datum : ℕ → Datum) (k : ℕ) where
   node_sums row rows =
       map-flat (lists_of_size le k (row ∷ rows)) node_sizes
       ∙ ap (λ (lists : ℕ → List ℕ). flat_map lists node_sizes)
-      (fun_ext (λ (size : ℕ). map_both sum (λ i. list_of_node le k (row ∷ rows) size (size * i))
+      (fun_ext (λ (size : ℕ). map_of_map sum (λ i. list_of_node le k (row ∷ rows) size (size * i))
       (λ i. count_by (λ v. in_node size (size * i) (leaf_of le (filter_values (row ∷ rows)) v)) (filter_values (row ∷ rows)))
       (λ i. sum-list_of_node le k (row ∷ rows) size (size * i)) (range_with_len 0 (32 / size))))
 
@@ -45,14 +45,14 @@ module _ (le : ℕ → ℕ → Bool) (datum : ℕ → Datum) (k : ℕ) where
   module _ (rows : List (ℕ × ℕ)) where
     values_are : map (λ (f : Datum × List ℕ). f.0) (map (frequent_in datum) (frequent_lists k rows)) ≡ map datum (frequent (filter_values rows))
     values_are =
-        map_both (λ (f : Datum × List ℕ). f.0) (frequent_in datum) (λ (found : FrequentList). datum found.cell) (λ found. refl) (frequent_lists k rows)
-        ∙ map_both (λ (found : FrequentList). datum found.cell) (frequent_list k rows) datum (λ n. refl) (frequent (filter_values rows))
+        map_of_map (λ (f : Datum × List ℕ). f.0) (frequent_in datum) (λ (found : FrequentList). datum found.cell) (λ found. refl) (frequent_lists k rows)
+        ∙ map_of_map (λ (found : FrequentList). datum found.cell) (frequent_list k rows) datum (λ n. refl) (frequent (filter_values rows))
 
     totals_are : map (λ (f : Datum × List ℕ). sum f.1) (map (frequent_in datum) (frequent_lists k rows))
         ≡ map (λ n. count_by (λ other. eqb other n) (filter_values rows)) (frequent (filter_values rows))
     totals_are =
-        map_both (λ (f : Datum × List ℕ). sum f.1) (frequent_in datum) (λ (found : FrequentList). sum found.list) (λ found. refl) (frequent_lists k rows)
-        ∙ map_both (λ (found : FrequentList). sum found.list) (frequent_list k rows) (λ n. count_by (λ other. eqb other n) (filter_values rows))
+        map_of_map (λ (f : Datum × List ℕ). sum f.1) (frequent_in datum) (λ (found : FrequentList). sum found.list) (λ found. refl) (frequent_lists k rows)
+        ∙ map_of_map (λ (found : FrequentList). sum found.list) (frequent_list k rows) (λ n. count_by (λ other. eqb other n) (filter_values rows))
         (λ n. sum-compressed_degrees k (keys_with n rows) ∙ length-keys_where (λ other. eqb other n) rows) (frequent (filter_values rows))
 
   pub count_same : (rows others : List (ℕ × ℕ)) → filter_values rows ≡ filter_values others → (a b a' b' : ℕ) → HaveSameFilterCounts (pair_stats_of le datum k rows a b) (pair_stats_of le datum k others a' b')

@@ -20,7 +20,7 @@ use Rattle.table_stats.specs.Statistics.{column_lists, end_leaf}
 use Rattle.stats_file_of_query.specs.Data.{value_of}
 use Rattle.stats_file_of_query.specs.Pairs.{datum_of_row, pair_in_table}
 use Rattle.stats_file_of_query.specs.Standing.{leaf_cut, leaf_of_value, list_between, list_of_node, list_of_value}
-use Rattle.stats_file_of_query.proofs.Stands.{back, by_place, firsts, from_none, list_is, seconds}
+use Rattle.stats_file_of_query.proofs.Stands.{value_round_trip, by_place, firsts, from_none, list_is, seconds}
 
 module _ (tables : Tables) (accuracy entry filter_column joined : ℕ) where
   abbrev filters : List Value
@@ -47,7 +47,7 @@ module _ (tables : Tables) (accuracy entry filter_column joined : ℕ) where
       ap (λ count. last_place q (range_with_len 0 count)) (length-map those (datum_of_row filters))
       ∙ by_place q p those 0
       (λ i below. ap q (from_none i) ∙ ap (λ (v : Value). value_le v value)
-      (ap value_of (get_or-map (datum_of_row filters) those i 0 (datum.Text []) below) ∙ back (value_of_row filters (get_or those i 0))))
+      (ap value_of (get_or-map (datum_of_row filters) those i 0 (datum.Text []) below) ∙ value_round_trip (value_of_row filters (get_or those i 0))))
       ∙ ap (λ (s : List ℕ). last_place p (cuts le s)) (firsts tables accuracy entry filter_column joined)
 
   end_same : (end : Option Value) → option_map (leaf_of_value pair) end ≡ end_leaf filters end

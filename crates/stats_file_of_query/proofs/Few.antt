@@ -12,8 +12,8 @@ use Rattle.stats_file_of_query.specs.Databases.{FitsQueryAndTexts}
 use Rattle.stats_file_of_query.specs.Files.{no_table}
 use Rattle.stats_file_of_query.proofs.SameSections.{kinds_are}
 
-pub few_columns : (schema : Schema) (query : Query) (db : Database) → FitsQueryAndTexts schema query db → (entry : ℕ) → entry < length query.from → length (cells_of db entry).kinds < 2 ^ 32
-few_columns schema query db over entry low =
+pub columns_below_2_32 : (schema : Schema) (query : Query) (db : Database) → FitsQueryAndTexts schema query db → (entry : ℕ) → entry < length query.from → length (cells_of db entry).kinds < 2 ^ 32
+columns_below_2_32 schema query db over entry low =
     let many = kinds_are schema query db over 1 entry low in
     let table : ℕ = table_of query entry in
     elim (cases_lt table (length schema.tables)) [

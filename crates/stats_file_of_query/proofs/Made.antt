@@ -17,7 +17,7 @@ use Rattle.column_stats.specs.Stats.{frequent_list, frequent_lists, stats_of}
 use Rattle.gathered_stats.specs.Columns.{cells_in, kind_in}
 use Rattle.gathered_stats.specs.Filters.{IsColumnIn}
 use Rattle.relabelling_laws.proofs.Ordered.{All-cuts, All-frequent}
-use Rattle.relabelling_laws.proofs.Rows.{columns_are}
+use Rattle.relabelling_laws.proofs.Rows.{zip_of_columns}
 use Rattle.sql_meaning.specs.Databases.{AreCells}
 use Rattle.csv_tables.proofs.TableFacts.{columns_long}
 use Rattle.sql_meaning.proofs.ColumnFacts.{column_at}
@@ -28,34 +28,34 @@ use Rattle.stats_file_of_query.specs.Pairs.{frequent_in, pair_in_cells}
 
 -- ---- columns as the code reads them
 
-module _ (texts : List (List ℕ)) (cells : Cells) (are : AreCells texts cells) (column : ℕ) (low : column < length cells.kinds) where
+module _ (texts : List (List ℕ)) (cells : Cells) (are : AreCells texts cells) (column : ℕ) (column_exists : column < length cells.kinds) where
   pub its_kind : (k : Kind) → slice_get cells.kinds column ≡ Some k → kind_in cells column ≡ k
   its_kind k at = get_or_from_slice_get cells.kinds column k kind.Int at
 
   pub its_cells : (items read : List ℕ) → slice_get cells.columns column ≡ Some items → read ≡ items → read ≡ cells_in cells column
   its_cells items read at same = same ∙ sym (get_or_from_slice_get cells.columns column items [] at)
 
-  pub columns_many : column < length cells.columns
-  columns_many = omega (arith, columns_long texts cells.rows cells.kinds cells.columns are, low)
+  pub column_in_columns : column < length cells.columns
+  column_in_columns = omega (arith, columns_long texts cells.rows cells.kinds cells.columns are, column_exists)
 
   pub its_column : IsColumn texts cells.rows (kind_in cells column) (cells_in cells column)
-  its_column = column_at texts cells.rows cells.kinds cells.columns are column kind.Int [] low
+  its_column = column_at texts cells.rows cells.kinds cells.columns are column kind.Int [] column_exists
 
-  pub its_height : (read : List ℕ) → read ≡ cells_in cells column → length read ≡ cells.rows
-  its_height read is = ap (λ (s : List ℕ). length s) is ∙ its_column.height
+  pub column_length : (read : List ℕ) → read ≡ cells_in cells column → length read ≡ cells.rows
+  column_length read is = ap (λ (s : List ℕ). length s) is ∙ its_column.height
 
   pub are_its : (k : Kind) (read : List ℕ) → kind_in cells column ≡ k → read ≡ cells_in cells column → All (IsCell texts k) read
   are_its k read kind_is is = subst (λ (s : List ℕ). All (IsCell texts k) s) (sym is) (subst (λ (x : Kind). All (IsCell texts x) (cells_in cells column)) kind_is its_column.cells)
 
   pub column_in : (column_is : CellColumn) (k : Kind) (read : List ℕ) → kind_in cells column ≡ k → read ≡ cells_in cells column
       → column_is ≡ record { texts = texts; kind = k; cells = read } → IsColumnIn texts cells column column_is
-  column_in column_is k read kind_is is made = record { exists = low; is = rw (made, sym kind_is, is) refl }
+  column_in column_is k read kind_is is made = record { exists = column_exists; is = rw (made, sym kind_is, is) refl }
 
 -- ---- the cells in the statistics of a column are cells of its kind
 
-module _ (texts : List (List ℕ)) (k : Kind) (filter joined : List ℕ) (are : All (IsCell texts k) filter) (high : length filter ≡ length joined) (accuracy : ℕ) where
+module _ (texts : List (List ℕ)) (k : Kind) (filter joined : List ℕ) (are : All (IsCell texts k) filter) (same_length : length filter ≡ length joined) (accuracy : ℕ) where
   firsts : filter_values (zip filter joined) ≡ filter
-  firsts = (columns_are filter joined high).0
+  firsts = (zip_of_columns filter joined same_length).0
 
   own : AllByRecursion (IsCell texts k) filter
   own = recursion_from_All (IsCell texts k) filter are
@@ -78,22 +78,22 @@ module _ (texts : List (List ℕ)) (cells : Cells) (are : AreCells texts cells) 
   pub sorted_kind : k ≡ sorted.kind
   sorted_kind = sym kind_is ∙ sym (ap (λ (s : CellColumn). s.kind) is.is)
 
-  pub sorted_high : length keys ≡ length sorted.cells
-  sorted_high =
-      its_height texts cells are joined has_joined keys keys_are ∙ sym (its_column texts cells are filter is.exists).height
+  pub sorted_length : length keys ≡ length sorted.cells
+  sorted_length =
+      column_length texts cells are joined has_joined keys keys_are ∙ sym (its_column texts cells are filter is.exists).height
       ∙ ap (λ (s : CellColumn). length s.cells) (sym is.is)
 
   abbrev made : ColumnStats
   made = stats_of sorted.texts sorted.kind accuracy (zip sorted.cells keys)
 
-  abbrev told : ColumnStats
-  told = stats_of texts k accuracy (zip (cells_in cells filter) keys)
+  abbrev defined_stats : ColumnStats
+  defined_stats = stats_of texts k accuracy (zip (cells_in cells filter) keys)
 
-  made_is : made ≡ told
+  made_is : made ≡ defined_stats
   made_is = rw (is.is, kind_is) refl
 
-  tall : length (cells_in cells filter) ≡ length keys
-  tall = (its_column texts cells are filter is.exists).height ∙ sym (its_height texts cells are joined has_joined keys keys_are)
+  filter_length : length (cells_in cells filter) ≡ length keys
+  filter_length = (its_column texts cells are filter is.exists).height ∙ sym (column_length texts cells are joined has_joined keys keys_are)
 
   own_cells : All (IsCell texts k) (cells_in cells filter)
   own_cells = are_its texts cells are filter is.exists k (cells_in cells filter) kind_is refl
@@ -101,12 +101,12 @@ module _ (texts : List (List ℕ)) (cells : Cells) (are : AreCells texts cells) 
   pub made_frequent : (stats : ColumnStats) (read : List FrequentList) → stats ≡ made → read ≡ stats.frequent → All (λ (found : FrequentList). IsCell texts k found.cell) read
   made_frequent stats read stats_is read_is =
       subst (λ (s : List FrequentList). All (λ (found : FrequentList). IsCell texts k found.cell) s) (sym (read_is ∙ ap (λ (s : ColumnStats). s.frequent) (stats_is ∙ made_is)))
-      (frequent_are texts k (cells_in cells filter) keys own_cells tall accuracy)
+      (frequent_are texts k (cells_in cells filter) keys own_cells filter_length accuracy)
 
   pub made_cuts : (stats : ColumnStats) (read : List ℕ) → stats ≡ made → read ≡ stats.cuts → All (IsCell texts k) read
   made_cuts stats read stats_is read_is =
       subst (λ (s : List ℕ). All (IsCell texts k) s) (sym (read_is ∙ ap (λ (s : ColumnStats). s.cuts) (stats_is ∙ made_is)))
-      (cuts_are texts k (cells_in cells filter) keys own_cells tall accuracy)
+      (cuts_are texts k (cells_in cells filter) keys own_cells filter_length accuracy)
 
   abbrev value : ℕ → Datum
   value cell = datum_of (value_of_cell texts k cell)

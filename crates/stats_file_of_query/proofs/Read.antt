@@ -8,5 +8,5 @@ use Rattle.query_types.specs.declared.types.Query.{Query}
 use Rattle.schema_types.specs.declared.types.Schema.{Schema}
 use Rattle.stats_file_of_query.specs.Databases.{FitsQueryAndTexts, FitsQuery}
 
-pub over_all : (schema : Schema) (query : Query) (db : Database) → FitsQuery schema query db → All IsUtf8 db.pool → TextsAreDifferent db.pool → FitsQueryAndTexts schema query db
-over_all schema query db of utf8 differ = record { of = of; texts = utf8; differ = characters_differ db.pool utf8 differ }
+pub fits_with_texts : (schema : Schema) (query : Query) (db : Database) → FitsQuery schema query db → All IsUtf8 db.pool → TextsAreDifferent db.pool → FitsQueryAndTexts schema query db
+fits_with_texts schema query db of utf8 differ = record { of = of; texts = utf8; differ = characters_differ db.pool utf8 differ }

@@ -17,16 +17,16 @@ use Rattle.csv_tables.specs.declared.types.Database.{Database}
 use Rattle.cond_stats.specs.Columns.{cell_le}
 use Rattle.column_stats.specs.Pairs.{cells_of_column, kind_of_column, rows_of_pair}
 use Rattle.level_bounds.specs.Keys.{HaveDifferentCharacters}
-use Rattle.level_bounds.proofs.Lists.{all_from, from_filter_map, range_within}
+use Rattle.level_bounds.proofs.Lists.{from_members, from_filter_map, range_within}
 use Rattle.query_types.specs.declared.types.Query.{Query}
-use Rattle.relabelling_laws.proofs.Rows.{columns_are}
+use Rattle.relabelling_laws.proofs.Rows.{zip_of_columns}
 use Rattle.sql_meaning.specs.Tables.{cells_of, row_counts, tables_of}
 use Rattle.sql_meaning.proofs.ColumnFacts.{column_at}
 use Rattle.sql_meaning.proofs.LoopFacts.{rows_are}
 use Rattle.stats_file.specs.declared.types.PairStats.{PairStats}
 use Rattle.stats_file.specs.declared.types.StatsFile.{StatsFile}
 use Rattle.stats_file.specs.declared.types.TableStats.{TableStats}
-use Rattle.stats_file.specs.Rules.{Agree, HaveSameFilterCounts, IsPair, IsSection, KeepsRules, ComesBefore}
+use Rattle.stats_file.specs.Rules.{PairsAgree, HaveSameFilterCounts, IsPair, IsSection, KeepsRules, ComesBefore}
 use Rattle.stats_file_of_query.specs.declared.column_pairs.ColumnPair.{ColumnPair}
 use Rattle.stats_file_of_query.specs.Needs.{needed_of_table, table_of}
 use Rattle.stats_file_of_query.specs.Databases.{FitsQueryAndTexts, section_of_cells, sections_of_cells}
@@ -54,33 +54,33 @@ module _ (texts : List (List ℕ)) (differ : HaveDifferentCharacters texts) (utf
   kind_is column low =
       sym (ap (λ s. get_or s column kind.Int) of.kinds ∙ get_or-map (λ (c : Column). c.kind) table.columns column no_column kind.Int (omega (arith, low, as_many)))
 
-  pub pair_kept : (filter joined : ℕ) → filter < length cells.kinds → joined < length cells.kinds → IsPair table cells.rows (pair_in_cells texts cells accuracy filter joined)
-  pair_kept filter joined has_filter has_joined =
+  pub pair_keeps_rules : (filter joined : ℕ) → filter < length cells.kinds → joined < length cells.kinds → IsPair table cells.rows (pair_in_cells texts cells accuracy filter joined)
+  pair_keeps_rules filter joined has_filter has_joined =
       let one = column_there filter has_filter in
       let other = column_there joined has_joined in
       is_pair texts differ utf8 (kind_of_column cells filter) (cells_of_column cells filter) (cells_of_column cells joined) one.cells cells.rows one.height other.height accuracy
       table filter joined (get_or table.columns filter no_column) (slice_get-get_or table.columns filter no_column (omega (arith, has_filter, as_many)))
       (kind_is filter has_filter) (omega (arith, has_joined, as_many))
 
-  as_high : (filter joined : ℕ) → filter < length cells.kinds → joined < length cells.kinds → length (cells_of_column cells filter) ≡ length (cells_of_column cells joined)
-  as_high filter joined has_filter has_joined = (column_there filter has_filter).height ∙ sym (column_there joined has_joined).height
+  same_lengths : (filter joined : ℕ) → filter < length cells.kinds → joined < length cells.kinds → length (cells_of_column cells filter) ≡ length (cells_of_column cells joined)
+  same_lengths filter joined has_filter has_joined = (column_there filter has_filter).height ∙ sym (column_there joined has_joined).height
 
   same_whole : (filter joined other : ℕ) → filter < length cells.kinds → joined < length cells.kinds → other < length cells.kinds
       → (pair_in_cells texts cells accuracy filter joined).whole ≡ (pair_in_cells texts cells accuracy other joined).whole
   same_whole filter joined other has_filter has_joined has_other =
       whole_same accuracy (rows_of_pair cells filter joined) (rows_of_pair cells other joined)
-      ((columns_are (cells_of_column cells filter) (cells_of_column cells joined) (as_high filter joined has_filter has_joined)).1
-      ∙ sym (columns_are (cells_of_column cells other) (cells_of_column cells joined) (as_high other joined has_other has_joined)).1)
+      ((zip_of_columns (cells_of_column cells filter) (cells_of_column cells joined) (same_lengths filter joined has_filter has_joined)).1
+      ∙ sym (zip_of_columns (cells_of_column cells other) (cells_of_column cells joined) (same_lengths other joined has_other has_joined)).1)
 
   same_counts : (filter joined also : ℕ) → filter < length cells.kinds → joined < length cells.kinds → also < length cells.kinds
       → HaveSameFilterCounts (pair_in_cells texts cells accuracy filter joined) (pair_in_cells texts cells accuracy filter also)
   same_counts filter joined also has_filter has_joined has_also =
       count_same (cell_le texts (kind_of_column cells filter)) (datum_of_cell texts cells filter) accuracy (rows_of_pair cells filter joined) (rows_of_pair cells filter also)
-      ((columns_are (cells_of_column cells filter) (cells_of_column cells joined) (as_high filter joined has_filter has_joined)).0
-      ∙ sym (columns_are (cells_of_column cells filter) (cells_of_column cells also) (as_high filter also has_filter has_also)).0) filter joined filter also
+      ((zip_of_columns (cells_of_column cells filter) (cells_of_column cells joined) (same_lengths filter joined has_filter has_joined)).0
+      ∙ sym (zip_of_columns (cells_of_column cells filter) (cells_of_column cells also) (same_lengths filter also has_filter has_also)).0) filter joined filter also
 
   pub agree : (filter joined other also : ℕ) → filter < length cells.kinds → joined < length cells.kinds → other < length cells.kinds → also < length cells.kinds
-      → Agree (pair_in_cells texts cells accuracy filter joined) (pair_in_cells texts cells accuracy other also)
+      → PairsAgree (pair_in_cells texts cells accuracy filter joined) (pair_in_cells texts cells accuracy other also)
   agree filter joined other also has_filter has_joined has_other has_also = record {
     joined = λ same. same_whole filter joined other has_filter has_joined has_other ∙ ap (λ j. (pair_in_cells texts cells accuracy other j).whole) same;
     filter = λ same. subst (λ f. HaveSameFilterCounts (pair_in_cells texts cells accuracy filter joined) (pair_in_cells texts cells accuracy f also)) same
@@ -91,34 +91,34 @@ module _ (texts : List (List ℕ)) (differ : HaveDifferentCharacters texts) (utf
     abbrev made : List PairStats
     made = for_each_pair (pair_in_cells texts cells accuracy) needed (length cells.kinds)
 
-    pub all_kept : All (IsPair table cells.rows) made
-    all_kept = all_made (IsPair table cells.rows) (pair_in_cells texts cells accuracy) needed (length cells.kinds) pair_kept
+    pub all_pairs_keep_rules : All (IsPair table cells.rows) made
+    all_pairs_keep_rules = all_made (IsPair table cells.rows) (pair_in_cells texts cells accuracy) needed (length cells.kinds) pair_keeps_rules
 
     pub in_order : AllPairs ComesBefore made
     in_order =
         pairs_in_order (pair_in_cells texts cells accuracy) needed (length cells.kinds) ComesBefore (λ filter joined other also before. inl before)
         (λ filter joined also before. inr (refl, before))
 
-    pub all_agree : AllPairs Agree made
+    pub all_agree : AllPairs PairsAgree made
     all_agree i j d before low =
-        all_made (λ (a : PairStats). All (Agree a) made) (pair_in_cells texts cells accuracy) needed (length cells.kinds)
+        all_made (λ (a : PairStats). All (PairsAgree a) made) (pair_in_cells texts cells accuracy) needed (length cells.kinds)
         (λ filter joined has_filter has_joined.
-        all_made (Agree (pair_in_cells texts cells accuracy filter joined)) (pair_in_cells texts cells accuracy) needed (length cells.kinds)
+        all_made (PairsAgree (pair_in_cells texts cells accuracy filter joined)) (pair_in_cells texts cells accuracy) needed (length cells.kinds)
         (λ other also has_other has_also. agree filter joined other also has_filter has_joined has_other has_also))
         i d (omega (arith, before, low)) j d low
 
 -- ---- the file
 
 module _ (schema : Schema) (query : Query) (db : Database) (over : FitsQueryAndTexts schema query db) (accuracy : ℕ) where
-  section_kept : (table entry : ℕ) → table < length schema.tables → entry < length query.from → table_of query entry ≡ table
+  section_keeps_rules : (table entry : ℕ) → table < length schema.tables → entry < length query.from → table_of query entry ≡ table
       → IsSection schema (section_of_cells query db accuracy table entry)
-  section_kept table entry within low is =
+  section_keeps_rules table entry within low is =
       let cells : Cells = cells_of db entry in
       let of : AreCellsOf (table_at schema table) db.pool cells = subst (λ t. AreCellsOf (table_at schema t) db.pool cells) is (over.of.cells entry low) in record {
         table = table_at schema table;
         table_is = slice_get-get_or schema.tables table (record { name = []; columns = []; keys = []; references = [] }) within;
-        rows = omega (arith, over.of.database.few_rows entry low, rows_are db entry);
-        pairs = all_kept db.pool over.differ over.texts (table_at schema table) cells of accuracy (needed_of_table query table);
+        rows = omega (arith, over.of.database.rows_within_limit entry low, rows_are db entry);
+        pairs = all_pairs_keep_rules db.pool over.differ over.texts (table_at schema table) cells of accuracy (needed_of_table query table);
         order = in_order db.pool over.differ over.texts (table_at schema table) cells of accuracy (needed_of_table query table);
         agree = all_agree db.pool over.differ over.texts (table_at schema table) cells of accuracy (needed_of_table query table);
       }
@@ -139,17 +139,17 @@ module _ (schema : Schema) (query : Query) (db : Database) (over : FitsQueryAndT
   all_sections : All (IsSection schema) (sections_of_cells query db accuracy (length schema.tables))
   all_sections =
       All-from_recursion (IsSection schema) (sections_of_cells query db accuracy (length schema.tables))
-      (all_from (IsSection schema) (sections_of_cells query db accuracy (length schema.tables))
+      (from_members (IsSection schema) (sections_of_cells query db accuracy (length schema.tables))
       (λ section has.
       let its = from_filter_map make (range_with_len 0 (length schema.tables)) section has in
       let made = made_of its.0 (first_entry query its.0) section refl its.2 in
       let first = first_is query its.0 made.0 made.1 in
-      subst (IsSection schema) (sym made.2) (section_kept its.0 made.0 (omega (arith, (range_within 0 (length schema.tables) its.0 its.1).1)) first.0 first.1)))
+      subst (IsSection schema) (sym made.2) (section_keeps_rules its.0 made.0 (omega (arith, (range_within 0 (length schema.tables) its.0 its.1).1)) first.0 first.1)))
 
   pub sections_keep : 0 < accuracy → accuracy ≤ 64 → (let file : StatsFile = record { accuracy = accuracy; tables = sections_of_cells query db accuracy (length schema.tables) } in KeepsRules schema file)
-  sections_keep some few = record {
+  sections_keep some within_limit = record {
     least = some;
-    most = few;
+    most = within_limit;
     order = made_in_order make (λ (section : TableStats). section.table) its_table (length schema.tables);
     tables = all_sections;
   }
@@ -159,7 +159,7 @@ module _ (schema : Schema) (query : Query) (db : Database) (over : FitsQueryAndT
   file_is = rw (sections_same schema query db over accuracy (length schema.tables)) refl
 
   pub file_keeps : 0 < accuracy → accuracy ≤ 64 → KeepsRules schema (file_of_query schema query (tables_of db) accuracy)
-  file_keeps some few = subst (KeepsRules schema) file_is (sections_keep some few)
+  file_keeps some within_limit = subst (KeepsRules schema) file_is (sections_keep some within_limit)
 
   -- ---- the file that the code makes is the file of the query
 

@@ -7,7 +7,7 @@ use Rattle.csv_tables.specs.Cells.{IsColumn, value_of_cell}
 use Rattle.csv_tables.specs.Values.{Value}
 use Rattle.csv_tables.specs.declared.types.Cells.{Cells}
 use Rattle.csv_tables.specs.declared.types.Database.{Database}
-use Rattle.level_bounds.proofs.Lists.{from_filter, map_alike, range_within}
+use Rattle.level_bounds.proofs.Lists.{from_filter, map_same_on_members, range_within}
 use Rattle.query_types.specs.declared.types.Query.{Query}
 use Rattle.schema_types.specs.declared.types.Kind.TheVariants as kind
 use Rattle.schema_types.specs.declared.types.Schema.{Schema}
@@ -48,7 +48,7 @@ pub same_pairs : (make other : ℕ → ℕ → PairStats) (needed : List ColumnP
     → for_each_pair make needed count ≡ for_each_pair other needed count
 same_pairs make other needed count alike =
     same_lists (λ column. map (make column) (joined_with needed count column)) (λ column. map (other column) (joined_with needed count column)) (range_with_len 0 count)
-    (λ column has. map_alike (make column) (other column) (joined_with needed count column)
+    (λ column has. map_same_on_members (make column) (other column) (joined_with needed count column)
     (λ joined has_joined. alike column joined (omega (arith, (range_within 0 count column has).1))
     (omega (arith, (range_within 0 count joined (from_filter (λ joined. list_any (is_pair column joined) needed) (range_with_len 0 count) joined has_joined).0).1))))
 

@@ -22,12 +22,12 @@ use Rattle.column_stats.proofs.NodeLists.{node_is}
 use Rattle.degree_sequences.specs.Domination.{DominatesKeys}
 use Rattle.degree_sequences.proofs.CompressedLists.{compressed_dominates}
 use Rattle.filtered_lists.specs.Standing.{has_value, rows_where, value_in_row}
-use Rattle.level_bounds.proofs.Lists.{all_from, range_within}
+use Rattle.level_bounds.proofs.Lists.{from_members, range_within}
 use Rattle.relabelling_laws.specs.Relabelling.{AreEqualAlike}
 use Rattle.relabelling_laws.proofs.Columns.{from_map}
 use Rattle.relabelling_laws.proofs.Dominated.{passing_dominated}
 use Rattle.relabelling_laws.proofs.Ordered.{All-frequent}
-use Rattle.relabelling_laws.proofs.Rows.{columns_are, of_rows}
+use Rattle.relabelling_laws.proofs.Rows.{zip_of_columns, passing_of_rows}
 use Rattle.sql_meaning.specs.Tables.{Tables, row_counts}
 use Rattle.stats_file.specs.declared.types.Datum.{Datum}
 use Rattle.stats_file.specs.declared.types.Datum.TheVariants as datum
@@ -35,18 +35,18 @@ use Rattle.stats_file.specs.declared.types.PairStats.{PairStats}
 use Rattle.table_stats.specs.Columns.{column_values, first_row, as_first_rows, paired, row_le, value_of_row}
 use Rattle.table_stats.specs.Keys.{SeparatesValues}
 use Rattle.table_stats.specs.Statistics.{column_lists}
-use Rattle.table_stats.proofs.ColumnRows.{height, number_at, number_below, number_has, numbers_are, same_number}
+use Rattle.table_stats.proofs.ColumnRows.{values_length, number_at, number_below, number_has, numbers_are, same_number}
 use Rattle.table_stats.proofs.Dominating.{lists_stand}
-use Rattle.table_stats.proofs.EqualValues.{alike_le, equal_back, equal_chain, equal_itself, is_equal}
+use Rattle.table_stats.proofs.EqualValues.{alike_le, equal_symmetric, equal_transitive, equal_itself, is_equal}
 use Rattle.table_stats.proofs.FewerRows.{PassesBoth, all_in_range, fewer_dominated}
 use Rattle.table_stats.proofs.FirstRows.{equal_firsts, same_first}
 use Rattle.stats_file_of_query.specs.Data.{datum_of, value_of}
 use Rattle.stats_file_of_query.specs.Pairs.{datum_of_row, frequent_in, pair_in_table}
 use Rattle.stats_file_of_query.specs.Standing.{PairStandsFor, leaf_cut, is_in_node, is_value, leaf_of_value, list_of_node, list_of_value}
 
-pub back : (v : Value) → value_of (datum_of v) ≡ v
-back (values.Int number) = refl
-back (values.Text text) = refl
+pub value_round_trip : (v : Value) → value_of (datum_of v) ≡ v
+value_round_trip (values.Int number) = refl
+value_round_trip (values.Text text) = refl
 
 -- ---- the last position that passes a test; `q` tests positions, and `p` the elements there
 
@@ -73,10 +73,10 @@ by_place q p (x ∷ xs) first h =
 
 -- ---- the list that a pair has for a value
 
--- `mine` says whether one more frequent value is the value that is looked for
-pick : (test mine any : Bool) (d : Datum) (list other others found : List ℕ) (rest : Option (Datum × List ℕ)) → test ≡ mine → (mine ≡ true → list ≡ other)
+-- `is_wanted` says whether the next frequent value is the value that is looked for
+pick : (test is_wanted any : Bool) (d : Datum) (list other others found : List ℕ) (rest : Option (Datum × List ℕ)) → test ≡ is_wanted → (is_wanted ≡ true → list ≡ other)
     → option_map_or (λ (one : Datum × List ℕ). one.1) rest others ≡ (if any then other else others)
-    → option_map_or (λ (one : Datum × List ℕ). one.1) (if test then Some (d, list) else rest) others ≡ (if (mine || any) then other else others)
+    → option_map_or (λ (one : Datum × List ℕ). one.1) (if test then Some (d, list) else rest) others ≡ (if (is_wanted || any) then other else others)
 pick true true any d list other others found rest same is later = is refl
 pick false false any d list other others found rest same is later = later
 pick true false any d list other others found rest same is later = absurd (false≢true (sym same))
@@ -107,20 +107,20 @@ module _ (tables : Tables) (accuracy entry filter_column joined : ℕ) where
   abbrev le : ℕ → ℕ → Bool
   le = row_le filters
 
-  as_high : length (as_first_rows filters) ≡ length (as_first_rows keys)
-  as_high = omega (arith, length-map filters (first_row filters), length-map keys (first_row keys), height tables entry filter_column, height tables entry joined)
+  same_lengths : length (as_first_rows filters) ≡ length (as_first_rows keys)
+  same_lengths = omega (arith, length-map filters (first_row filters), length-map keys (first_row keys), values_length tables entry filter_column, values_length tables entry joined)
 
   pub firsts : filter_values pairs ≡ as_first_rows filters
-  firsts = (columns_are (as_first_rows filters) (as_first_rows keys) as_high).0
+  firsts = (zip_of_columns (as_first_rows filters) (as_first_rows keys) same_lengths).0
 
   pub seconds : joined_keys pairs ≡ as_first_rows keys
-  seconds = (columns_are (as_first_rows filters) (as_first_rows keys) as_high).1
+  seconds = (zip_of_columns (as_first_rows filters) (as_first_rows keys) same_lengths).1
 
-  many : length pairs ≡ row_counts tables entry
-  many = omega (arith, length-zip (as_first_rows filters) (as_first_rows keys), as_high, length-map filters (first_row filters), height tables entry filter_column)
+  row_count_is : length pairs ≡ row_counts tables entry
+  row_count_is = omega (arith, length-zip (as_first_rows filters) (as_first_rows keys), same_lengths, length-map filters (first_row filters), values_length tables entry filter_column)
 
   sums : sum (whole accuracy pairs) ≡ row_counts tables entry
-  sums = sum-whole accuracy pairs ∙ many
+  sums = sum-whole accuracy pairs ∙ row_count_is
 
   -- ---- the list of a value dominates its rows' keys
 
@@ -132,7 +132,7 @@ module _ (tables : Tables) (accuracy entry filter_column joined : ℕ) where
     IsAlike n = is_value value (datum_of_row filters n) ≡ eqb n number
 
     same_test : (n : ℕ) → is_value value (datum_of_row filters n) ≡ is_equal (value_of_row filters n) value
-    same_test n = ap (λ (v : Value). is_equal v value) (back (value_of_row filters n))
+    same_test n = ap (λ (v : Value). is_equal v value) (value_round_trip (value_of_row filters n))
 
     row_alike : (row : ℕ) → row < row_counts tables entry → IsAlike (number_at tables entry filter_column row)
     row_alike row low =
@@ -140,17 +140,17 @@ module _ (tables : Tables) (accuracy entry filter_column joined : ℕ) where
         let its : Value = value_in_row tables entry filter_column row in
         let w : Value = value_of_row filters n in
         let has : is_equal w its ≡ true = number_has tables entry filter_column row low in
-        let itself : n ≡ first_row filters w = same_first filters its w (equal_back w its has) in
+        let itself : n ≡ first_row filters w = same_first filters its w (equal_symmetric w its has) in
         same_test n ∙ elim (cases_Bool (is_equal w value)) [
           | inl e ↦ e ∙ sym (eq-eqb n number (itself ∙ same_first filters w value e))
           | inr e ↦ e ∙ sym (ne_eqb n number (λ same.
-              false≢true (sym e ∙ equal_chain w its value has (equal_firsts filters its value (number_below tables entry filter_column row low) same))))
+              false≢true (sym e ∙ equal_transitive w its value has (equal_firsts filters its value (number_below tables entry filter_column row low) same))))
         ]
 
     all_alike : AllByRecursion IsAlike (as_first_rows filters)
     all_alike =
         subst (AllByRecursion IsAlike) (sym (numbers_are tables entry filter_column))
-        (all_from IsAlike (map (number_at tables entry filter_column) rows)
+        (from_members IsAlike (map (number_at tables entry filter_column) rows)
         (λ n has.
         let found = from_map (number_at tables entry filter_column) rows n has in
         subst IsAlike (sym found.2) (row_alike found.0 (omega (arith, (range_within 0 (row_counts tables entry) found.0 found.1).1)))))
@@ -188,9 +188,9 @@ module _ (tables : Tables) (accuracy entry filter_column joined : ℕ) where
       ∙ by_place q (λ cut. le cut n) column_cuts 0
       (λ i below.
       ap q (from_none i) ∙ ap (λ (v : Value). value_le v its)
-      (ap value_of (get_or-map (datum_of_row filters) column_cuts i 0 (datum.Text []) below) ∙ back (value_of_row filters (get_or column_cuts i 0)))
+      (ap value_of (get_or-map (datum_of_row filters) column_cuts i 0 (datum.Text []) below) ∙ value_round_trip (value_of_row filters (get_or column_cuts i 0)))
       ∙ alike_le (value_of_row filters (get_or column_cuts i 0)) (value_of_row filters (get_or column_cuts i 0)) its (value_of_row filters n)
-      (equal_itself (value_of_row filters (get_or column_cuts i 0))) (equal_back (value_of_row filters n) its (number_has tables entry filter_column row low)))
+      (equal_itself (value_of_row filters (get_or column_cuts i 0))) (equal_symmetric (value_of_row filters n) its (number_has tables entry filter_column row low)))
       ∙ ap (λ (s : List ℕ). leaf_of le s n) firsts
 
   abbrev holds : ℕ → ℕ → ℕ → Bool
@@ -202,7 +202,7 @@ module _ (tables : Tables) (accuracy entry filter_column joined : ℕ) where
       let passes : List ℕ → ℕ → Bool = λ numbers n. in_node size leaf (leaf_of le numbers n) in
       subst (DominatesKeys (compressed_degrees accuracy (keys_where (passes (filter_values pairs)) pairs)))
       (ap (keys_where (passes (filter_values pairs))) (numbered_pairs tables entry filter_column joined)
-      ∙ of_rows (number_at tables entry filter_column) (number_at tables entry joined) rows
+      ∙ passing_of_rows (number_at tables entry filter_column) (number_at tables entry joined) rows
       (λ row. passes (filter_values pairs) (number_at tables entry filter_column row)) (passes (filter_values pairs)) (λ row has. refl)
       ∙ ap (λ (numbers : List ℕ). map (number_at tables entry joined) (filter (λ row. passes numbers (number_at tables entry filter_column row)) rows)) firsts)
       (compressed_dominates accuracy (keys_where (passes (filter_values pairs)) pairs))

@@ -7,7 +7,7 @@ use Rattle.std.proofs.lemmas.Grind.{flat_map-append}
 use Rattle.std.proofs.lemmas.List.{append-nil, map-id}
 use Rattle.std.proofs.lemmas.List.Elements.{All-from_recursion, filter-append, filter_map-append, recursion_from_All}
 use Rattle.std.proofs.lemmas.List.FromFn.{map-range_with_len_more}
-use Rattle.level_bounds.proofs.Lists.{all_from, from_filter, range_within}
+use Rattle.level_bounds.proofs.Lists.{from_members, from_filter, range_within}
 
 pub range_more : (n : ℕ) → range_with_len 0 (n + 1) ≡ range_with_len 0 n ++ n ∷ []
 range_more n = sym (map-id (range_with_len 0 (n + 1))) ∙ map-range_with_len_more (λ i. i) 0 n n (omega arith) ∙ ap (λ s. s ++ n ∷ []) (map-id (range_with_len 0 n))
@@ -29,7 +29,7 @@ one_passed_over p n old new before fails same =
 pub kept_below : (p : ℕ → Bool) (n : ℕ) → All (λ x. x < n) (filter p (range_with_len 0 n))
 kept_below p n =
     All-from_recursion (λ x. x < n) (filter p (range_with_len 0 n))
-    (all_from (λ x. x < n) (filter p (range_with_len 0 n)) (λ x has. omega (arith, (range_within 0 n x (from_filter p (range_with_len 0 n) x has).0).1)))
+    (from_members (λ x. x < n) (filter p (range_with_len 0 n)) (λ x has. omega (arith, (range_within 0 n x (from_filter p (range_with_len 0 n) x has).0).1)))
 
 -- ---- the loop that appends one list for each number
 

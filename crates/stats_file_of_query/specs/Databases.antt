@@ -4,7 +4,7 @@ use Rattle.std.specs.Str.{IsUtf8}
 use Rattle.csv_tables.specs.Cells.{AreCellsOf}
 use Rattle.csv_tables.specs.declared.types.Database.{Database}
 use Rattle.level_bounds.specs.Keys.{HaveDifferentCharacters}
-use Rattle.query_types.specs.Validity.{IsOf}
+use Rattle.query_types.specs.Validity.{IsQueryOf}
 use Rattle.query_types.specs.declared.types.Query.{Query}
 use Rattle.schema_types.specs.Validity.{IsValid}
 use Rattle.schema_types.specs.declared.types.Schema.{Schema}
@@ -18,11 +18,12 @@ use Rattle.stats_file_of_query.specs.Pairs.{pair_in_cells}
 -- the query is a query of the schema, and the database fits the query; each entry has the cells of its table
 pub record FitsQuery (schema : Schema) (query : Query) (db : Database) : Type 0 where
   pub schema_is : IsValid schema
-  pub query_is : IsOf schema query
+  pub query_is : IsQueryOf schema query
   pub database : IsDatabaseOf query db
   pub cells : (entry : ℕ) → entry < length query.from → AreCellsOf (table_at schema (table_of query entry)) db.pool (cells_of db entry)
 
--- `FitsQuery` holds, the pool's texts are UTF-8, and no two texts have the same characters. The last two are true of every pool
+-- `FitsQuery` holds, the pool's texts are UTF-8, and no two texts have the same characters. Each `Pool` of a running program satisfies both
+-- conditions on texts
 pub record FitsQueryAndTexts (schema : Schema) (query : Query) (db : Database) : Type 0 where
   pub of : FitsQuery schema query db
   pub texts : All IsUtf8 db.pool

@@ -6,7 +6,7 @@ use Rattle.query_types.specs.declared.types.Cond.{Cond, Compare}
 use Rattle.query_types.specs.declared.types.Operand.TheVariants as operand
 use Rattle.query_types.specs.declared.types.Query.{Query}
 use Rattle.join_graph.specs.Conjuncts.{column_operand}
-use Rattle.query_bounds.specs.Examples.{pair}
+use Rattle.query_bounds.specs.Examples.{two_table_query}
 use Rattle.schema_types.specs.declared.types.Kind.TheVariants as kind
 use Rattle.schema_types.specs.declared.types.Schema.{Schema}
 use Rattle.schema_types.specs.declared.types.Table.{Table}
@@ -31,11 +31,11 @@ rows_of column entry = map (λ n. Int (pos n) ∷ []) column
 -- ---- queries
 
 -- the query with R.X = S.X, S.Y > 3 and S.Y < 9
-abbrev pub filtered_pair : Query
-filtered_pair = record {
-  from = pair.from;
-  conjuncts = pair.conjuncts ++ Compare op.Gt (column_operand 1 1) (operand.Int (pos 3)) ∷ Compare op.Lt (column_operand 1 1) (operand.Int (pos 9)) ∷ [];
-  select = pair.select;
+abbrev pub filtered_join : Query
+filtered_join = record {
+  from = two_table_query.from;
+  conjuncts = two_table_query.conjuncts ++ Compare op.Gt (column_operand 1 1) (operand.Int (pos 3)) ∷ Compare op.Lt (column_operand 1 1) (operand.Int (pos 9)) ∷ [];
+  select = two_table_query.select;
 }
 
 -- SELECT X FROM K WHERE X = 99

@@ -18,7 +18,7 @@ use Rattle.stats_file_of_query.specs.Pairs.{pair_in_table}
 abbrev pub joined_with : List ColumnPair → ℕ → ℕ → List ℕ
 joined_with needed count column = filter (λ joined. list_any (is_pair column joined) needed) (range_with_len 0 count)
 
--- the results of `make` for all needed pairs. They ascend by the filter column, and for equal filter columns by the joined column
+-- the results of `make` for all needed pairs, ordered by the filter column and then by the joined column
 abbrev pub for_each_pair : {A : Type 0} → (ℕ → ℕ → A) → List ColumnPair → ℕ → List A
 for_each_pair make needed count = flat_map (λ column. map (make column) (joined_with needed count column)) (range_with_len 0 count)
 

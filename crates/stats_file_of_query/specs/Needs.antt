@@ -2,7 +2,7 @@
 use Rattle.std.specs.Prelude.{ℕ, ◌==◌, if◌then◌else◌, Bool, List, [], length, map, slice_index}
 use Rattle.std.specs.List.{filter_map, flat_map, range_with_len}
 use Rattle.degree_sequences.specs.Degrees.{different}
-use Rattle.gathered_stats.specs.Asked.{column_asked, joined_columns}
+use Rattle.gathered_stats.specs.Asked.{compared_column, joined_columns}
 use Rattle.join_graph.specs.Conjuncts.{equalities_of}
 use Rattle.predicate_bounds.specs.Steps.{steps_of}
 use Rattle.query_types.specs.declared.types.Query.{Query}
@@ -12,7 +12,7 @@ use Rattle.stats_file_of_query.specs.ColumnPairs.{pairs_between}
 
 -- the filter columns of an entry: the columns that the entry's own conjuncts compare with literals, each once
 abbrev pub filter_columns : Query → ℕ → List ℕ
-filter_columns query entry = different (filter_map column_asked (steps_of entry query.conjuncts))
+filter_columns query entry = different (filter_map compared_column (steps_of entry query.conjuncts))
 
 -- the filter columns and the joined columns of an entry
 abbrev pub needs_of : Query → ℕ → Needs

@@ -1,4 +1,4 @@
--- The statistics of a filter column for a joined column, in the form that a file has.
+-- The statistics of a joined column by the values of a filter column, in the form that a file has.
 use Rattle.std.specs.Prelude.{ℕ, Bool, List, map}
 use Rattle.csv_tables.specs.Cells.{value_of_cell}
 use Rattle.csv_tables.specs.Values.{Value}

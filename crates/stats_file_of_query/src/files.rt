@@ -72,7 +72,7 @@ pub fn stats_of(
     // no bound that is made from the file is too low
     ensures stands { IfOk result (λ file. StandsFor query.now file (tables_of db.now)) }
 {
-    // this call gives the proof the contract of `len`: facts about the pool's texts
+    // the proof needs the contract of `len`, which states facts about the pool's texts
     let _ = db.pool.len();
     let parts = split(alloc, query)?;
     let tables = sections_of(alloc, schema, query, &parts, db, accuracy)?;

@@ -2,29 +2,29 @@
 ghost use Rattle.std.specs.Prelude.{◌≡◌, ◌==◌, IfOk, OnOk};
 ghost use Rattle.std.specs.List.{filter_map, list_any};
 ghost use Rattle.degree_sequences.specs.Degrees.{different};
-ghost use Rattle.gathered_stats.specs.Asked.{column_asked};
+ghost use Rattle.gathered_stats.specs.Asked.{compared_column};
 ghost use Rattle.stats_file_of_query.specs.Columns.{with_column};
 
 use base_io::{NoMemory, Seq};
-use gathered_stats::column_asked;
+use gathered_stats::compared_column;
 use predicate_bounds::Step;
 use std::alloc::Global;
 
 // Whether the list has this column.
-fn has(columns: &[u32], column: u32) -> bool
+fn has_column(columns: &[u32], column: u32) -> bool
     ensures { result ≡ list_any (λ other. column == other) columns.now }
 {
     columns.iter().any(|other| column == *other)
 }
 
 // Adds the column at the end of the list, if there is a column and the list doesn't have it yet.
-fn add(columns: &mut Seq<u32>, column: Option<u32>) -> Result<(), NoMemory>
+fn add_column(columns: &mut Seq<u32>, column: Option<u32>) -> Result<(), NoMemory>
     ensures { OnOk result (columns.new ≡ with_column columns.old column) }
 {
     let Some(column) = column else {
         return Ok(());
     };
-    if has(columns.as_slice(), column) {
+    if has_column(columns.as_slice(), column) {
         return Ok(());
     }
     columns.push(column)
@@ -32,11 +32,11 @@ fn add(columns: &mut Seq<u32>, column: Option<u32>) -> Result<(), NoMemory>
 
 /// The columns that steps compare with literals, each once. They are in the order of the steps that name them first.
 pub(crate) fn filters_of(alloc: Global, steps: &[Step]) -> Result<Seq<u32>, NoMemory>
-    ensures { IfOk result (λ columns. columns ≡ different (filter_map column_asked steps.now)) }
+    ensures { IfOk result (λ columns. columns ≡ different (filter_map compared_column steps.now)) }
 {
     let mut columns = Seq::new(alloc);
     for step in steps {
-        add(&mut columns, column_asked(step))?;
+        add_column(&mut columns, compared_column(step))?;
     }
     Ok(columns)
 }

@@ -1,8 +1,8 @@
-//! Finds the pairs of a filter column and a joined column of which a query needs statistics, and makes a file of them. For each table of the query
-//! the file has the number of rows, and for each needed pair all lists.
+//! Makes the statistics file of a query, with the statistics that the query's bounds need. For each table of the query, the file has the number of
+//! rows, and all lists of each needed pair. A pair is a filter column and a joined column.
 //!
-//! In: a query over its schema, and its database. Out: a `StatsFile`, whose text `write_stats` of stats_file writes. A filter column is sorted once
-//! for all joined columns with which it makes needed pairs.
+//! In: a query over its schema, and its database. Out: a `StatsFile`, whose text `write_stats` of stats_file writes. Each filter column is sorted
+//! once, for all needed pairs in which it is.
 //!
 //! In contracts `needs_of`, `pairs_of` and `needed` (in `specs/Needs.antt`) say what an entry needs, and `file_of_query` (in `specs/Files.antt`) is
 //! the file. `StandsFor` (in `specs/Standing.antt`) says when a file stands for tables.

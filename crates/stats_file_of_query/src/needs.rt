@@ -2,7 +2,7 @@
 ghost use Rattle.std.specs.Prelude.{◌≡◌, ◌++◌, IfOk, OnOk, map};
 ghost use Rattle.std.specs.List.{filter_map};
 ghost use Rattle.degree_sequences.specs.Degrees.{different};
-ghost use Rattle.gathered_stats.specs.Asked.{column_asked, joined_columns};
+ghost use Rattle.gathered_stats.specs.Asked.{compared_column, joined_columns};
 ghost use Rattle.stats_file_of_query.specs.ColumnPairs.{of_itself, with_each};
 
 use crate::column_pairs::ColumnPair;
@@ -75,7 +75,7 @@ pub fn needs_of(
     equalities: &[Edge],
     entry: u8,
 ) -> Result<Needs, NoMemory>
-    ensures filters { IfOk result (λ needs. needs.filters ≡ different (filter_map column_asked steps.now)) }
+    ensures filters { IfOk result (λ needs. needs.filters ≡ different (filter_map compared_column steps.now)) }
     ensures joined { IfOk result (λ needs. needs.joined ≡ joined_columns entry equalities.now) }
 {
     let filters = filters_of(alloc, steps)?;

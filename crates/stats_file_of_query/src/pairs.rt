@@ -24,7 +24,7 @@ pub(crate) fn row_count(cells: &Cells) -> u32
     cells.rows
 }
 
-// The statistics of a sorted filter column for a joined column.
+// The statistics of a joined column by the values of a sorted filter column.
 fn pair_stats_of(
     alloc: Global,
     pool: &Pool,
@@ -62,7 +62,7 @@ fn pair_stats_of(
     })
 }
 
-/// All statistics of two columns of a table. The filter column is sorted for this pair alone.
+/// All statistics of two columns of a table. The filter column is sorted for this one pair.
 pub fn pair_of_columns(
     alloc: Global,
     pool: &Pool,
@@ -84,7 +84,7 @@ pub fn pair_of_columns(
 }
 
 // Whether `needed` has the pair of these two columns.
-fn has(needed: &[ColumnPair], filter: u32, joined: u32) -> bool
+fn has_pair(needed: &[ColumnPair], filter: u32, joined: u32) -> bool
     ensures { result ≡ list_any (is_pair filter joined) needed.now }
 {
     needed.iter().any(|pair| pair.is_of(filter, joined))
@@ -101,14 +101,14 @@ fn joined_with(
 {
     let mut columns = Seq::new(alloc);
     for joined in 0..count {
-        if has(needed, filter, joined) {
+        if has_pair(needed, filter, joined) {
             columns.push(joined)?;
         }
     }
     Ok(columns)
 }
 
-// Appends the statistics of a filter column for each of these joined columns. The filter column is sorted once.
+// Appends the statistics of each of these joined columns by the values of a filter column. The filter column is sorted once.
 fn add_each(
     alloc: Global,
     pool: &Pool,
@@ -137,8 +137,8 @@ fn add_each(
     Ok(())
 }
 
-/// Appends the statistics of a filter column for each joined column with which it makes a needed pair. The joined columns ascend. If there is no such
-/// joined column, the filter column isn't sorted.
+/// Appends the statistics, by the values of a filter column, of each joined column with which it makes a needed pair. The joined columns ascend. If
+/// there is no such joined column, the filter column isn't sorted.
 pub(crate) fn add_pairs(
     alloc: Global,
     pool: &Pool,
@@ -150,7 +150,7 @@ pub(crate) fn add_pairs(
 ) -> Result<(), NoMemory>
     requires cells { AreCells pool.now cells.now }
     requires filter { filter < length cells.now.kinds }
-    requires few { length cells.now.kinds < 2 ^ 32 }
+    requires within_limit { length cells.now.kinds < 2 ^ 32 }
     ensures { OnOk result (pairs.new ≡ pairs.old
         ++ map (pair_in_cells pool.now cells.now accuracy filter) (joined_with needed.now (length cells.now.kinds) filter)) }
 {

@@ -21,7 +21,7 @@ use query_types::Query;
 use stats_file::{PairStats, TableStats};
 use std::alloc::Global;
 
-// Appends the pairs of a filter column and a joined column whose statistics the bounds of an entry need.
+// Appends the pairs of columns that an entry needs (`needed`).
 fn add_needed(
     alloc: Global,
     query: &Query,
@@ -54,7 +54,7 @@ fn needed_of_table(
     parts: &Parts,
     table: u32,
 ) -> Result<Seq<ColumnPair>, NoMemory>
-    requires few { length query.now.from ≤ most_entries }
+    requires within_limit { length query.now.from ≤ most_entries }
     requires local { parts.now.local ≡ local_of query.now }
     requires equalities { parts.now.equalities ≡ equalities_of query.now }
     ensures { IfOk result (λ pairs. pairs ≡ needed_of_table query.now table) }
@@ -69,7 +69,7 @@ fn needed_of_table(
 }
 
 // The statistics of each needed pair, once. They ascend by the filter column, and for equal filter columns by the joined column.
-fn pairs_of(
+fn stats_of_pairs(
     alloc: Global,
     pool: &Pool,
     cells: &Cells,
@@ -77,7 +77,7 @@ fn pairs_of(
     accuracy: Accuracy,
 ) -> Result<Seq<PairStats>, NoMemory>
     requires cells { AreCells pool.now cells.now }
-    requires few { length cells.now.kinds < 2 ^ 32 }
+    requires within_limit { length cells.now.kinds < 2 ^ 32 }
     ensures { IfOk result (λ pairs. pairs ≡ for_each_pair (pair_in_cells pool.now cells.now accuracy) needed.now (length cells.now.kinds)) }
 {
     let mut pairs = Seq::new(alloc);
@@ -100,7 +100,7 @@ pub(crate) fn section_of(
 ) -> Result<TableStats, NoMemory>
     requires database { IsDatabaseOf query.now db.now }
     requires entry { entry < length query.now.from }
-    requires few { length (cells_of db.now entry).kinds < 2 ^ 32 }
+    requires within_limit { length (cells_of db.now entry).kinds < 2 ^ 32 }
     requires local { parts.now.local ≡ local_of query.now }
     requires equalities { parts.now.equalities ≡ equalities_of query.now }
     ensures { IfOk result (λ section. section ≡ section_of_cells query.now db.now accuracy table entry) }
@@ -109,6 +109,6 @@ pub(crate) fn section_of(
     let slot = *db.slots.get(usize::from(entry));
     let cells = db.cells.get(slot as usize);
     let rows = row_count(cells);
-    let pairs = pairs_of(alloc, &db.pool, cells, needed.as_slice(), accuracy)?;
+    let pairs = stats_of_pairs(alloc, &db.pool, cells, needed.as_slice(), accuracy)?;
     Ok(TableStats { table, rows, pairs })
 }

@@ -1,4 +1,4 @@
-//! A law of every text over a valid schema.
+//! A law about all texts over a valid schema.
 ghost use Rattle.std.specs.Prelude.{◌≢◌, ℕ, List, Result, Err};
 ghost use Rattle.schema_types.specs.declared.types.Schema.{Schema};
 ghost use Rattle.schema_types.specs.Validity.{IsValid};

@@ -14,29 +14,29 @@ use Rattle.stats_reading.specs.Remaining.{file_of_draft}
 use Rattle.stats_reading.specs.Steps.{PairEnds, TableEnds}
 use Rattle.stats_reading.specs.Valid.{IsValidDraft, IsValidSection}
 use Rattle.stats_reading.proofs.Begun.{pair_ended_valid, table_ended_valid}
-use Rattle.stats_reading.proofs.OrderFacts.{last_tells}
+use Rattle.stats_reading.proofs.OrderFacts.{last_implies_all}
 use Rattle.stats_reading.proofs.RuleFacts.{section_at}
 use Rattle.stats_reading.proofs.Stepping.{weaker_valid}
 
-pub filled : (n : ℕ) → (n == 0) ≡ false → 0 < n
-filled n e = let other = eqb-false n 0 e in omega (arith, other)
+pub positive_if_not_zero : (n : ℕ) → (n == 0) ≡ false → 0 < n
+positive_if_not_zero n e = let other = eqb-false n 0 e in omega (arith, other)
 
 -- ---- pairs
 
-stands_behind : (a b c : PairStats) → ComesBefore a b → ComesBefore b c → ComesBefore a c
-stands_behind a b c (inl f) (inl g) = inl (omega arith)
-stands_behind a b c (inl f) (inr (g, h)) = inl (omega arith)
-stands_behind a b c (inr (f, g)) (inl h) = inl (omega arith)
-stands_behind a b c (inr (f, g)) (inr (h, k)) = inr (omega arith, omega arith)
+comes_before_trans : (a b c : PairStats) → ComesBefore a b → ComesBefore b c → ComesBefore a c
+comes_before_trans a b c (inl f) (inl g) = inl (omega arith)
+comes_before_trans a b c (inl f) (inr (g, h)) = inl (omega arith)
+comes_before_trans a b c (inr (f, g)) (inl h) = inl (omega arith)
+comes_before_trans a b c (inr (f, g)) (inr (h, k)) = inr (omega arith, omega arith)
 
-none_behind : (a b : PairStats) → ComesBefore a b → a.filter ≤ b.filter
-none_behind a b (inl f) = omega arith
-none_behind a b (inr (f, g)) = omega arith
+filters_ascend : (a b : PairStats) → ComesBefore a b → a.filter ≤ b.filter
+filters_ascend a b (inl f) = omega arith
+filters_ascend a b (inr (f, g)) = omega arith
 
 pub later_than_last : (pairs : List PairStats) (pair : PairStats) (d : PairStats) → 0 < length pairs → AllPairs ComesBefore pairs
     → ComesBefore (get_or pairs (length pairs - 1) d) pair ↔ All (λ q. ComesBefore q pair) pairs
 later_than_last pairs pair d some ascend = (
-  λ h. last_tells ComesBefore (λ q. ComesBefore q pair) (λ a b. stands_behind a b pair) pairs ascend
+  λ h. last_implies_all ComesBefore (λ q. ComesBefore q pair) (λ a b. comes_before_trans a b pair) pairs ascend
       (λ last at. subst (λ (q : PairStats). ComesBefore q pair) (get_or_from_slice_get pairs (length pairs - 1) last d at) h),
   λ all. all (length pairs - 1) d (omega arith),
 )
@@ -47,9 +47,9 @@ later_than pairs pair q is some ascend =
     let same = later_than_last pairs pair q some ascend in
     (λ h. same.0 (subst (λ (p : PairStats). ComesBefore p pair) is h), λ all. subst (λ (p : PairStats). ComesBefore p pair) (sym is) (same.1 all))
 
-pub no_place : (pairs : List PairStats) (filter : ℕ) (d : PairStats) → 0 < length pairs → AllPairs ComesBefore pairs → All (λ (q : PairStats). q.filter ≤ filter) pairs
+pub no_pair_with_filter : (pairs : List PairStats) (filter : ℕ) (d : PairStats) → 0 < length pairs → AllPairs ComesBefore pairs → All (λ (q : PairStats). q.filter ≤ filter) pairs
     → (get_or pairs (length pairs - 1) d).filter ≢ filter → IsPlaceOf (λ (q : PairStats). q.filter) filter pairs (length pairs)
-no_place pairs filter d some ascend within other = record {
+no_pair_with_filter pairs filter d some ascend within other = record {
   found = λ q at. let lt = slice_get_within pairs (length pairs) q at in absurd (omega (arith, lt));
   none = λ at k e lt f. let below = all_below k e lt in omega (arith, below, f);
 }
@@ -58,18 +58,18 @@ no_place pairs filter d some ascend within other = record {
     below_filter = let le = within (length pairs - 1) d (omega arith) in omega (arith, le, other)
 
     all_below : All (λ (q : PairStats). q.filter < filter) pairs
-    all_below = last_tells ComesBefore (λ (q : PairStats). q.filter < filter) (λ a b before lt. let le = none_behind a b before in omega (arith, le, lt)) pairs ascend
+    all_below = last_implies_all ComesBefore (λ (q : PairStats). q.filter < filter) (λ a b before lt. let le = filters_ascend a b before in omega (arith, le, lt)) pairs ascend
         (λ last at. subst (λ (q : PairStats). q.filter < filter) (get_or_from_slice_get pairs (length pairs - 1) last d at) below_filter)
 
 pub none_later : (pairs : List PairStats) (filter joined : ℕ) → All (λ q. ComesBefore q (empty_pair filter joined)) pairs → All (λ (q : PairStats). q.filter ≤ filter) pairs
-none_later pairs filter joined all k d lt = none_behind (get_or pairs k d) (empty_pair filter joined) (all k d lt)
+none_later pairs filter joined all k d lt = filters_ascend (get_or pairs k d) (empty_pair filter joined) (all k d lt)
 
 -- ---- tables
 
 pub later_than_last_table : (tables : List TableStats) (place : ℕ) (d : TableStats) → 0 < length tables → AllPairs (λ (a b : TableStats). a.table < b.table) tables
     → ((get_or tables (length tables - 1) d).table < place) ↔ All (λ (t : TableStats). t.table < place) tables
 later_than_last_table tables place d some ascend = (
-  λ h. last_tells (λ (a b : TableStats). a.table < b.table) (λ (t : TableStats). t.table < place) (λ a b less lt. omega (arith, less, lt)) tables ascend
+  λ h. last_implies_all (λ (a b : TableStats). a.table < b.table) (λ (t : TableStats). t.table < place) (λ a b less lt. omega (arith, less, lt)) tables ascend
       (λ last at. subst (λ (t : TableStats). t.table < place) (get_or_from_slice_get tables (length tables - 1) last d at) h),
   λ all. all (length tables - 1) d (omega arith),
 )

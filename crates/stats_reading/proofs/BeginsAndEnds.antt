@@ -1,4 +1,4 @@
--- Some lines begin a table or a pair, and end the table or pair before it.
+-- Lines that begin a table or a pair. Such a line first ends the current table or pair, if there is one.
 use Rattle.std.proofs.Common.{◌≡◌, ◌≢◌, ◌↔◌, ℕ, zero, suc, ◌<◌, ◌≤◌, List, [], ◌∷◌, ◌++◌, length, get_or, map, refl, ap, sym, subst, ◌∙◌, arith, Option, Some, None}
 use Rattle.std.specs.Prelude.{slice_get, codes, decimal, Result}
 use Rattle.std.proofs.lemmas.Fmt.{decimal_injective}
@@ -6,7 +6,7 @@ use Rattle.std.proofs.lemmas.Option.{get_or_from_slice_get, slice_get_within}
 use Rattle.schema_types.specs.declared.types.Column.{Column}
 use Rattle.schema_types.specs.declared.types.Schema.{Schema}
 use Rattle.schema_types.specs.declared.types.Table.{Table}
-use Rattle.schema_types.specs.Validity.{upper_case, Differ, IsValid, IsValidTable as IsGoodTable}
+use Rattle.schema_types.specs.Validity.{upper_case, NamesAreDifferent, IsValid, IsValidTable as IsGoodTable}
 use Rattle.stats_file.specs.declared.types.StatsFile.{StatsFile}
 use Rattle.stats_file.specs.FileText.{column_name, name_at}
 use Rattle.stats_file.specs.Lines.{end_line, first_line, hex_text}
@@ -27,17 +27,17 @@ use Rattle.stats_reading.proofs.Begun.{pair_begun_valid, pair_ended_valid, table
 use Rattle.stats_reading.proofs.Counts.{tri, Tri}
 use Rattle.stats_reading.proofs.Counts.Tri.{before, same, behind}
 use Rattle.stats_reading.proofs.Edges.{close_end, close_first, close_pair, close_table, line_of_pair, line_of_table, open_end, open_first, open_pair, open_table, pair_closes, pair_reopens, table_closes, table_reopens, with_section}
-use Rattle.stats_reading.proofs.Going.{end_goes, step_goes, then_goes, EndsBefore, FilesGo, IsStep, Lines}
-use Rattle.stats_reading.proofs.Opens.{weaker}
-use Rattle.stats_reading.proofs.AppendedLists.{all_at, get_map, same_some}
+use Rattle.stats_reading.proofs.Going.{end_goes, step_goes, then_goes, EndsBefore, FilesByResult, IsStep, Lines}
+use Rattle.stats_reading.proofs.Opens.{nodes_are_cuts_remaining}
+use Rattle.stats_reading.proofs.AppendedLists.{all_at, get_map, both_some_same}
 use Rattle.stats_reading.proofs.Stepping.{ended, line_tag, spells_one, spells_two, weaker_valid}
 use Rattle.stats_reading.proofs.Tags.{tag}
-use Rattle.stats_reading.proofs.WordFacts.{hex_without, hex_word_blank}
+use Rattle.stats_reading.proofs.WordFacts.{hex_without, hex_word_without_blank}
 
 -- ---- no two tables, and no two columns of a table, have the same name
 
-pub one_place : {X : Type 0} (name : X → List ℕ) (xs : List X) (i j : ℕ) (x y : X) → Differ (map name xs) → slice_get xs i ≡ Some x → slice_get xs j ≡ Some y → hex_text (name x) ≡ hex_text (name y) → i ≡ j
-one_place {X} name xs i j x y differ at_x at_y e = by (tri i j)
+pub same_name_same_place : {X : Type 0} (name : X → List ℕ) (xs : List X) (i j : ℕ) (x y : X) → NamesAreDifferent (map name xs) → slice_get xs i ≡ Some x → slice_get xs j ≡ Some y → hex_text (name x) ≡ hex_text (name y) → i ≡ j
+same_name_same_place {X} name xs i j x y differ at_x at_y e = by (tri i j)
   where
     names : name x ≡ name y
     names = same_hex (name x) (name y) e
@@ -66,14 +66,14 @@ pub record TableEnding (at : Stage) (schema : Schema) (s : Draft) (line : List �
   pub ends : EndsBefore (TableEnds at s) (FileRemaining at schema s) (InFile schema) line
   pub valid : (m : Draft) → TableEnds at s m → KeepsRules schema (file_of_draft m [])
 
-moved : (P : Draft → Type 0) (a b : Draft) → b ≡ a → P a ↔ P b
-moved P a b e = (λ h. subst P (sym e) h, λ h. subst P e h)
+same_for_equal : (P : Draft → Type 0) (a b : Draft) → b ≡ a → P a ↔ P b
+same_for_equal P a b e = (λ h. subst P (sym e) h, λ h. subst P e h)
 
 pub ends_in_pairs : (schema : Schema) (s : Draft) (line : List ℕ) → IsValidDraft stage.Pairs schema s → PairEnding stage.Pairs schema s line
 ends_in_pairs schema s line valid = record {
   ends = record {
     may = λ file more h. (s, refl);
-    same = λ m e file more. moved (λ (x : Draft). InTable schema x file (line ∷ more)) s m e;
+    same = λ m e file more. same_for_equal (λ (x : Draft). InTable schema x file (line ∷ more)) s m e;
   };
   valid = λ m e. subst (IsValidSection schema) (sym e) valid;
 }
@@ -84,7 +84,7 @@ ends_in_cuts schema s line valid no_cut no_node = record {
     may = λ file more h. (pair_ended s, ((pair_closes schema s file line more h no_cut no_node).0, refl));
     same = λ m e file more. (
       λ h. subst (λ (x : Draft). InTable schema x file (line ∷ more)) (sym e.1) (pair_closes schema s file line more h no_cut no_node).1,
-      λ h. weaker schema s file (line ∷ more) (pair_reopens schema s file (line ∷ more) (subst (λ (x : Draft). InTable schema x file (line ∷ more)) e.1 h)),
+      λ h. nodes_are_cuts_remaining schema s file (line ∷ more) (pair_reopens schema s file (line ∷ more) (subst (λ (x : Draft). InTable schema x file (line ∷ more)) e.1 h)),
     );
   };
   valid = λ m e. subst (IsValidSection schema) (sym e.1) (pair_ended_valid schema s valid e.0);
@@ -93,9 +93,9 @@ ends_in_cuts schema s line valid no_cut no_node = record {
 pub ends_in_nodes : (schema : Schema) (s : Draft) (line : List ℕ) → IsValidDraft stage.Nodes schema s → tag line ≢ 99 → tag line ≢ 110 → PairEnding stage.Nodes schema s line
 ends_in_nodes schema s line valid no_cut no_node = record {
   ends = record {
-    may = λ file more h. (pair_ended s, ((pair_closes schema s file line more (weaker schema s file (line ∷ more) h) no_cut no_node).0, refl));
+    may = λ file more h. (pair_ended s, ((pair_closes schema s file line more (nodes_are_cuts_remaining schema s file (line ∷ more) h) no_cut no_node).0, refl));
     same = λ m e file more. (
-      λ h. subst (λ (x : Draft). InTable schema x file (line ∷ more)) (sym e.1) (pair_closes schema s file line more (weaker schema s file (line ∷ more) h) no_cut no_node).1,
+      λ h. subst (λ (x : Draft). InTable schema x file (line ∷ more)) (sym e.1) (pair_closes schema s file line more (nodes_are_cuts_remaining schema s file (line ∷ more) h) no_cut no_node).1,
       λ h. pair_reopens schema s file (line ∷ more) (subst (λ (x : Draft). InTable schema x file (line ∷ more)) e.1 h),
     );
   };
@@ -106,7 +106,7 @@ pub ends_in_tables : (schema : Schema) (s : Draft) (line : List ℕ) → IsValid
 ends_in_tables schema s line valid = record {
   ends = record {
     may = λ file more h. (s, refl);
-    same = λ m e file more. moved (λ (x : Draft). InFile schema x file (line ∷ more)) s m e;
+    same = λ m e file more. same_for_equal (λ (x : Draft). InFile schema x file (line ∷ more)) s m e;
   };
   valid = λ m e. subst (λ (x : Draft). KeepsRules schema (file_of_draft x [])) (sym e) valid;
 }
@@ -140,26 +140,26 @@ table_in_nodes schema s line pair no_pair = record { ends = after_pair_ends stag
 
 -- ---- lines that begin or end a table or a pair
 
-within : (columns : List Column) (i : ℕ) → i < length columns → (c : Column) × (slice_get columns i ≡ Some c)
-within [] i lt = absurd (omega arith)
-within (c ∷ columns) zero lt = (c, refl)
-within (c ∷ columns) (suc i) lt = within columns i (omega arith)
+column_exists : (columns : List Column) (i : ℕ) → i < length columns → (c : Column) × (slice_get columns i ≡ Some c)
+column_exists [] i lt = absurd (omega arith)
+column_exists (c ∷ columns) zero lt = (c, refl)
+column_exists (c ∷ columns) (suc i) lt = column_exists columns i (omega arith)
 
-abbrev pub place_of : Table → ℕ → ℕ → TableWithRows
-place_of table place rows = record { table = table; place = place; rows = rows }
+abbrev pub table_with_rows : Table → ℕ → ℕ → TableWithRows
+table_with_rows table place rows = record { table = table; place = place; rows = rows }
 
 same_place : (schema : Schema) (m : Draft) (a b : TableWithRows) → IsValid schema → MayBeTable schema m a → MayBeTable schema m b → table_words a ≡ table_words b → a ≡ b
 same_place schema m a b good may_a may_b e =
-    let place = one_place (λ (t : Table). t.name) schema.tables a.place b.place a.table b.table good.names may_a.exists may_b.exists (ap (λ (p : List ℕ × List ℕ). p.0) e) in
+    let place = same_name_same_place (λ (t : Table). t.name) schema.tables a.place b.place a.table b.table good.names may_a.exists may_b.exists (ap (λ (p : List ℕ × List ℕ). p.0) e) in
     let there : slice_get schema.tables b.place ≡ Some a.table = ap (λ n. slice_get schema.tables n) (sym place) ∙ may_a.exists in
-    let table = same_some a.table b.table (slice_get schema.tables b.place) there may_b.exists in
-    let few_a : a.rows ≤ 4000000 = may_a.few in
-    let few_b : b.rows ≤ 4000000 = may_b.few in
+    let table = both_some_same a.table b.table (slice_get schema.tables b.place) there may_b.exists in
+    let few_a : a.rows ≤ 4000000 = may_a.within_limit in
+    let few_b : b.rows ≤ 4000000 = may_b.within_limit in
     let rows = decimal_injective a.rows b.rows (omega arith) (omega arith) (ap (λ (p : List ℕ × List ℕ). p.1) e) in
-    ap (λ (x : Table). place_of x a.place a.rows) table ∙ ap (λ n. place_of b.table n a.rows) place ∙ ap (λ n. place_of b.table b.place n) rows
+    ap (λ (x : Table). table_with_rows x a.place a.rows) table ∙ ap (λ n. table_with_rows b.table n a.rows) place ∙ ap (λ n. table_with_rows b.table b.place n) rows
 
 pub table_goes : (at : Stage) (schema : Schema) (s t : Draft) (a b l : List ℕ) (r : Result (Unit {0}) Fault) → IsValid schema → TableEnding at schema s (ended l) → IsLineOf kind.Table a b l
-    → EndsAnd (TableEnds at s) (BeginsTable schema t (a, b)) r → FilesGo (FileRemaining at schema s) (FileRemaining stage.Pairs schema t) (IsValidDraft stage.Pairs schema t) (ended l) r
+    → EndsAnd (TableEnds at s) (BeginsTable schema t (a, b)) r → FilesByResult (FileRemaining at schema s) (FileRemaining stage.Pairs schema t) (IsValidDraft stage.Pairs schema t) (ended l) r
 table_goes at schema s t a b l r good ending is begins =
     then_goes ending.ends (BeginsTable schema t (a, b)) (FileRemaining stage.Pairs schema t) (IsValidDraft stage.Pairs schema t) r begins
     (λ m may takes. step_goes (step m) (IsValidDraft stage.Pairs schema t) r takes
@@ -172,17 +172,17 @@ table_goes at schema s t a b l r good ending is begins =
           record { value = o.value; is = o.is; may = o.may; rest = λ e. subst (λ (x : Draft). InTable schema x file more) (sym e) o.rest };
       closes = λ v file more e may h. close_table schema m v file more may (subst (λ (x : Draft). InTable schema x file more) e h);
       same = λ x y may_x may_y e. same_place schema m x y good may_x may_y e;
-      spells = λ v may. spells_two (codes "table ") (hex_text v.table.name) (decimal v.rows) a b l (hex_without v.table.name) (hex_word_blank a is.parts.0) is.whole;
+      spells = λ v may. spells_two (codes "table ") (hex_text v.table.name) (decimal v.rows) a b l (hex_without v.table.name) (hex_word_without_blank a is.parts.0) is.whole;
     }
 
 pub column_place : (table : Table) (i j : ℕ) → IsGoodTable table → i < length table.columns → j < length table.columns → hex_text (name_at table i) ≡ hex_text (name_at table j) → i ≡ j
 column_place table i j good lt_i lt_j e = at (slice_get table.columns i) (slice_get table.columns j) refl refl
   where
     at : (o p : Option Column) → slice_get table.columns i ≡ o → slice_get table.columns j ≡ p → i ≡ j
-    at None p e_i e_j = let found = (within table.columns i lt_i).1 in absurd (cc)
-    at (Some x) None e_i e_j = let found = (within table.columns j lt_j).1 in absurd (cc)
+    at None p e_i e_j = let found = (column_exists table.columns i lt_i).1 in absurd (cc)
+    at (Some x) None e_i e_j = let found = (column_exists table.columns j lt_j).1 in absurd (cc)
     at (Some x) (Some y) e_i e_j =
-        one_place (λ (c : Column). c.name) table.columns i j x y good.names e_i e_j
+        same_name_same_place (λ (c : Column). c.name) table.columns i j x y good.names e_i e_j
         (ap (λ (c : Option Column). hex_text (column_name c)) (sym e_i) ∙ e ∙ ap (λ (c : Option Column). hex_text (column_name c)) e_j)
 
 abbrev columns_of : ℕ → ℕ → ℕ × ℕ
@@ -195,29 +195,29 @@ same_columns table m x y good may_x may_y e =
     ap (λ (n : ℕ). columns_of n x.1) first ∙ ap (λ (n : ℕ). columns_of y.0 n) second
 
 pub pair_goes : (at : Stage) (schema : Schema) (s t : Draft) (a b l : List ℕ) (r : Result (Unit {0}) Fault) → IsValid schema → PairEnding at schema s (ended l) → IsLineOf kind.Pair a b l
-    → EndsAnd (PairEnds at s) (BeginsPairOf schema t (a, b)) r → FilesGo (FileRemaining at schema s) (FileRemaining stage.Whole schema t) (IsValidDraft stage.Whole schema t) (ended l) r
+    → EndsAnd (PairEnds at s) (BeginsPairOf schema t (a, b)) r → FilesByResult (FileRemaining at schema s) (FileRemaining stage.Whole schema t) (IsValidDraft stage.Whole schema t) (ended l) r
 pair_goes at schema s t a b l r good ending is begins =
     then_goes ending.ends (BeginsPairOf schema t (a, b)) (FileRemaining stage.Whole schema t) (IsValidDraft stage.Whole schema t) r begins
     (λ m may of_table.
     let v = ending.valid m may in
     let good_table = all_at IsGoodTable schema.tables m.section.table v.table good.tables v.exists in
     step_goes (step m v.table v.exists good_table) (IsValidDraft stage.Whole schema t) r (of_table v.table v.exists)
-    (λ c may_be begun. pair_begun_valid schema v.table m t c.0 c.1 v v.exists may_be begun))
+    (λ c may_be with_new_pair. pair_begun_valid schema v.table m t c.0 c.1 v v.exists may_be with_new_pair))
   where
     step : (m : Draft) (table : Table) → slice_get schema.tables m.section.table ≡ Some table → IsGoodTable table
         → IsStep (line_of_pair table) (pair_words table) (λ c. MayBePair table m c.0 c.1) (λ c. BeginsPair table m t c.0 c.1) (InTable schema m) (FileRemaining stage.Whole schema t) (ended l) (a, b)
     step m table exists good_table = record {
       opens = λ file more h.
           let o = open_pair schema table m file (ended l) more exists h (line_tag kind.Pair a b l is) in
-          record { value = o.value; is = o.is; may = o.may; rest = λ begun. o.rest t begun };
-      closes = λ c file more begun may h. close_pair schema table m t c file more exists begun h;
+          record { value = o.value; is = o.is; may = o.may; rest = λ with_new_pair. o.rest t with_new_pair };
+      closes = λ c file more with_new_pair may h. close_pair schema table m t c file more exists with_new_pair h;
       same = λ x y may_x may_y e. same_columns table m x y good_table may_x may_y e;
       spells = λ c may.
-          spells_two (codes "pair ") (hex_text (name_at table c.0)) (hex_text (name_at table c.1)) a b l (hex_without (name_at table c.0)) (hex_word_blank a is.parts.0) is.whole;
+          spells_two (codes "pair ") (hex_text (name_at table c.0)) (hex_text (name_at table c.1)) a b l (hex_without (name_at table c.0)) (hex_word_without_blank a is.parts.0) is.whole;
     }
 
 pub end_line_goes : (at : Stage) (schema : Schema) (s t : Draft) (a b l : List ℕ) (r : Result (Unit {0}) Fault) → TableEnding at schema s (ended l) → IsLineOf kind.End a b l
-    → Ends (TableEnds at s) t r → FilesGo (FileRemaining at schema s) (FileRemaining stage.Done schema t) (IsValidDraft stage.Done schema t) (ended l) r
+    → Ends (TableEnds at s) t r → FilesByResult (FileRemaining at schema s) (FileRemaining stage.Done schema t) (IsValidDraft stage.Done schema t) (ended l) r
 end_line_goes at schema s t a b l r ending is ends =
     end_goes ending.ends (FileRemaining stage.Done schema t) (IsValidDraft stage.Done schema t) t r ends (λ m may e.
     (λ file more. same m e file more, subst (λ (x : Draft). KeepsRules schema (file_of_draft x [])) e (ending.valid m may)))
@@ -237,7 +237,7 @@ first_valid schema k may = record { least = may.0; most = may.1; order = λ i j 
 
 pub first_goes : (schema : Schema) (s t : Draft) (a b l : List ℕ) (r : Result (Unit {0}) Fault) → IsValidDraft stage.Start schema s → IsLineOf kind.First a b l
     → ReadsValue number_word MayBeAccuracy (λ k. t ≡ record s { accuracy = k }) (a, b) r
-    → FilesGo (FileRemaining stage.Start schema s) (FileRemaining stage.Tables schema t) (IsValidDraft stage.Tables schema t) (ended l) r
+    → FilesByResult (FileRemaining stage.Start schema s) (FileRemaining stage.Tables schema t) (IsValidDraft stage.Tables schema t) (ended l) r
 first_goes schema s t a b l r valid is takes =
     step_goes step (IsValidDraft stage.Tables schema t) r takes (λ k may e. subst (λ (x : Draft). KeepsRules schema (file_of_draft x [])) (sym (from_empty k e)) (first_valid schema k may))
   where

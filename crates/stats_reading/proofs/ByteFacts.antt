@@ -9,7 +9,7 @@ use Rattle.schema_types.specs.declared.types.Kind.{Kind}
 use Rattle.schema_types.specs.declared.types.Kind.TheVariants as kinds
 use Rattle.schema_types.specs.declared.types.Schema.{Schema}
 use Rattle.schema_types.specs.declared.types.Table.{Table}
-use Rattle.schema_types.specs.Validity.{is_plain, IsValid}
+use Rattle.schema_types.specs.Validity.{has_only_word_bytes, IsValid}
 use Rattle.stats_file.specs.declared.types.Datum.{Datum}
 use Rattle.stats_file.specs.declared.types.Datum.TheVariants as datum
 use Rattle.stats_file.specs.declared.types.PairStats.{PairStats}
@@ -24,7 +24,7 @@ use Rattle.stats_words.proofs.TextFacts.{utf8_bytes}
 plain_byte : (c : ℕ) → (is_ascii_alphanumeric c || c == 95) ≡ true → c < 256
 plain_byte c is = grind (arith, nat_tests)
 
-plain_bytes : (name : List ℕ) → is_plain name ≡ true → AreBytes name
+plain_bytes : (name : List ℕ) → has_only_word_bytes name ≡ true → AreBytes name
 plain_bytes [] are = tt
 plain_bytes (c ∷ name) are =
     let parts = and_parts (is_ascii_alphanumeric c || c == 95) (list_all (λ c. is_ascii_alphanumeric c || c == 95) name) are in

@@ -16,7 +16,7 @@ use Rattle.stats_file.specs.declared.types.PairStats.{PairStats}
 use Rattle.stats_file.specs.Rules.{datum_cmp}
 use Rattle.stats_file.specs.Runs.{runs_of}
 use Rattle.stats_file.proofs.RunFacts.{runs_found}
-use Rattle.stats_words.specs.Splits.{IsSplitAt, Without}
+use Rattle.stats_words.specs.Splits.{IsSplitAt, HasNoByte}
 use Rattle.stats_words.proofs.SplitFacts.{not_without, split_same}
 use Rattle.stats_reading.specs.declared.draft.Draft.{Draft}
 use Rattle.stats_reading.specs.declared.fault.Fault.{Fault}
@@ -27,8 +27,8 @@ use Rattle.stats_reading.specs.declared.stages.Stage.TheVariants as stage
 use Rattle.stats_reading.specs.Drafts.{table_ended}
 use Rattle.stats_reading.specs.Kinds.{has_two, words_text, AreLineParts, SplitsInto}
 use Rattle.stats_reading.specs.Steps.{Ends, PairEnds, TableEnds}
-use Rattle.stats_reading.proofs.AppendedLists.{same_some}
-use Rattle.stats_reading.proofs.WordFacts.{hex_word_blank, value_blank}
+use Rattle.stats_reading.proofs.AppendedLists.{both_some_same}
+use Rattle.stats_reading.proofs.WordFacts.{hex_word_without_blank, value_without_blank}
 
 equal_itself : {K : Type 0} (R : K → K → Ordering) → IsTotalOrder R → (a : K) → R a a ≡ Equal
 equal_itself R total a = at (R a a) refl
@@ -38,47 +38,47 @@ equal_itself R total a = at (R a a) refl
     at Equal e = e
     at Greater e = let z : Greater ≡ Less = sym e ∙ total.antisymm a a ∙ ap ordering_reverse e in absurd (cc)
 
-pub equal_is : (a b : Datum) → (datum_cmp a b ≡ Equal) ↔ (a ≡ b)
-equal_is (datum.Int a) (datum.Int b) =
+pub equal_order_is_equality : (a b : Datum) → (datum_cmp a b ≡ Equal) ↔ (a ≡ b)
+equal_order_is_equality (datum.Int a) (datum.Int b) =
     (λ e. ap datum.Int (exact_signed a b e), λ e. let same : a ≡ b = cc in ap (λ x. int_cmp a x) (sym same) ∙ equal_itself int_cmp int_cmp_total a)
-equal_is (datum.Int a) (datum.Text b) = (λ e. absurd (cc), λ e. absurd (cc))
-equal_is (datum.Text a) (datum.Int b) = (λ e. absurd (cc), λ e. absurd (cc))
-equal_is (datum.Text a) (datum.Text b) =
+equal_order_is_equality (datum.Int a) (datum.Text b) = (λ e. absurd (cc), λ e. absurd (cc))
+equal_order_is_equality (datum.Text a) (datum.Int b) = (λ e. absurd (cc), λ e. absurd (cc))
+equal_order_is_equality (datum.Text a) (datum.Text b) =
     (λ e. ap datum.Text (exact_bytes a b e), λ e. let same : a ≡ b = cc in ap (λ x. slice_cmp nat_cmp a x) (sym same) ∙ equal_itself (slice_cmp nat_cmp) nat_list_cmp_total a)
 
-pub pieces_are : (a b : List ℕ) (p q : List Piece) → a ≡ expanded p → b ≡ expanded q → ArePieces p → ArePieces q → (p ≡ q) ↔ (a ≡ b)
-pieces_are a b p q is_a is_b are_p are_q =
+pub same_pieces_same_list : (a b : List ℕ) (p q : List Piece) → a ≡ expanded p → b ≡ expanded q → ArePieces p → ArePieces q → (p ≡ q) ↔ (a ≡ b)
+same_pieces_same_list a b p q is_a is_b are_p are_q =
     (λ e. is_a ∙ ap expanded e ∙ sym is_b, λ e. sym (runs_found a p are_p is_a) ∙ ap runs_of e ∙ runs_found b q are_q is_b)
 
-pub only_here : (pairs : List PairStats) (place : ℕ) (q : PairStats) (P : PairStats → Type 0) (b : Bool) → slice_get pairs place ≡ Some q → (IsTrue b ↔ P q)
+pub for_pair_at : (pairs : List PairStats) (place : ℕ) (q : PairStats) (P : PairStats → Type 0) (b : Bool) → slice_get pairs place ≡ Some q → (IsTrue b ↔ P q)
     → IsTrue b ↔ ((o : PairStats) → slice_get pairs place ≡ Some o → P o)
-only_here pairs place q P b is h =
-    (λ t o at. subst P (same_some q o (slice_get pairs place) is at) (h.0 t), λ all. h.1 (all q is))
+for_pair_at pairs place q P b is h =
+    (λ t o at. subst P (both_some_same q o (slice_get pairs place) is at) (h.0 t), λ all. h.1 (all q is))
 
-pub no_blank : (k : LineKind) (words : List ℕ) → has_two k ≡ true → Without 32 words → (first second : List ℕ) → AreLineParts k first second → words ≡ words_text k first second → ⊥
-no_blank kind.Table words two none first second are e = not_without 32 first second (subst (λ (w : List ℕ). Without 32 w) e none)
-no_blank kind.Pair words two none first second are e = not_without 32 first second (subst (λ (w : List ℕ). Without 32 w) e none)
-no_blank kind.Frequent words two none first second are e = not_without 32 first second (subst (λ (w : List ℕ). Without 32 w) e none)
+pub no_blank : (k : LineKind) (words : List ℕ) → has_two k ≡ true → HasNoByte 32 words → (first second : List ℕ) → AreLineParts k first second → words ≡ words_text k first second → ⊥
+no_blank kind.Table words two none first second are e = not_without 32 first second (subst (λ (w : List ℕ). HasNoByte 32 w) e none)
+no_blank kind.Pair words two none first second are e = not_without 32 first second (subst (λ (w : List ℕ). HasNoByte 32 w) e none)
+no_blank kind.Frequent words two none first second are e = not_without 32 first second (subst (λ (w : List ℕ). HasNoByte 32 w) e none)
 no_blank _ words two none first second are e = absurd (cc)
 
-pub parts_there : (k : LineKind) (words f s : List ℕ) → has_two k ≡ true → IsSplitAt 32 words f s → (first second : List ℕ) → AreLineParts k first second
+pub parts_at_split : (k : LineKind) (words f s : List ℕ) → has_two k ≡ true → IsSplitAt 32 words f s → (first second : List ℕ) → AreLineParts k first second
     → words ≡ words_text k first second → AreLineParts k f s
-parts_there kind.Table words f s two split first second are e =
-    let same = split_same 32 f first s second split.first (hex_word_blank first are.0) (sym split.whole ∙ e) in
+parts_at_split kind.Table words f s two split first second are e =
+    let same = split_same 32 f first s second split.first (hex_word_without_blank first are.0) (sym split.whole ∙ e) in
     subst (λ (x : List ℕ). AreLineParts kind.Table x s) (sym same.0) (subst (λ (x : List ℕ). AreLineParts kind.Table first x) (sym same.1) are)
-parts_there kind.Pair words f s two split first second are e =
-    let same = split_same 32 f first s second split.first (hex_word_blank first are.0) (sym split.whole ∙ e) in
+parts_at_split kind.Pair words f s two split first second are e =
+    let same = split_same 32 f first s second split.first (hex_word_without_blank first are.0) (sym split.whole ∙ e) in
     subst (λ (x : List ℕ). AreLineParts kind.Pair x s) (sym same.0) (subst (λ (x : List ℕ). AreLineParts kind.Pair first x) (sym same.1) are)
-parts_there kind.Frequent words f s two split first second are e =
-    let same = split_same 32 f first s second split.first (value_blank first are.0) (sym split.whole ∙ e) in
+parts_at_split kind.Frequent words f s two split first second are e =
+    let same = split_same 32 f first s second split.first (value_without_blank first are.0) (sym split.whole ∙ e) in
     subst (λ (x : List ℕ). AreLineParts kind.Frequent x s) (sym same.0) (subst (λ (x : List ℕ). AreLineParts kind.Frequent first x) (sym same.1) are)
-parts_there _ words f s two split first second are e = absurd (cc)
+parts_at_split _ words f s two split first second are e = absurd (cc)
 
-pub two_behind : (k : LineKind) (words f s : List ℕ) → has_two k ≡ true → IsSplitAt 32 words f s → SplitsInto k words f s
-two_behind k words f s two split = record {
+pub splits_in_two : (k : LineKind) (words f s : List ℕ) → has_two k ≡ true → IsSplitAt 32 words f s → SplitsInto k words f s
+splits_in_two k words f s two split = record {
   whole = split.whole ∙ sym (two_text k f s two);
-  alone = λ one. absurd (cc);
-  only = parts_there k words f s two split;
+  empty_second = λ one. absurd (cc);
+  only = parts_at_split k words f s two split;
 }
   where
     two_text : (k : LineKind) (f s : List ℕ) → has_two k ≡ true → words_text k f s ≡ f ++ (codes " " ++ s)

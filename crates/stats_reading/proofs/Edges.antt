@@ -17,12 +17,12 @@ use Rattle.stats_reading.specs.Drafts.{empty_draft, empty_pair, empty_section, p
 use Rattle.stats_reading.specs.Remaining.{file_of_draft, frequent_lines, pairs_left, section_of, tables_left, whole_line, CutsRemaining, InFile, InPair, InTable, NodesRemaining, WholeRemaining}
 use Rattle.stats_reading.proofs.Opens.{parts_here, rules_here, IsLineOfNext}
 use Rattle.stats_reading.proofs.RuleFacts.{section_rules, section_at}
-use Rattle.stats_reading.proofs.AppendedLists.{all_here, pairs_here, same_some}
+use Rattle.stats_reading.proofs.AppendedLists.{all_at_seam, pairs_at_seam, both_some_same}
 use Rattle.stats_reading.proofs.Tags.{after_pairs, from_tables, pair_opened, pair_rest, same_tag, tag, to_tables}
 
-pub whole_tree : (kind : Kind) (rows : ℕ) (cuts : List Datum) (nodes : List (List ℕ)) → IsHistogramOf kind rows cuts nodes → 0 < rows → (length cuts ≡ 32) × (length nodes ≡ 63)
-whole_tree kind zero cuts nodes is lt = absurd (omega arith)
-whole_tree kind (suc n) cuts nodes is lt = (is.leaves, is.all)
+pub histogram_sizes : (kind : Kind) (rows : ℕ) (cuts : List Datum) (nodes : List (List ℕ)) → IsHistogramOf kind rows cuts nodes → 0 < rows → (length cuts ≡ 32) × (length nodes ≡ 63)
+histogram_sizes kind zero cuts nodes is lt = absurd (omega arith)
+histogram_sizes kind (suc n) cuts nodes is lt = (is.leaves, is.all)
 
 pub same_pair : (p q : PairStats) → p.filter ≡ q.filter → p.joined ≡ q.joined → p.whole ≡ q.whole → p.frequent ≡ q.frequent → p.rest ≡ q.rest → p.cuts ≡ q.cuts → p.nodes ≡ q.nodes → p ≡ q
 same_pair p q a b c d e f g =
@@ -50,7 +50,7 @@ pair_closes schema s file line more h no_cut no_node =
     let same = same_pair h.pair s.pair g.filter g.joined tree.whole (g.frequent_is ∙ append-nil s.pair.frequent) tree.rest cuts nodes in
     let rules = rules_here (CutsRemaining s.pair) schema s file (line ∷ more) h in (
       λ some.
-          let both = whole_tree rules.is.filter.kind s.section.rows h.pair.cuts h.pair.nodes rules.is.tree some in
+          let both = histogram_sizes rules.is.filter.kind s.section.rows h.pair.cuts h.pair.nodes rules.is.tree some in
           (sym (ap length cuts) ∙ both.0, sym (ap length nodes) ∙ both.1),
       record {
         table = h.table;
@@ -136,12 +136,12 @@ open_table schema s file line more h t = by_tables h.tables h.is h.all
     by_tables [] is all = let first : line ≡ end_line = cc in absurd (omega (arith, same_tag line end_line first))
     by_tables (section ∷ rest) is all =
         let keeps = subst (KeepsRules schema) is h.keeps in
-        let at = all_here (IsSection schema) s.tables section rest keeps.tables in
+        let at = all_at_seam (IsSection schema) s.tables section rest keeps.tables in
         let lines = from_tables schema section rest at.table line more at.table_is all in
         record {
           value = record { table = at.table; place = section.table; rows = section.rows };
           is = lines.0;
-          may = record { exists = at.table_is; later = pairs_here (λ (a b : TableStats). a.table < b.table) s.tables section rest keeps.order; few = at.rows };
+          may = record { exists = at.table_is; later = pairs_at_seam (λ (a b : TableStats). a.table < b.table) s.tables section rest keeps.order; within_limit = at.rows };
           rest = record {
             table = at.table;
             exists = at.table_is;
@@ -157,7 +157,7 @@ pub close_table : (schema : Schema) (s : Draft) (v : TableWithRows) (file : Stat
     → InFile schema s file (line_of_table v ∷ more)
 close_table schema s v file more may h =
     let section = section_of (with_section s v) h.pairs in
-    let same : v.table ≡ h.table = same_some v.table h.table (slice_get schema.tables v.place) may.exists h.exists in
+    let same : v.table ≡ h.table = both_some_same v.table h.table (slice_get schema.tables v.place) may.exists h.exists in
     record {
       tables = section ∷ h.tables;
       keeps = h.keeps;
@@ -171,8 +171,8 @@ close_table schema s v file more may h =
 abbrev pub line_of_pair : Table → ℕ × ℕ → List ℕ
 line_of_pair table c = pair_line (name_at table c.0) (name_at table c.1)
 
-abbrev pub begun : Draft → ℕ → ℕ → Kind → ℕ → ℕ → Draft
-begun s filter joined kind same_filter_at same_joined_at = record s { pair = empty_pair filter joined; kind = kind; same_filter_at = same_filter_at; same_joined_at = same_joined_at }
+abbrev pub with_new_pair : Draft → ℕ → ℕ → Kind → ℕ → ℕ → Draft
+with_new_pair s filter joined kind same_filter_at same_joined_at = record s { pair = empty_pair filter joined; kind = kind; same_filter_at = same_filter_at; same_joined_at = same_joined_at }
 
 abbrev pub BeginsFor : Schema → Draft → StatsFile → List (List ℕ) → Table → ℕ × ℕ → Type 0
 BeginsFor schema s file more table c = (t : Draft) → BeginsPair table s t c.0 c.1 → InPair (WholeRemaining t.pair) schema t file more
@@ -189,14 +189,14 @@ open_pair_of schema s file line more h t = by_pairs h.pairs h.is h.all
         let keeps = subst (KeepsRules schema) is h.keeps in
         let section = section_of s (p ∷ rest) in
         let rules = section_rules schema h.table section (section_at schema s (p ∷ rest) h.tables keeps) h.exists in
-        let of_pair = all_here (IsPair h.table s.section.rows) s.section.pairs p rest rules.pairs in
+        let of_pair = all_at_seam (IsPair h.table s.section.rows) s.section.pairs p rest rules.pairs in
         record {
           value = (p.filter, p.joined);
           is = cc;
           may = record {
             filter_is = slice_get_within h.table.columns p.filter of_pair.filter of_pair.filter_is;
             joined_is = of_pair.joined;
-            later = pairs_here ComesBefore s.section.pairs p rest rules.order;
+            later = pairs_at_seam ComesBefore s.section.pairs p rest rules.order;
           };
           rest = λ u b. subst (λ (x : Draft). InPair (WholeRemaining x.pair) schema x file more) (sym b.whole) (record {
             table = h.table;
@@ -222,18 +222,18 @@ pub open_pair : (schema : Schema) (table : Table) (s : Draft) (file : StatsFile)
     → InTable schema s file (line ∷ more) → tag line ≡ 112 → IsLineOfNext (line_of_pair table) (λ c. MayBePair table s c.0 c.1) (BeginsFor schema s file more table) line
 open_pair schema table s file line more exists h t =
     subst (λ (x : Table). IsLineOfNext (line_of_pair x) (λ c. MayBePair x s c.0 c.1) (BeginsFor schema s file more x) line)
-    (same_some h.table table (slice_get schema.tables s.section.table) h.exists exists) (open_pair_of schema s file line more h t)
+    (both_some_same h.table table (slice_get schema.tables s.section.table) h.exists exists) (open_pair_of schema s file line more h t)
 
 pub close_pair : (schema : Schema) (table : Table) (s t : Draft) (c : ℕ × ℕ) (file : StatsFile) (more : List (List ℕ)) → slice_get schema.tables s.section.table ≡ Some table
     → BeginsPair table s t c.0 c.1 → InPair (WholeRemaining t.pair) schema t file more → InTable schema s file (line_of_pair table c ∷ more)
 close_pair schema table s t c file more exists b h = at (subst (λ (x : Draft). InPair (WholeRemaining x.pair) schema x file more) b.whole h)
   where
-    at : InPair (WholeRemaining (empty_pair c.0 c.1)) schema (begun s c.0 c.1 b.column.kind t.same_filter_at t.same_joined_at) file more → InTable schema s file (line_of_pair table c ∷ more)
+    at : InPair (WholeRemaining (empty_pair c.0 c.1)) schema (with_new_pair s c.0 c.1 b.column.kind t.same_filter_at t.same_joined_at) file more → InTable schema s file (line_of_pair table c ∷ more)
     at i =
         let g = i.left.grows in
         let p = i.pair in
         let after = pairs_left schema i.table i.pairs i.tables in
-        let same : table ≡ i.table = same_some table i.table (slice_get schema.tables s.section.table) exists i.exists in
+        let same : table ≡ i.table = both_some_same table i.table (slice_get schema.tables s.section.table) exists i.exists in
         record {
           table = i.table;
           exists = i.exists;
@@ -278,7 +278,7 @@ open_end schema s file line more h t = by_tables h.tables h.is h.all
     by_tables [] is all = (h.keeps, is, cc)
     by_tables (section ∷ rest) is all =
         let keeps = subst (KeepsRules schema) is h.keeps in
-        let at = all_here (IsSection schema) s.tables section rest keeps.tables in
+        let at = all_at_seam (IsSection schema) s.tables section rest keeps.tables in
         let lines = from_tables schema section rest at.table line more at.table_is all in
         absurd (omega (arith, same_tag line (table_line at.table.name section.rows) lines.0))
 

@@ -85,22 +85,22 @@ one_first {IsKind} {Next} line more h =
 one_put : {IsKind : List ℕ → Type 0} {Next : List (List ℕ) → Type 0} (line : List ℕ) (more : List (List ℕ)) → IsKind line → Next more → One IsKind Next (line ∷ more)
 one_put line more is h = record { line = line; others = more; line_is = is; next = h; all = refl }
 
-abbrev whole : List (List (List ℕ)) → List (List ℕ)
-whole parts = flat_map (λ part. part) parts
+abbrev concatenated : List (List (List ℕ)) → List (List ℕ)
+concatenated parts = flat_map (λ part. part) parts
 
 tables_first : (line : List ℕ) (more : List (List ℕ)) → TablesRemaining (line ∷ more) → (IsTableLine line × PairsRemaining more) ⊎ MayEnd (line ∷ more)
 tables_first line more h = by h.parts h.parts_are h.all
   where
-    by : (parts : List (List (List ℕ))) → AllByRecursion AreTableLines parts → line ∷ more ≡ whole parts ++ h.others → (IsTableLine line × PairsRemaining more) ⊎ MayEnd (line ∷ more)
+    by : (parts : List (List (List ℕ))) → AllByRecursion AreTableLines parts → line ∷ more ≡ concatenated parts ++ h.others → (IsTableLine line × PairsRemaining more) ⊎ MayEnd (line ∷ more)
     by [] are e = inr (e ∙ h.next)
     by (part ∷ parts) (is, are) e =
-        let f = e ∙ append_assoc part (whole parts) h.others ∙ ap (λ (p : List (List ℕ)). p ++ (whole parts ++ h.others)) is.all in
+        let f = e ∙ append_assoc part (concatenated parts) h.others ∙ ap (λ (p : List (List ℕ)). p ++ (concatenated parts ++ h.others)) is.all in
         let same : line ≡ is.head = cc in
         inl (
           subst IsTableLine (sym same) is.head_is,
           record {
             parts = is.pairs;
-            others = whole parts ++ h.others;
+            others = concatenated parts ++ h.others;
             parts_are = is.pairs_are;
             next = record { parts = parts; others = h.others; parts_are = are; next = h.next; all = refl };
             all = cc;
@@ -110,24 +110,24 @@ tables_first line more h = by h.parts h.parts_are h.all
 tables_put : (line : List ℕ) (more : List (List ℕ)) → IsTableLine line → PairsRemaining more → TablesRemaining (line ∷ more)
 tables_put line more is h =
     let t = h.next in
-    let part = line ∷ whole h.parts in
+    let part = line ∷ concatenated h.parts in
     record {
       parts = part ∷ t.parts;
       others = t.others;
       parts_are = (record { head = line; pairs = h.parts; head_is = is; pairs_are = h.parts_are; all = refl }, t.parts_are);
       next = t.next;
-      all = ap (λ (ls : List (List ℕ)). line ∷ ls) (h.all ∙ ap (λ (ls : List (List ℕ)). whole h.parts ++ ls) t.all) ∙ sym (append_assoc part (whole t.parts) t.others);
+      all = ap (λ (ls : List (List ℕ)). line ∷ ls) (h.all ∙ ap (λ (ls : List (List ℕ)). concatenated h.parts ++ ls) t.all) ∙ sym (append_assoc part (concatenated t.parts) t.others);
     }
 
 pairs_first : (line : List ℕ) (more : List (List ℕ)) → PairsRemaining (line ∷ more) → (IsPairLine line × One IsWholeLine FrequentRemaining more) ⊎ TablesRemaining (line ∷ more)
 pairs_first line more h = by h.parts h.parts_are h.all
   where
-    by : (parts : List (List (List ℕ))) → AllByRecursion ArePairLines parts → line ∷ more ≡ whole parts ++ h.others
+    by : (parts : List (List (List ℕ))) → AllByRecursion ArePairLines parts → line ∷ more ≡ concatenated parts ++ h.others
         → (IsPairLine line × One IsWholeLine FrequentRemaining more) ⊎ TablesRemaining (line ∷ more)
     by [] are e = inr (subst TablesRemaining (sym e) h.next)
     by (part ∷ parts) (is, are) e =
-        let after = whole parts ++ h.others in
-        let f = e ∙ append_assoc part (whole parts) h.others ∙ ap (λ (p : List (List ℕ)). p ++ after) is.all in
+        let after = concatenated parts ++ h.others in
+        let f = e ∙ append_assoc part (concatenated parts) h.others ∙ ap (λ (p : List (List ℕ)). p ++ after) is.all in
         let same : line ≡ is.head = cc in
         let tree = is.cuts ++ is.nodes in
         let split : (is.frequent ++ (is.rest ∷ tree)) ++ after ≡ is.frequent ++ (is.rest ∷ (is.cuts ++ (is.nodes ++ after))) =
@@ -176,7 +176,7 @@ pairs_put line more is h =
     let nodes = cuts.next in
     let t = nodes.next in
     let part = line ∷ (h.line ∷ (values.front ++ (rest.line ∷ (cuts.front ++ nodes.front)))) in
-    let after = whole t.parts ++ t.others in
+    let after = concatenated t.parts ++ t.others in
     let joined : (values.front ++ (rest.line ∷ (cuts.front ++ nodes.front))) ++ after ≡ values.front ++ (rest.line ∷ (cuts.front ++ (nodes.front ++ after))) =
     append_assoc values.front (rest.line ∷ (cuts.front ++ nodes.front)) after ∙ ap (λ (ls : List (List ℕ)). values.front ++ (rest.line ∷ ls)) (append_assoc cuts.front nodes.front after) in
     let behind : more ≡ h.line ∷ (values.front ++ (rest.line ∷ (cuts.front ++ (nodes.front ++ after)))) =
@@ -204,7 +204,7 @@ pairs_put line more is h =
         t.parts_are,
       );
       next = t.next;
-      all = ap (λ (ls : List (List ℕ)). line ∷ ls) (behind ∙ ap (λ (ls : List (List ℕ)). h.line ∷ ls) (sym joined)) ∙ sym (append_assoc part (whole t.parts) t.others);
+      all = ap (λ (ls : List (List ℕ)). line ∷ ls) (behind ∙ ap (λ (ls : List (List ℕ)). h.line ∷ ls) (sym joined)) ∙ sym (append_assoc part (concatenated t.parts) t.others);
     }
 
 -- ---- one line of a text of the grammar, and the stage after it
@@ -286,7 +286,7 @@ text_closes stage.Start kind.First line more is h = record {
   tables = h.parts;
   head_is = is;
   tables_are = h.parts_are;
-  all = ap (λ (ls : List (List ℕ)). line ∷ ls) (h.all ∙ ap (λ (ls : List (List ℕ)). whole h.parts ++ ls) h.next);
+  all = ap (λ (ls : List (List ℕ)). line ∷ ls) (h.all ∙ ap (λ (ls : List (List ℕ)). concatenated h.parts ++ ls) h.next);
 }
 text_closes stage.Tables kind.Table line more is h = tables_put line more is h
 text_closes stage.Tables kind.End line more is h = to_tables (line ∷ more) (ends_here line more is h)

@@ -13,17 +13,17 @@ use Rattle.stats_reading.specs.Drafts.{with_frequent, with_rest, with_whole, Has
 use Rattle.stats_reading.specs.Remaining.{file_of_draft, frequent_lines, section_of, histogram_lines, CutsRemaining, FrequentRemaining, WholeRemaining}
 use Rattle.stats_reading.specs.Valid.{HasKindAndIndexes, IsValidPair}
 use Rattle.stats_reading.proofs.Counts.{agrees_after, agrees_whole}
-use Rattle.stats_reading.proofs.NextFacts.{kind_of_pair, like_counts, same_count}
-use Rattle.stats_reading.proofs.Replaced.{all_replaced, length_replaced, map_replaced, still_all, still_differ}
+use Rattle.stats_reading.proofs.NextFacts.{kind_of_pair, same_filter_same_counts, same_count}
+use Rattle.stats_reading.proofs.Replaced.{all_replaced, length_replaced, map_replaced, values_still_hold, values_still_differ}
 use Rattle.stats_reading.proofs.RuleFacts.{pair_rules, with_pair, without_pair, PairRules}
-use Rattle.stats_reading.proofs.AppendedLists.{all_left, all_more, get_map, map_get, pairs_front, same_some}
+use Rattle.stats_reading.proofs.AppendedLists.{all_left, all_pushed, get_map, map_get, pairs_front, both_some_same}
 
 pub rules_of : (Left : PairStats → List (List ℕ) → Type 0) (schema : Schema) (s : Draft) (v : IsValidPair Left schema s) → PairRules v.table s.section.rows s.section.pairs v.pair
 rules_of Left schema s v = pair_rules schema v.table s v.pair [] [] v.exists v.keeps
 
-pub kept : (Left : PairStats → List (List ℕ) → Type 0) (schema : Schema) (s : Draft) (v : IsValidPair Left schema s) (p : PairStats) → PairRules v.table s.section.rows s.section.pairs p
+pub keeps_with_pair : (Left : PairStats → List (List ℕ) → Type 0) (schema : Schema) (s : Draft) (v : IsValidPair Left schema s) (p : PairStats) → PairRules v.table s.section.rows s.section.pairs p
     → KeepsRules schema (file_of_draft s (section_of s (p ∷ []) ∷ []))
-kept Left schema s v p rules = with_pair schema v.table s p v.exists (without_pair schema s (v.pair ∷ []) [] v.keeps) rules
+keeps_with_pair Left schema s v p rules = with_pair schema v.table s p v.exists (without_pair schema s (v.pair ∷ []) [] v.keeps) rules
 
 -- ---- the list of all rows
 
@@ -68,7 +68,7 @@ whole_grown schema s list v may =
         whole = refl;
         all = refl;
       };
-      keeps = kept (WholeRemaining s.pair) schema s v p new;
+      keeps = keeps_with_pair (WholeRemaining s.pair) schema s v p new;
     }
   where
     known_again : (table : Table) → HasKindAndIndexes table s → HasKindAndIndexes table (with_whole s list)
@@ -80,27 +80,27 @@ whole_grown schema s list v may =
 record Next (s : Draft) (p : PairStats) (f : Datum × List ℕ) (kind : Kind) : Type 0 where
   rest : List (Datum × List ℕ)
   are : AreFrequent kind s.section.rows (s.pair.frequent ++ f ∷ rest)
-  counts : (q : PairStats) → HasSameFilter s q → HaveSameFilterCounts p (record p { frequent = s.pair.frequent ++ f ∷ rest })
+  same_counts : (q : PairStats) → HasSameFilter s q → HaveSameFilterCounts p (record p { frequent = s.pair.frequent ++ f ∷ rest })
 
-next_alone : (s : Draft) (p : PairStats) (f : Datum × List ℕ) (old : List (Datum × List ℕ)) (kind : Kind) → kind ≡ s.kind → AreFrequent kind s.section.rows p.frequent
+next_for_new_filter : (s : Draft) (p : PairStats) (f : Datum × List ℕ) (old : List (Datum × List ℕ)) (kind : Kind) → kind ≡ s.kind → AreFrequent kind s.section.rows p.frequent
     → p.frequent ≡ s.pair.frequent ++ old → MayBeFrequent s f → slice_get s.section.pairs s.same_filter_at ≡ None → Next s p f kind
-next_alone s p f old kind same are is may none =
+next_for_new_filter s p f old kind same are is may none =
     let front = s.pair.frequent in
     let len = length-append front (f ∷ []) in
-    let few : length front < 32 = may.2.few in
+    let within_limit : length front < 32 = may.2.within_limit in
     record {
       rest = [];
       are = record {
-        few = omega arith;
+        within_limit = omega arith;
         differ = all_pairs_push (λ (a b : Datum × List ℕ). a.0 ≢ b.0) front f
             (pairs_front (λ (a b : Datum × List ℕ). a.0 ≢ b.0) front old (subst (AllPairs (λ (a b : Datum × List ℕ). a.0 ≢ b.0)) is are.differ)) may.2.differs;
-        values = all_more (λ (e : Datum × List ℕ). IsOfKind kind e.0) front f
+        values = all_pushed (λ (e : Datum × List ℕ). IsOfKind kind e.0) front f
             (all_left (λ (e : Datum × List ℕ). IsOfKind kind e.0) front old (subst (All (λ (e : Datum × List ℕ). IsOfKind kind e.0)) is are.values))
             (subst (λ k. IsOfKind k f.0) (sym same) may.0);
-        lists = all_more (λ (e : Datum × List ℕ). IsList s.section.rows e.1) front f
+        lists = all_pushed (λ (e : Datum × List ℕ). IsList s.section.rows e.1) front f
             (all_left (λ (e : Datum × List ℕ). IsList s.section.rows e.1) front old (subst (All (λ (e : Datum × List ℕ). IsList s.section.rows e.1)) is are.lists)) may.1;
       };
-      counts = λ q same_filter_at. absurd (cc);
+      same_counts = λ q same_filter_at. absurd (cc);
     }
 
 pub at_front : {X : Type 0} (front old : List X) (x : X) → slice_get (front ++ old) (length front) ≡ Some x → (rest : List X) × (old ≡ x ∷ rest)
@@ -108,9 +108,9 @@ at_front [] [] x is = absurd (cc)
 at_front [] (y ∷ old) x is = let same : y ≡ x = cc in (old, ap (λ z. z ∷ old) same)
 at_front (z ∷ front) old x is = at_front front old x is
 
-next_like : (s : Draft) (p q : PairStats) (f : Datum × List ℕ) (old : List (Datum × List ℕ)) (kind : Kind) → AreFrequent kind s.section.rows p.frequent → p.frequent ≡ s.pair.frequent ++ old
+next_as_in_pair : (s : Draft) (p q : PairStats) (f : Datum × List ℕ) (old : List (Datum × List ℕ)) (kind : Kind) → AreFrequent kind s.section.rows p.frequent → p.frequent ≡ s.pair.frequent ++ old
     → MayBeFrequent s f → HasSameFilter s q → HaveSameFilterCounts q p → Next s p f kind
-next_like s p q f old kind are is may same_filter_at same =
+next_as_in_pair s p q f old kind are is may same_filter_at same =
     let front = s.pair.frequent in
     let n = length front in
     let alike = may.2.alike q same_filter_at in
@@ -122,7 +122,7 @@ next_like s p q f old kind are is may same_filter_at same =
     let o = found.0 in
     let there : slice_get p.frequent n ≡ Some o = found.1 in
     let first : o.0 ≡ f.0 = found.2 in
-    let second : sum o.1 ≡ sum f.1 = same_some (sum o.1) (sum f.1) (slice_get (map (λ (e : Datum × List ℕ). sum e.1) p.frequent) n)
+    let second : sum o.1 ≡ sum f.1 = both_some_same (sum o.1) (sum f.1) (slice_get (map (λ (e : Datum × List ℕ). sum e.1) p.frequent) n)
     (get_map (λ (e : Datum × List ℕ). sum e.1) p.frequent n o there) total in
     let behind = at_front front old o (ap (λ (l : List (Datum × List ℕ)). slice_get l n) (sym is) ∙ there) in
     let rest = behind.0 in
@@ -132,16 +132,16 @@ next_like s p q f old kind are is may same_filter_at same =
     let totals : map (λ (e : Datum × List ℕ). sum e.1) p.frequent ≡ map (λ (e : Datum × List ℕ). sum e.1) (front ++ f ∷ rest) =
     ap (map (λ (e : Datum × List ℕ). sum e.1)) whole ∙ map_replaced (λ (e : Datum × List ℕ). sum e.1) front o f rest second in
     let len = ap length whole ∙ length_replaced front o f rest in
-    let few : length p.frequent ≤ 32 = are.few in
+    let within_limit : length p.frequent ≤ 32 = are.within_limit in
     record {
       rest = rest;
       are = record {
-        few = omega arith;
-        differ = still_differ p.frequent (front ++ f ∷ rest) values are.differ;
-        values = still_all (IsOfKind kind) p.frequent (front ++ f ∷ rest) values are.values;
+        within_limit = omega arith;
+        differ = values_still_differ p.frequent (front ++ f ∷ rest) values are.differ;
+        values = values_still_hold (IsOfKind kind) p.frequent (front ++ f ∷ rest) values are.values;
         lists = all_replaced (λ (e : Datum × List ℕ). IsList s.section.rows e.1) front o f rest (subst (All (λ (e : Datum × List ℕ). IsList s.section.rows e.1)) whole are.lists) may.1;
       };
-      counts = λ r liked. record { values = values; totals = totals; rest = refl; cuts = refl; nodes = refl };
+      same_counts = λ r liked. record { values = values; totals = totals; rest = refl; cuts = refl; nodes = refl };
     }
 
 next_of : (s : Draft) (p : PairStats) (f : Datum × List ℕ) (old : List (Datum × List ℕ)) (kind : Kind) → kind ≡ s.kind → AreFrequent kind s.section.rows p.frequent
@@ -149,10 +149,10 @@ next_of : (s : Draft) (p : PairStats) (f : Datum × List ℕ) (old : List (Datum
 next_of s p f old kind same are is may counts = by_like (slice_get s.section.pairs s.same_filter_at) refl
   where
     by_like : (o : Option PairStats) → slice_get s.section.pairs s.same_filter_at ≡ o → Next s p f kind
-    by_like None none = next_alone s p f old kind same are is may none
-    by_like (Some q) same_filter_at = next_like s p q f old kind are is may same_filter_at (counts q same_filter_at)
+    by_like None none = next_for_new_filter s p f old kind same are is may none
+    by_like (Some q) same_filter_at = next_as_in_pair s p q f old kind are is may same_filter_at (counts q same_filter_at)
 
--- a pair p keeps the rules, and other frequent values and another list of the other values keep them too. Then p with these lists keeps the rules
+-- if p keeps the rules, and new frequent values and a new rest list keep them, p with the new lists keeps the rules
 other_values : (table : Table) (s : Draft) (p : PairStats) (frequent : List (Datum × List ℕ)) (rest : List ℕ) → HasKindAndIndexes table s → PairRules table s.section.rows s.section.pairs p
     → p.filter ≡ s.pair.filter → AreFrequent s.kind s.section.rows frequent → IsList s.section.rows rest
     → ((q : PairStats) → HasSameFilter s q → HaveSameFilterCounts p (record p { frequent = frequent; rest = rest }))
@@ -181,7 +181,7 @@ frequent_grown schema s f v may =
     let own = v.left in
     let g = own.grows in
     let same = kind_of_pair v.table s v.pair s.section.rows v.known rules.is g.filter in
-    let next = next_of s v.pair f own.frequent rules.is.filter.kind same rules.is.frequent g.frequent_is may (like_counts v.table s v.pair s.section.rows v.known rules g.filter) in
+    let next = next_of s v.pair f own.frequent rules.is.filter.kind same rules.is.frequent g.frequent_is may (same_filter_same_counts v.table s v.pair s.section.rows v.known rules g.filter) in
     let p = record v.pair { frequent = s.pair.frequent ++ f ∷ next.rest } in
     record {
       table = v.table;
@@ -203,8 +203,8 @@ frequent_grown schema s f v may =
         whole = own.whole;
         all = refl;
       };
-      keeps = kept (FrequentRemaining s.pair) schema s v p
-          (other_values v.table s v.pair (s.pair.frequent ++ f ∷ next.rest) v.pair.rest v.known rules g.filter (subst (λ k. AreFrequent k s.section.rows (s.pair.frequent ++ f ∷ next.rest)) same next.are) rules.is.rest next.counts);
+      keeps = keeps_with_pair (FrequentRemaining s.pair) schema s v p
+          (other_values v.table s v.pair (s.pair.frequent ++ f ∷ next.rest) v.pair.rest v.known rules g.filter (subst (λ k. AreFrequent k s.section.rows (s.pair.frequent ++ f ∷ next.rest)) same next.are) rules.is.rest next.same_counts);
     }
   where
     known_again : (table : Table) → HasKindAndIndexes table s → HasKindAndIndexes table (with_frequent s f)
@@ -220,9 +220,9 @@ no_more (x ∷ xs) ys e = no_more xs ys (omega arith)
 fewer_values : (kind : Kind) (rows : ℕ) (front old : List (Datum × List ℕ)) → AreFrequent kind rows (front ++ old) → AreFrequent kind rows front
 fewer_values kind rows front old are =
     let len = length-append front old in
-    let few : length (front ++ old) ≤ 32 = are.few in
+    let within_limit : length (front ++ old) ≤ 32 = are.within_limit in
     record {
-      few = omega arith;
+      within_limit = omega arith;
       differ = pairs_front (λ (a b : Datum × List ℕ). a.0 ≢ b.0) front old are.differ;
       values = all_left (λ (e : Datum × List ℕ). IsOfKind kind e.0) front old are.values;
       lists = all_left (λ (e : Datum × List ℕ). IsList rows e.1) front old are.lists;
@@ -254,9 +254,9 @@ rest_grown schema s list v may =
           all = refl;
         },
       );
-      keeps = kept (FrequentRemaining s.pair) schema s v p
+      keeps = keeps_with_pair (FrequentRemaining s.pair) schema s v p
           (other_values v.table s v.pair front list v.known rules g.filter (subst (λ k. AreFrequent k s.section.rows front) same are) may.0
-          (λ q same_filter_at. counted v.pair own.frequent g.frequent_is q same_filter_at (like_counts v.table s v.pair s.section.rows v.known rules g.filter q same_filter_at)));
+          (λ q same_filter_at. counted v.pair own.frequent g.frequent_is q same_filter_at (same_filter_same_counts v.table s v.pair s.section.rows v.known rules g.filter q same_filter_at)));
     }
   where
     known_again : (table : Table) → HasKindAndIndexes table s → HasKindAndIndexes table (with_rest s list)

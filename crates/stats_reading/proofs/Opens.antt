@@ -1,4 +1,4 @@
--- If a file extends the draft, the draft may take the value of the file's next line in the current pair.
+-- If a file extends the draft, the value of the file's next line may come next in the current pair.
 use Rattle.std.proofs.Common.{◌≡◌, ℕ, List, [], ◌∷◌, ◌++◌, map, refl, ap, sym, subst, ◌∙◌, append-nil, append_assoc, Some}
 use Rattle.std.specs.Prelude.{slice_get}
 use Rattle.schema_types.specs.declared.types.Schema.{Schema}
@@ -15,7 +15,7 @@ use Rattle.stats_reading.specs.Remaining.{frequent_lines, pairs_left, rest_line,
 use Rattle.stats_reading.specs.Valid.{HasKindAndIndexes}
 use Rattle.stats_reading.proofs.NextFacts.{may_cut, may_frequent, may_node, may_rest, may_whole}
 use Rattle.stats_reading.proofs.RuleFacts.{pair_rules, PairRules}
-use Rattle.stats_reading.proofs.AppendedLists.{same_some}
+use Rattle.stats_reading.proofs.AppendedLists.{both_some_same}
 use Rattle.stats_reading.proofs.Tags.{after_pair, frequent_parts, tag, tree_parts, FrequentParts, TreeParts}
 
 pub record IsLineOfNext {X : Type 0} (line_of : X → List ℕ) (MayBe Rest : X → Type 0) (line : List ℕ) : Type 0 where
@@ -28,7 +28,7 @@ abbrev pub KnownIn : Schema → Draft → Type 0
 KnownIn schema s = (table : Table) → slice_get schema.tables s.section.table ≡ Some table → HasKindAndIndexes table s
 
 pub known_in : (schema : Schema) (s : Draft) (table : Table) → slice_get schema.tables s.section.table ≡ Some table → HasKindAndIndexes table s → KnownIn schema s
-known_in schema s table exists known other found = subst (λ t. HasKindAndIndexes t s) (same_some table other (slice_get schema.tables s.section.table) exists found) known
+known_in schema s table exists known other found = subst (λ t. HasKindAndIndexes t s) (both_some_same table other (slice_get schema.tables s.section.table) exists found) known
 
 pub rules_here : (Left : PairStats → List (List ℕ) → Type 0) (schema : Schema) (s : Draft) (file : StatsFile) (lines : List (List ℕ)) (h : InPair Left schema s file lines)
     → PairRules h.table s.section.rows s.section.pairs h.pair
@@ -36,8 +36,8 @@ rules_here Left schema s file lines h = pair_rules schema h.table s h.pair h.pai
 
 -- ---- cuts and nodes
 
-pub weaker : (schema : Schema) (s : Draft) (file : StatsFile) (lines : List (List ℕ)) → InPair (NodesRemaining s.pair) schema s file lines → InPair (CutsRemaining s.pair) schema s file lines
-weaker schema s file lines h = record {
+pub nodes_are_cuts_remaining : (schema : Schema) (s : Draft) (file : StatsFile) (lines : List (List ℕ)) → InPair (NodesRemaining s.pair) schema s file lines → InPair (CutsRemaining s.pair) schema s file lines
+nodes_are_cuts_remaining schema s file lines h = record {
   table = h.table;
   exists = h.exists;
   pair = h.pair;

@@ -12,7 +12,7 @@ use Rattle.stats_file.specs.declared.types.Datum.{Datum}
 use Rattle.stats_file.specs.declared.types.Datum.TheVariants as datum
 use Rattle.stats_file.specs.Rules.{datum_cmp}
 use Rattle.std.proofs.lemmas.Option.{slice_get-get_or}
-use Rattle.stats_reading.proofs.AppendedLists.{all_more}
+use Rattle.stats_reading.proofs.AppendedLists.{all_pushed}
 
 not_above : {K : Type 0} (R : K → K → Ordering) → IsTotalOrder R → (a b c : K) → R a b ≢ Greater → R b c ≢ Greater → R a c ≢ Greater
 not_above R total a b c below after = at (R a b) (R b c) refl refl
@@ -37,16 +37,16 @@ values_not_above (datum.Text a) (datum.Int b) (datum.Text c) e f = absurd (e ref
 values_not_above (datum.Text a) (datum.Text b) (datum.Int c) e f = absurd (f refl)
 values_not_above (datum.Text a) (datum.Text b) (datum.Text c) e f = not_above (slice_cmp nat_cmp) nat_list_cmp_total a b c e f
 
-itself : {K : Type 0} (R : K → K → Ordering) → IsTotalOrder R → (a : K) → R a a ≢ Greater
-itself R total a e = let z : Greater ≡ Less = sym e ∙ total.antisymm a a ∙ ap ordering_reverse e in absurd (cc)
+never_above_itself : {K : Type 0} (R : K → K → Ordering) → IsTotalOrder R → (a : K) → R a a ≢ Greater
+never_above_itself R total a e = let z : Greater ≡ Less = sym e ∙ total.antisymm a a ∙ ap ordering_reverse e in absurd (cc)
 
-pub value_itself : (a : Datum) → datum_cmp a a ≢ Greater
-value_itself (datum.Int a) = itself int_cmp int_cmp_total a
-value_itself (datum.Text a) = itself (slice_cmp nat_cmp) nat_list_cmp_total a
+pub value_never_above_itself : (a : Datum) → datum_cmp a a ≢ Greater
+value_never_above_itself (datum.Int a) = never_above_itself int_cmp int_cmp_total a
+value_never_above_itself (datum.Text a) = never_above_itself (slice_cmp nat_cmp) nat_list_cmp_total a
 
-pub last_tells : {X : Type 0} (R : X → X → Type 0) (Q : X → Type 0) → ((a b : X) → R a b → Q b → Q a) → (xs : List X) → AllPairs R xs
+pub last_implies_all : {X : Type 0} (R : X → X → Type 0) (Q : X → Type 0) → ((a b : X) → R a b → Q b → Q a) → (xs : List X) → AllPairs R xs
     → ((last : X) → slice_get xs (length xs - 1) ≡ Some last → Q last) → All Q xs
-last_tells {X} R Q carry xs sorted last k d lt = at (length xs - 1 - k) refl
+last_implies_all {X} R Q carry xs sorted last k d lt = at (length xs - 1 - k) refl
   where
     at : (n : ℕ) → length xs - 1 - k ≡ n → Q (get_or xs k d)
     at zero e =
@@ -57,13 +57,13 @@ last_tells {X} R Q carry xs sorted last k d lt = at (length xs - 1 - k) refl
         let z = get_or xs (length xs - 1) d in
         carry (get_or xs k d) z (sorted k (length xs - 1) d (omega arith) less) (last z (slice_get-get_or xs (length xs - 1) d less))
 
-pub none_above : (cuts : List Datum) (cut : Datum) → AllPairs (λ a b. datum_cmp a b ≢ Greater) cuts
+pub cuts_not_above : (cuts : List Datum) (cut : Datum) → AllPairs (λ a b. datum_cmp a b ≢ Greater) cuts
     → ((last : Datum) → slice_get cuts (length cuts - 1) ≡ Some last → datum_cmp last cut ≢ Greater) → All (λ a. datum_cmp a cut ≢ Greater) cuts
-none_above cuts cut sorted last = last_tells (λ a b. datum_cmp a b ≢ Greater) (λ a. datum_cmp a cut ≢ Greater) (λ a b. values_not_above a b cut) cuts sorted last
+cuts_not_above cuts cut sorted last = last_implies_all (λ a b. datum_cmp a b ≢ Greater) (λ a. datum_cmp a cut ≢ Greater) (λ a b. values_not_above a b cut) cuts sorted last
 
-pub all_same : {X : Type 0} (P : X → Type 0) (m : ℕ) (x : X) → P x → All P (replicate m x)
-all_same P zero x h = λ k d lt. absurd (omega arith)
-all_same P (suc m) x h = at (all_same P m x h)
+pub all_replicated : {X : Type 0} (P : X → Type 0) (m : ℕ) (x : X) → P x → All P (replicate m x)
+all_replicated P zero x h = λ k d lt. absurd (omega arith)
+all_replicated P (suc m) x h = at (all_replicated P m x h)
   where
     at : All P (replicate m x) → All P (x ∷ replicate m x)
     at rest zero d lt = h
@@ -73,4 +73,4 @@ pub pairs_padded : {X : Type 0} (R : X → X → Type 0) (m : ℕ) (xs : List X)
 pairs_padded R zero xs x pairs above own = subst (AllPairs R) (sym (append-nil xs)) pairs
 pairs_padded R (suc m) xs x pairs above own =
     subst (AllPairs R) (append_assoc xs (x ∷ []) (replicate m x))
-    (pairs_padded R m (xs ++ x ∷ []) x (all_pairs_push R xs x pairs above) (all_more (λ y. R y x) xs x above own) own)
+    (pairs_padded R m (xs ++ x ∷ []) x (all_pairs_push R xs x pairs above) (all_pushed (λ y. R y x) xs x above own) own)

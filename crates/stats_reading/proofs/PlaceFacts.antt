@@ -15,59 +15,59 @@ use Rattle.stats_words.specs.Runs.{list_text}
 use Rattle.stats_words.specs.Words.{Spells}
 use Rattle.stats_reading.specs.declared.draft.Draft.{Draft}
 use Rattle.stats_reading.specs.Drafts.{empty_pair, empty_section, frequent_words, pair_words, table_words, BeginsPair, FrequentFollows, IsNamed, MayBeFrequent, MayBePair, MayBeTable, TableWithRows, WasRead}
-use Rattle.stats_reading.proofs.Going.{two}
-use Rattle.stats_reading.proofs.BeginsAndEnds.{column_place, one_place, place_of}
+use Rattle.stats_reading.proofs.Going.{two_words_of_line}
+use Rattle.stats_reading.proofs.BeginsAndEnds.{column_place, same_name_same_place, table_with_rows}
 use Rattle.stats_reading.proofs.WordFacts.{same_datum, same_list}
 
 -- ---- columns
 
-abbrev pub IsColumn : Table → List ℕ → ℕ → Type 0
-IsColumn table word i = IsNamed (λ (c : Column). c.name) table.columns word (Some i)
+abbrev pub IsColumnNamed : Table → List ℕ → ℕ → Type 0
+IsColumnNamed table word i = IsNamed (λ (c : Column). c.name) table.columns word (Some i)
 
-pub column_within : (table : Table) (word : List ℕ) (i : ℕ) → IsColumn table word i → i < length table.columns
+pub column_within : (table : Table) (word : List ℕ) (i : ℕ) → IsColumnNamed table word i → i < length table.columns
 column_within table word i (x, at, is) = slice_get_within table.columns i x at
 
-column_word : (table : Table) (word : List ℕ) (i : ℕ) → IsColumn table word i → hex_text (name_at table i) ≡ word
+column_word : (table : Table) (word : List ℕ) (i : ℕ) → IsColumnNamed table word i → hex_text (name_at table i) ≡ word
 column_word table word i (x, at, is) = ap (λ (c : Option Column). hex_text (column_name c)) at ∙ sym is
 
-pub no_pair : (table : Table) (s : Draft) (filter joined : List ℕ) (i j : ℕ) → IsValidTable table → IsColumn table filter i → IsColumn table joined j
+pub no_pair : (table : Table) (s : Draft) (filter joined : List ℕ) (i j : ℕ) → IsValidTable table → IsColumnNamed table filter i → IsColumnNamed table joined j
     → (All (λ q. ComesBefore q (empty_pair i j)) s.section.pairs → ⊥) → (x : ℕ × ℕ) → MayBePair table s x.0 x.1 → pair_words table x ≢ (filter, joined)
 no_pair table s filter joined i j good is_i is_j no' x may e =
     let first = column_place table x.0 i good may.filter_is (column_within table filter i is_i) (ap (λ (p : List ℕ × List ℕ). p.0) e ∙ sym (column_word table filter i is_i)) in
     let second = column_place table x.1 j good may.joined_is (column_within table joined j is_j) (ap (λ (p : List ℕ × List ℕ). p.1) e ∙ sym (column_word table joined j is_j)) in
     no' (subst (λ n. All (λ q. ComesBefore q (empty_pair n j)) s.section.pairs) first (subst (λ n. All (λ q. ComesBefore q (empty_pair x.0 n)) s.section.pairs) second may.later))
 
-pub some_pair : (table : Table) (s t : Draft) (filter joined : List ℕ) (i j : ℕ) → IsColumn table filter i → IsColumn table joined j
+pub some_pair : (table : Table) (s t : Draft) (filter joined : List ℕ) (i j : ℕ) → IsColumnNamed table filter i → IsColumnNamed table joined j
     → All (λ q. ComesBefore q (empty_pair i j)) s.section.pairs → BeginsPair table s t i j
     → WasRead (pair_words table) (λ c. MayBePair table s c.0 c.1) (λ c. BeginsPair table s t c.0 c.1) (filter, joined)
 some_pair table s t filter joined i j is_i is_j later begun = record {
   value = (i, j);
   may = record { filter_is = column_within table filter i is_i; joined_is = column_within table joined j is_j; later = later };
-  spelled = ap (λ (x : List ℕ). two x (hex_text (name_at table j))) (column_word table filter i is_i) ∙ ap (λ (x : List ℕ). two filter x) (column_word table joined j is_j);
+  spelled = ap (λ (x : List ℕ). two_words_of_line x (hex_text (name_at table j))) (column_word table filter i is_i) ∙ ap (λ (x : List ℕ). two_words_of_line filter x) (column_word table joined j is_j);
   after = begun;
 }
 
 -- ---- tables
 
-abbrev pub IsTable : Schema → List ℕ → ℕ → Type 0
-IsTable schema word i = IsNamed (λ (t : Table). t.name) schema.tables word (Some i)
+abbrev pub IsTableNamed : Schema → List ℕ → ℕ → Type 0
+IsTableNamed schema word i = IsNamed (λ (t : Table). t.name) schema.tables word (Some i)
 
-pub table_within : (schema : Schema) (word : List ℕ) (i : ℕ) → IsTable schema word i → i < length schema.tables
+pub table_within : (schema : Schema) (word : List ℕ) (i : ℕ) → IsTableNamed schema word i → i < length schema.tables
 table_within schema word i (x, at, is) = slice_get_within schema.tables i x at
 
-pub no_table : (schema : Schema) (s : Draft) (name rows : List ℕ) (i : ℕ) → IsValid schema → IsTable schema name i → (All (λ t. t.table < i) s.tables → ⊥)
+pub no_table : (schema : Schema) (s : Draft) (name rows : List ℕ) (i : ℕ) → IsValid schema → IsTableNamed schema name i → (All (λ t. t.table < i) s.tables → ⊥)
     → (x : TableWithRows) → MayBeTable schema s x → table_words x ≢ (name, rows)
 no_table schema s name rows i good (t, at, is) no' x may e =
-    let same = one_place (λ (u : Table). u.name) schema.tables x.place i x.table t good.names may.exists at (ap (λ (p : List ℕ × List ℕ). p.0) e ∙ is) in
+    let same = same_name_same_place (λ (u : Table). u.name) schema.tables x.place i x.table t good.names may.exists at (ap (λ (p : List ℕ × List ℕ). p.0) e ∙ is) in
     no' (subst (λ n. All (λ u. u.table < n) s.tables) same may.later)
 
-pub some_table : (schema : Schema) (s t : Draft) (name rows : List ℕ) (i n : ℕ) → IsTable schema name i → Spells decimal (λ m. m ≤ most_rows) rows (Some n)
+pub some_table : (schema : Schema) (s t : Draft) (name rows : List ℕ) (i n : ℕ) → IsTableNamed schema name i → Spells decimal (λ m. m ≤ most_rows) rows (Some n)
     → All (λ u. u.table < i) s.tables → t ≡ record s { section = empty_section i n }
     → WasRead table_words (MayBeTable schema s) (λ v. t ≡ record s { section = empty_section v.place v.rows }) (name, rows)
 some_table schema s t name rows i n (table, at, is) number later after = record {
-  value = place_of table i n;
-  may = record { exists = at; later = later; few = number.0 };
-  spelled = ap (λ (x : List ℕ). two x (decimal n)) (sym is) ∙ ap (λ (x : List ℕ). two name x) number.1;
+  value = table_with_rows table i n;
+  may = record { exists = at; later = later; within_limit = number.0 };
+  spelled = ap (λ (x : List ℕ). two_words_of_line x (decimal n)) (sym is) ∙ ap (λ (x : List ℕ). two_words_of_line name x) number.1;
   after = after;
 }
 

@@ -11,7 +11,7 @@ use Rattle.stats_file.specs.FileText.{file_lines, file_text, pair_lines, section
 use Rattle.stats_file.specs.Grammar.{IsText}
 use Rattle.stats_file.specs.Lines.{end_line}
 use Rattle.stats_file.specs.Rules.{KeepsRules}
-use Rattle.stats_words.specs.Splits.{IsSplitAt, Without}
+use Rattle.stats_words.specs.Splits.{IsSplitAt, HasNoByte}
 use Rattle.stats_reading.specs.declared.draft.Draft.{Draft}
 use Rattle.stats_reading.specs.declared.fault.Fault.{Fault}
 use Rattle.stats_reading.specs.declared.fault.Fault.TheVariants as fault
@@ -22,7 +22,7 @@ use Rattle.stats_reading.specs.Remaining.{file_of_draft, section_of, CutsRemaini
 use Rattle.stats_reading.specs.Refusals.{refusal_of}
 use Rattle.stats_reading.specs.Stages.{TextRemaining}
 use Rattle.stats_reading.specs.Valid.{IsValidDraft, IsValidPair}
-use Rattle.stats_reading.proofs.AppendedLists.{none_left}
+use Rattle.stats_reading.proofs.AppendedLists.{append_empty}
 
 abbrev Lines : Type 0
 Lines = List (List ℕ)
@@ -32,7 +32,7 @@ pub record IsRead (schema : Schema) (bytes rest : List ℕ) (s : Draft) (line : 
   pub lines : Lines
   pub whole : bytes ≡ concat lines ++ rest
   pub here : line ≡ length lines + 1
-  pub few : line + length rest ≤ length bytes + 1
+  pub within_limit : line + length rest ≤ length bytes + 1
   pub valid : IsValidDraft s.stage schema s
   pub files : (file : StatsFile) (more : Lines) → (KeepsRules schema file × (lines ++ more ≡ file_lines schema file)) ↔ FileRemaining s.stage schema s file more
   pub texts : (more : Lines) → IsText (lines ++ more) ↔ TextRemaining s.stage more
@@ -56,14 +56,14 @@ pub read_more : (schema : Schema) (bytes rest text others : List ℕ) (s t : Dra
 read_more schema bytes rest text others s t line h split goes =
     let lines = h.lines ++ ended text ∷ [] in
     let here : line ≡ length h.lines + 1 = h.here in
-    let few : line + length rest ≤ length bytes + 1 = h.few in
+    let within_limit : line + length rest ≤ length bytes + 1 = h.within_limit in
     let own = ap length split.whole ∙ length-append text (10 ∷ others) in
     record {
       lines = lines;
       whole = h.whole ∙ ap (λ (x : List ℕ). concat h.lines ++ x) (split.whole ∙ with_end text others) ∙ sym (append_assoc (concat h.lines) (ended text) others)
           ∙ ap (λ (x : List ℕ). x ++ others) (ap (λ (x : List ℕ). concat h.lines ++ x) (sym (append-nil (ended text))) ∙ sym (concat_append h.lines (ended text ∷ [])));
       here = omega (arith, length-append h.lines (ended text ∷ []));
-      few = omega arith;
+      within_limit = omega arith;
       valid = goes.valid;
       files = λ file more. (
         λ k. (goes.files file more).0 ((h.files file (ended text ∷ more)).0 (k.0, sym (one_more h.lines (ended text) more) ∙ k.1)),
@@ -82,10 +82,10 @@ record FileExtends (at : Stage) (schema : Schema) (s : Draft) : Type 0 where
   more : Lines
   left : FileRemaining at schema s file more
 
-abbrev last : Lines
-last = end_line ∷ []
+abbrev end_lines : Lines
+end_lines = end_line ∷ []
 
-in_pair : (Left : PairStats → Lines → Type 0) (schema : Schema) (s : Draft) (v : IsValidPair Left schema s) → InPair Left schema s (file_of_draft s (section_of s (v.pair ∷ []) ∷ [])) (v.own ++ last)
+in_pair : (Left : PairStats → Lines → Type 0) (schema : Schema) (s : Draft) (v : IsValidPair Left schema s) → InPair Left schema s (file_of_draft s (section_of s (v.pair ∷ []) ∷ [])) (v.own ++ end_lines)
 in_pair Left schema s v = record {
   table = v.table;
   exists = v.exists;
@@ -102,27 +102,27 @@ in_pair Left schema s v = record {
 abbrev smallest : StatsFile
 smallest = record { accuracy = 1; tables = [] }
 
-begun_at : (at : Stage) (schema : Schema) (s : Draft) → IsValidDraft at schema s → FileExtends at schema s
-begun_at stage.Start schema s v = record {
+some_file_extends : (at : Stage) (schema : Schema) (s : Draft) → IsValidDraft at schema s → FileExtends at schema s
+some_file_extends stage.Start schema s v = record {
   file = smallest;
   more = file_lines schema smallest;
   left = (record { least = omega arith; most = omega arith; order = λ i j d less lt. absurd (omega arith); tables = λ i d lt. absurd (omega arith) }, refl);
 }
-begun_at stage.Tables schema s v = record { file = file_of_draft s []; more = last; left = record { tables = []; keeps = v; is = refl; all = refl } }
-begun_at stage.Pairs schema s v = record {
+some_file_extends stage.Tables schema s v = record { file = file_of_draft s []; more = end_lines; left = record { tables = []; keeps = v; is = refl; all = refl } }
+some_file_extends stage.Pairs schema s v = record {
   file = file_of_draft s (section_of s [] ∷ []);
-  more = last;
+  more = end_lines;
   left = record { table = v.table; exists = v.exists; pairs = []; tables = []; keeps = v.keeps; is = refl; all = refl };
 }
-begun_at stage.Whole schema s v = record { file = file_of_draft s (section_of s (v.pair ∷ []) ∷ []); more = v.own ++ last; left = in_pair (WholeRemaining s.pair) schema s v }
-begun_at stage.Frequent schema s v = record { file = file_of_draft s (section_of s (v.pair ∷ []) ∷ []); more = v.own ++ last; left = in_pair (FrequentRemaining s.pair) schema s v }
-begun_at stage.Cuts schema s v = record { file = file_of_draft s (section_of s (v.pair ∷ []) ∷ []); more = v.own ++ last; left = in_pair (CutsRemaining s.pair) schema s v }
-begun_at stage.Nodes schema s v = record { file = file_of_draft s (section_of s (v.pair ∷ []) ∷ []); more = v.own ++ last; left = in_pair (NodesRemaining s.pair) schema s v }
-begun_at stage.Done schema s v = record { file = file_of_draft s []; more = []; left = (v, refl, refl) }
+some_file_extends stage.Whole schema s v = record { file = file_of_draft s (section_of s (v.pair ∷ []) ∷ []); more = v.own ++ end_lines; left = in_pair (WholeRemaining s.pair) schema s v }
+some_file_extends stage.Frequent schema s v = record { file = file_of_draft s (section_of s (v.pair ∷ []) ∷ []); more = v.own ++ end_lines; left = in_pair (FrequentRemaining s.pair) schema s v }
+some_file_extends stage.Cuts schema s v = record { file = file_of_draft s (section_of s (v.pair ∷ []) ∷ []); more = v.own ++ end_lines; left = in_pair (CutsRemaining s.pair) schema s v }
+some_file_extends stage.Nodes schema s v = record { file = file_of_draft s (section_of s (v.pair ∷ []) ∷ []); more = v.own ++ end_lines; left = in_pair (NodesRemaining s.pair) schema s v }
+some_file_extends stage.Done schema s v = record { file = file_of_draft s []; more = []; left = (v, refl, refl) }
 
 read_up_to : (schema : Schema) (bytes rest : List ℕ) (s : Draft) (line : ℕ) (h : IsRead schema bytes rest s line) → IsReadUpTo schema bytes h.lines rest
 read_up_to schema bytes rest s line h =
-    let b = begun_at s.stage schema s h.valid in
+    let b = some_file_extends s.stage schema s h.valid in
     let both = (h.files b.file b.more).1 b.left in
     record { whole = h.whole; begins = record { file = b.file; keeps = both.0; more = b.more; whole = both.1 } }
 
@@ -159,14 +159,14 @@ refused schema bytes rest text others s t line fault.Rule h split breaks = recor
 }
 refused schema bytes rest text others s t line fault.NoMemory h split any = tt
 
-not_nothing : (xs : Lines) → [] ≡ xs ++ last → ⊥
-not_nothing xs e = let none = (none_left xs last e).1 in absurd (cc)
+not_nothing : (xs : Lines) → [] ≡ xs ++ end_lines → ⊥
+not_nothing xs e = let none = (append_empty xs end_lines e).1 in absurd (cc)
 
-not_left : (own before : Lines) → [] ≡ own ++ (before ++ last) → ⊥
-not_left own before e = not_nothing before (sym (none_left own (before ++ last) e).1)
+not_left : (own before : Lines) → [] ≡ own ++ (before ++ end_lines) → ⊥
+not_left own before e = not_nothing before (sym (append_empty own (before ++ end_lines) e).1)
 
-not_behind : (own pairs tables : Lines) → [] ≡ own ++ (pairs ++ (tables ++ last)) → ⊥
-not_behind own pairs tables e = not_left pairs tables (sym (none_left own (pairs ++ (tables ++ last)) e).1)
+not_behind : (own pairs tables : Lines) → [] ≡ own ++ (pairs ++ (tables ++ end_lines)) → ⊥
+not_behind own pairs tables e = not_left pairs tables (sym (append_empty own (pairs ++ (tables ++ end_lines)) e).1)
 
 more_left : (at : Stage) (schema : Schema) (s : Draft) (file : StatsFile) → (at ≡ stage.Done → ⊥) → FileRemaining at schema s file [] → ⊥
 unfolding file_lines
@@ -179,7 +179,7 @@ more_left stage.Cuts schema s file other h = not_behind h.own (flat_map (pair_li
 more_left stage.Nodes schema s file other h = not_behind h.own (flat_map (pair_lines h.table) h.pairs) (flat_map (section_lines schema) h.tables) h.all
 more_left stage.Done schema s file other h = other refl
 
-pub too_early : (schema : Schema) (bytes rest : List ℕ) (s : Draft) (line : ℕ) → IsRead schema bytes rest s line → Without 10 rest → ((s.stage ≡ stage.Done) × (rest ≡ []) → ⊥)
+pub too_early : (schema : Schema) (bytes rest : List ℕ) (s : Draft) (line : ℕ) → IsRead schema bytes rest s line → HasNoByte 10 rest → ((s.stage ≡ stage.Done) × (rest ≡ []) → ⊥)
     → FileAnswers schema bytes (Err (error.Syntax line))
 too_early schema bytes rest s line h none other = record {
   lines = h.lines;

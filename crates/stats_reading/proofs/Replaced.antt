@@ -34,11 +34,11 @@ same_lengths (x ∷ xs) (y ∷ ys) e =
     let rest : map (λ (f : Datum × List ℕ). f.0) xs ≡ map (λ (f : Datum × List ℕ). f.0) ys = cc in
     ap suc (same_lengths xs ys rest)
 
-pub still_differ : (xs ys : List (Datum × List ℕ)) → map (λ (f : Datum × List ℕ). f.0) xs ≡ map (λ (f : Datum × List ℕ). f.0) ys → AllPairs (λ (a b : Datum × List ℕ). a.0 ≢ b.0) xs
+pub values_still_differ : (xs ys : List (Datum × List ℕ)) → map (λ (f : Datum × List ℕ). f.0) xs ≡ map (λ (f : Datum × List ℕ). f.0) ys → AllPairs (λ (a b : Datum × List ℕ). a.0 ≢ b.0) xs
     → AllPairs (λ (a b : Datum × List ℕ). a.0 ≢ b.0) ys
-still_differ xs ys e h i j d less lt = λ same.
+values_still_differ xs ys e h i j d less lt = λ same.
     h i j d less (omega (arith, same_lengths xs ys e)) (same_firsts xs ys i d e ∙ same ∙ sym (same_firsts xs ys j d e))
 
-pub still_all : (P : Datum → Type 0) (xs ys : List (Datum × List ℕ)) → map (λ (f : Datum × List ℕ). f.0) xs ≡ map (λ (f : Datum × List ℕ). f.0) ys → All (λ (f : Datum × List ℕ). P f.0) xs
+pub values_still_hold : (P : Datum → Type 0) (xs ys : List (Datum × List ℕ)) → map (λ (f : Datum × List ℕ). f.0) xs ≡ map (λ (f : Datum × List ℕ). f.0) ys → All (λ (f : Datum × List ℕ). P f.0) xs
     → All (λ (f : Datum × List ℕ). P f.0) ys
-still_all P xs ys e h k d lt = subst P (same_firsts xs ys k d e) (h k d (omega (arith, same_lengths xs ys e)))
+values_still_hold P xs ys e h k d lt = subst P (same_firsts xs ys k d e) (h k d (omega (arith, same_lengths xs ys e)))

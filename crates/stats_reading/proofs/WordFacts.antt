@@ -19,10 +19,10 @@ use Rattle.stats_file.specs.Rules.{IsList, IsOfKind}
 use Rattle.stats_file.specs.Runs.{runs_of}
 use Rattle.stats_file.proofs.WordFacts.{numeral}
 use Rattle.stats_words.specs.Runs.{list_text}
-use Rattle.stats_words.specs.Splits.{Without}
+use Rattle.stats_words.specs.Splits.{HasNoByte}
 use Rattle.stats_words.specs.Words.{Spells}
 use Rattle.stats_words.proofs.ListWordFacts.{numeral_without}
-use Rattle.stats_words.proofs.RunTexts.{expanded_runs, is_run_word, no_blank_in, runs_fall, same_run_of, small_runs, IsSmall}
+use Rattle.stats_words.proofs.RunTexts.{expanded_runs, is_run_word, no_blank_in, runs_fall, same_run_of, runs_are_within, IsRunWithin}
 use Rattle.stats_words.proofs.SplitFacts.{front_without, not_without, split_same}
 use Rattle.stats_words.proofs.TextFacts.{same_hex}
 
@@ -42,19 +42,19 @@ same_datum (kinds.Text most) (datum.Int a) b f g e = absurd f
 same_datum (kinds.Text most) (datum.Text a) (datum.Int b) f g e = absurd g
 same_datum (kinds.Text most) (datum.Text a) (datum.Text b) f g e = ap datum.Text (same_hex a b e)
 
-dash_is_none : (most : ℕ) (m : Piece) (ms : List Piece) → most < 2 ^ 64 → IsSmall most m → codes "-" ≢ runs_text (m ∷ ms)
+dash_is_none : (most : ℕ) (m : Piece) (ms : List Piece) → most < 2 ^ 64 → IsRunWithin most m → codes "-" ≢ runs_text (m ∷ ms)
 dash_is_none most m ms fits small e =
     let is = is_run_word most m fits small in
     let whole : codes "-" ≡ is.value ++ (42 ∷ (is.count ++ flat_map (λ (next : Piece). codes " " ++ run_text next) ms)) =
     e ∙ ap (λ (w : List ℕ). w ++ flat_map (λ (next : Piece). codes " " ++ run_text next) ms) is.whole
     ∙ append_assoc is.value (42 ∷ is.count) (flat_map (λ (next : Piece). codes " " ++ run_text next) ms) in
-    not_without 42 is.value (is.count ++ flat_map (λ (next : Piece). codes " " ++ run_text next) ms) (subst (λ (w : List ℕ). Without 42 w) whole no_star)
+    not_without 42 is.value (is.count ++ flat_map (λ (next : Piece). codes " " ++ run_text next) ms) (subst (λ (w : List ℕ). HasNoByte 42 w) whole no_star)
   where
-    no_star : Without 42 (codes "-")
+    no_star : HasNoByte 42 (codes "-")
     no_star zero d lt = λ f. omega (arith, f)
     no_star (suc k) d lt = absurd (omega arith)
 
-same_runs : (most : ℕ) (a b : List Piece) → most < 2 ^ 64 → AllByRecursion (IsSmall most) a → AllByRecursion (IsSmall most) b → runs_text a ≡ runs_text b → a ≡ b
+same_runs : (most : ℕ) (a b : List Piece) → most < 2 ^ 64 → AllByRecursion (IsRunWithin most) a → AllByRecursion (IsRunWithin most) b → runs_text a ≡ runs_text b → a ≡ b
 same_runs most [] [] fits small_a small_b e = refl
 same_runs most [] (n ∷ ns) fits small_a small_b e = absurd (dash_is_none most n ns fits small_b.0 e)
 same_runs most (m ∷ ms) [] fits small_a small_b e = absurd (dash_is_none most m ms fits small_a.0 (sym e))
@@ -62,10 +62,10 @@ same_runs most (m ∷ []) (n ∷ []) fits small_a small_b e =
     ap (λ (x : Piece). x ∷ []) (same_run_of most m n fits small_a.0 small_b.0 (sym (append-nil (run_text m)) ∙ e ∙ append-nil (run_text n)))
 same_runs most (m ∷ []) (n ∷ o ∷ ns) fits small_a small_b e =
     let whole : run_text m ≡ run_text n ++ (32 ∷ runs_text (o ∷ ns)) = sym (append-nil (run_text m)) ∙ e in
-    absurd (not_without 32 (run_text n) (runs_text (o ∷ ns)) (subst (λ (w : List ℕ). Without 32 w) whole (no_blank_in most m fits small_a.0)))
+    absurd (not_without 32 (run_text n) (runs_text (o ∷ ns)) (subst (λ (w : List ℕ). HasNoByte 32 w) whole (no_blank_in most m fits small_a.0)))
 same_runs most (m ∷ p ∷ ms) (n ∷ []) fits small_a small_b e =
     let whole : run_text n ≡ run_text m ++ (32 ∷ runs_text (p ∷ ms)) = sym (append-nil (run_text n)) ∙ sym e in
-    absurd (not_without 32 (run_text m) (runs_text (p ∷ ms)) (subst (λ (w : List ℕ). Without 32 w) whole (no_blank_in most n fits small_b.0)))
+    absurd (not_without 32 (run_text m) (runs_text (p ∷ ms)) (subst (λ (w : List ℕ). HasNoByte 32 w) whole (no_blank_in most n fits small_b.0)))
 same_runs most (m ∷ p ∷ ms) (n ∷ o ∷ ns) fits small_a small_b e =
     let parts = split_same 32 (run_text m) (run_text n) (runs_text (p ∷ ms)) (runs_text (o ∷ ns)) (no_blank_in most m fits small_a.0) (no_blank_in most n fits small_b.0) e in
     let first : m ≡ n = same_run_of most m n fits small_a.0 small_b.0 parts.0 in
@@ -76,8 +76,8 @@ pub same_list : (rows : ℕ) (a b : List ℕ) → rows < 2 ^ 64 → IsList rows 
 same_list rows a b fits is_a is_b e =
     sym (expanded_runs a) ∙ ap expanded (same_runs rows (runs_of a) (runs_of b) fits (small a is_a) (small b is_b) e) ∙ expanded_runs b
   where
-    small : (list : List ℕ) → IsList rows list → AllByRecursion (IsSmall rows) (runs_of list)
-    small list is = small_runs rows (runs_of list) (runs_fall list is.falls is.positive) (subst (λ (x : List ℕ). sum x ≤ rows) (sym (expanded_runs list)) is.within)
+    small : (list : List ℕ) → IsList rows list → AllByRecursion (IsRunWithin rows) (runs_of list)
+    small list is = runs_are_within rows (runs_of list) (runs_fall list is.falls is.positive) (subst (λ (x : List ℕ). sum x ≤ rows) (sym (expanded_runs list)) is.within)
 
 pub not_next : {X : Type 0} (text : X → List ℕ) (Base Follows : X → Type 0) → ((a b : X) → Base a → Base b → text a ≡ text b → a ≡ b) → (word : List ℕ) (r : Option X) (v : X)
     → Spells text Base word r → r ≡ Some v → (Follows v → ⊥) → (x : X) → Base x × Follows x → text x ≢ word
@@ -94,49 +94,49 @@ hex_digit_without n c low e = at (nat_lt n 10) e
     at true f = absurd (omega arith)
     at false f = absurd (omega arith)
 
-pub pairs_without : (c : ℕ) → c < 48 → (bytes : List ℕ) → Without c (flat_map hex_byte bytes)
+pub pairs_without : (c : ℕ) → c < 48 → (bytes : List ℕ) → HasNoByte c (flat_map hex_byte bytes)
 pairs_without c low [] = λ k d lt. absurd (omega arith)
 pairs_without c low (b ∷ bytes) =
     front_without c (hex_digit (b / 16)) (hex_digit (b % 16) ∷ flat_map hex_byte bytes) (hex_digit_without (b / 16) c low)
     (front_without c (hex_digit (b % 16)) (flat_map hex_byte bytes) (hex_digit_without (b % 16) c low) (pairs_without c low bytes))
 
-pub hex_without : (bytes : List ℕ) → Without 32 (hex_text bytes)
+pub hex_without : (bytes : List ℕ) → HasNoByte 32 (hex_text bytes)
 hex_without bytes = front_without 32 120 (flat_map hex_byte bytes) (λ e. omega (arith, e)) (pairs_without 32 (omega arith) bytes)
 
-pub numeral_blank : (word : List ℕ) → IsNumeral word → Without 32 word
-numeral_blank word is = numeral_without 32 (omega arith) word is
+pub numeral_without_blank : (word : List ℕ) → IsNumeral word → HasNoByte 32 word
+numeral_without_blank word is = numeral_without 32 (omega arith) word is
 
-pub signed_without : (c : ℕ) → c < 45 → (z : ℤ) → FitsSigned w64 z → Without c (signed_decimal z)
+pub signed_without : (c : ℕ) → c < 45 → (z : ℤ) → FitsSigned w64 z → HasNoByte c (signed_decimal z)
 signed_without c low (pos n) fits = let small : n < 2 ^ 63 = omega (arith, fits.sfits) in numeral_without c (omega arith) (decimal n) (numeral n (omega arith))
 signed_without c low (negsuc n) fits =
     let small : n < 2 ^ 63 = omega (arith, fits.sfits) in
     front_without c 45 (decimal (suc n)) (λ e. omega (arith, e)) (numeral_without c (omega arith) (decimal (suc n)) (numeral (suc n) (omega arith)))
 
-pub datum_blank : (k : Kind) (v : Datum) → IsOfKind k v → Without 32 (datum_text v)
-datum_blank kinds.Int (datum.Int n) fits = signed_without 32 (omega arith) n fits
-datum_blank kinds.Int (datum.Text bytes) never = absurd never
-datum_blank (kinds.Text most) (datum.Int n) never = absurd never
-datum_blank (kinds.Text most) (datum.Text bytes) utf8 = hex_without bytes
+pub datum_without_blank : (k : Kind) (v : Datum) → IsOfKind k v → HasNoByte 32 (datum_text v)
+datum_without_blank kinds.Int (datum.Int n) fits = signed_without 32 (omega arith) n fits
+datum_without_blank kinds.Int (datum.Text bytes) never = absurd never
+datum_without_blank (kinds.Text most) (datum.Int n) never = absurd never
+datum_without_blank (kinds.Text most) (datum.Text bytes) utf8 = hex_without bytes
 
-hex_pairs_blank : (ds : List ℕ) → are_hex_pairs ds ≡ true → Without 32 ds
-hex_pairs_blank [] are = λ k d lt. absurd (omega arith)
-hex_pairs_blank (a ∷ []) are = absurd (cc)
-hex_pairs_blank (a ∷ b ∷ ds) are =
+hex_pairs_without_blank : (ds : List ℕ) → are_hex_pairs ds ≡ true → HasNoByte 32 ds
+hex_pairs_without_blank [] are = λ k d lt. absurd (omega arith)
+hex_pairs_without_blank (a ∷ []) are = absurd (cc)
+hex_pairs_without_blank (a ∷ b ∷ ds) are =
     let all = and_parts (is_hex_digit a && is_hex_digit b) (are_hex_pairs ds) are in
     let two = and_parts (is_hex_digit a) (is_hex_digit b) all.0 in
-    front_without 32 a (b ∷ ds) (no_blank a two.0) (front_without 32 b ds (no_blank b two.1) (hex_pairs_blank ds all.1))
+    front_without 32 a (b ∷ ds) (no_blank a two.0) (front_without 32 b ds (no_blank b two.1) (hex_pairs_without_blank ds all.1))
   where
     no_blank : (c : ℕ) → is_hex_digit c ≡ true → c ≢ 32
     no_blank c is e = let no' : is_hex_digit 32 ≡ true = subst (λ (n : ℕ). is_hex_digit n ≡ true) e is in absurd (cc)
 
-pub hex_word_blank : (word : List ℕ) → IsHexWord word → Without 32 word
-hex_word_blank word (pairs, is, are) = subst (λ (w : List ℕ). Without 32 w) (sym is) (front_without 32 120 pairs (λ e. omega (arith, e)) (hex_pairs_blank pairs are))
+pub hex_word_without_blank : (word : List ℕ) → IsHexWord word → HasNoByte 32 word
+hex_word_without_blank word (pairs, is, are) = subst (λ (w : List ℕ). HasNoByte 32 w) (sym is) (front_without 32 120 pairs (λ e. omega (arith, e)) (hex_pairs_without_blank pairs are))
 
-pub value_blank : (word : List ℕ) → IsValueWord word → Without 32 word
-value_blank word (inl (inl is)) = numeral_blank word is
-value_blank word (inl (inr (digits, is, numeral', other))) =
-    subst (λ (w : List ℕ). Without 32 w) (sym is) (front_without 32 45 digits (λ e. omega (arith, e)) (numeral_blank digits numeral'))
-value_blank word (inr is) = hex_word_blank word is
+pub value_without_blank : (word : List ℕ) → IsValueWord word → HasNoByte 32 word
+value_without_blank word (inl (inl is)) = numeral_without_blank word is
+value_without_blank word (inl (inr (digits, is, numeral', other))) =
+    subst (λ (w : List ℕ). HasNoByte 32 w) (sym is) (front_without 32 45 digits (λ e. omega (arith, e)) (numeral_without_blank digits numeral'))
+value_without_blank word (inr is) = hex_word_without_blank word is
 
 -- ---- a line determines its words
 
@@ -153,7 +153,7 @@ one_word front word first l whole = (to, from)
     from e = sym (append_assoc front word (codes "\n")) ∙ ap (λ (x : List ℕ). (front ++ x) ++ codes "\n") e ∙ ap (λ (x : List ℕ). x ++ codes "\n") (sym whole)
 
 -- a blank is between the two words, and the first word has no blank. So the line determines both words
-pub two_words : (front a b first second l : List ℕ) → Without 32 a → Without 32 first → l ≡ front ++ (first ++ (codes " " ++ second))
+pub two_words : (front a b first second l : List ℕ) → HasNoByte 32 a → HasNoByte 32 first → l ≡ front ++ (first ++ (codes " " ++ second))
     → (front ++ (a ++ (codes " " ++ (b ++ codes "\n"))) ≡ l ++ codes "\n") ↔ ((a ≡ first) × (b ≡ second))
 two_words front a b first second l free_a free_first whole =
     let one = one_word front (a ++ (codes " " ++ b)) (first ++ (codes " " ++ second)) l whole in

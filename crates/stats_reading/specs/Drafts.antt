@@ -66,7 +66,7 @@ table_ended s = record s { tables = s.tables ++ s.section ∷ []; section = empt
 abbrev pub HasAllNodes : Draft → Type 0
 HasAllNodes s = 0 < s.section.rows → (length s.pair.cuts ≡ 32) × (length s.pair.nodes ≡ 63)
 
--- `place` is the index of a pair whose column is `wanted`. If no pair has this column, it is beyond the end of `pairs`
+-- `place` is the index of a pair whose column is `wanted`. If no pair has this column, `place` is beyond the end of `pairs`
 pub record IsPlaceOf (column : PairStats → ℕ) (wanted : ℕ) (pairs : List PairStats) (place : ℕ) : Type 0 where
   pub found : (q : PairStats) → slice_get pairs place ≡ Some q → column q ≡ wanted
   pub none : slice_get pairs place ≡ None → All (λ q. column q ≢ wanted) pairs
@@ -107,7 +107,7 @@ pub record TableWithRows : Type 0 where
 pub record MayBeTable (schema : Schema) (s : Draft) (v : TableWithRows) : Type 0 where
   pub exists : slice_get schema.tables v.place ≡ Some v.table
   pub later : All (λ t. t.table < v.place) s.tables
-  pub few : v.rows ≤ most_rows
+  pub within_limit : v.rows ≤ most_rows
 
 pub record MayBePair (table : Table) (s : Draft) (filter joined : ℕ) : Type 0 where
   pub filter_is : filter < length table.columns
@@ -128,7 +128,7 @@ pub record IsSameValue (place : ℕ) (f : Datum × List ℕ) (q : PairStats) : T
 
 -- a value with its list may be the next frequent value
 pub record FrequentFollows (s : Draft) (f : Datum × List ℕ) : Type 0 where
-  pub few : length s.pair.frequent < 32
+  pub within_limit : length s.pair.frequent < 32
   pub differs : All (λ (e : Datum × List ℕ). e.0 ≢ f.0) s.pair.frequent
   pub alike : (q : PairStats) → HasSameFilter s q → IsSameValue (length s.pair.frequent) f q
 
@@ -140,10 +140,10 @@ pub record IsSameRest (count : ℕ) (list : List ℕ) (q : PairStats) : Type 0 w
 pub record RestFollows (s : Draft) (list : List ℕ) : Type 0 where
   pub alike : (q : PairStats) → HasSameFilter s q → IsSameRest (length s.pair.frequent) list q
 
--- a cut may be the next one
+-- `cut` may be the next cut
 pub record CutFollows (s : Draft) (cut : Datum) : Type 0 where
   pub some : 0 < s.section.rows
-  pub few : length s.pair.cuts < 32
+  pub within_limit : length s.pair.cuts < 32
   pub order : (last : Datum) → slice_get s.pair.cuts (length s.pair.cuts - 1) ≡ Some last → datum_cmp last cut ≢ Greater
   pub alike : (q : PairStats) → HasSameFilter s q → slice_get q.cuts (length s.pair.cuts) ≡ Some cut
 
@@ -153,11 +153,11 @@ pub record IsSameTotal (place : ℕ) (node : List ℕ) (q : PairStats) : Type 0 
   pub there : slice_get q.nodes place ≡ Some other
   pub total : sum other ≡ sum node
 
--- a node may be the next one, after all cuts
+-- `node` may be the next node: all cuts come before the nodes
 pub record NodeFollows (s : Draft) (node : List ℕ) : Type 0 where
   pub some : 0 < s.section.rows
   pub all_cuts : length s.pair.cuts ≡ 32
-  pub few : length s.pair.nodes < 63
+  pub within_limit : length s.pair.nodes < 63
   pub alike : (q : PairStats) → HasSameFilter s q → IsSameTotal (length s.pair.nodes) node q
 
 abbrev pub MayBeWhole : Draft → List ℕ → Type 0
@@ -177,7 +177,7 @@ MayBeNode s node = IsList s.section.rows node × NodeFollows s node
 
 -- ---- reading the words of a line
 
--- some value that may come next has these words, and it was taken. `ReadsValue` also allows a fault, if no value that may come next has these words
+-- a value that may come next has these words, and this value was taken. `ReadsValue` also allows a fault, if no such value has these words
 pub record WasRead {X : Type 0} (text : X → List ℕ × List ℕ) (MayBe After : X → Type 0) (words : List ℕ × List ℕ) : Type 0 where
   pub value : X
   pub may : MayBe value
@@ -215,7 +215,7 @@ IsNamed {X} name xs word None = All (λ x. word ≢ hex_text (name x)) xs
 IsNamed {X} name xs word (Some place) = (x : X) × (slice_get xs place ≡ Some x) × (word ≡ hex_text (name x))
 
 -- the sums of the pair's lists fit into a `u64`
-pub record AreSmall (q : PairStats) : Type 0 where
+pub record HasSmallSums (q : PairStats) : Type 0 where
   pub rest : sum q.rest < 2 ^ 64
   pub frequent : All (λ (f : Datum × List ℕ). sum f.1 < 2 ^ 64) q.frequent
   pub nodes : All (λ node. sum node < 2 ^ 64) q.nodes

@@ -10,7 +10,7 @@ use Rattle.stats_reading.specs.declared.fault.Fault.TheVariants as fault
 use Rattle.stats_reading.specs.declared.line.LineKind.{LineKind}
 use Rattle.stats_reading.specs.declared.line.LineKind.TheVariants as kind
 use Rattle.stats_reading.specs.declared.stages.Stage.{Stage}
-use Rattle.stats_reading.specs.Drafts.{empty_section, frequent_words, list_word, number_word, pair_words, table_words, value_word, with_cut, with_frequent, with_node, with_rest, with_whole, AreSmall, BeginsPair, MayBeAccuracy, MayBeCut, MayBeFrequent, MayBeNode, MayBePair, MayBeRest, MayBeTable, MayBeWhole, PairsAscend, TablesAscend, ReadsValue}
+use Rattle.stats_reading.specs.Drafts.{empty_section, frequent_words, list_word, number_word, pair_words, table_words, value_word, with_cut, with_frequent, with_node, with_rest, with_whole, HasSmallSums, BeginsPair, MayBeAccuracy, MayBeCut, MayBeFrequent, MayBeNode, MayBePair, MayBeRest, MayBeTable, MayBeWhole, PairsAscend, TablesAscend, ReadsValue}
 use Rattle.stats_reading.specs.Remaining.{FileRemaining}
 use Rattle.stats_reading.specs.Stages.{TextRemaining}
 use Rattle.stats_reading.specs.Steps.{Ends, EndsAnd, PairEnds, TableEnds}
@@ -26,13 +26,13 @@ abbrev pub BeginsPairOf : Schema → Draft → List ℕ × List ℕ → Draft �
 BeginsPairOf schema t words m result = (table : Table) → slice_get schema.tables m.section.table ≡ Some table
     → ReadsValue (pair_words table) (λ c. MayBePair table m c.0 c.1) (λ c. BeginsPair table m t c.0 c.1) words result
 
--- what must be true of a draft before words of this kind are read. Tables or pairs ascend, a table is open, or the sums of lists fit into a `u64`
+-- what must hold before a line of this kind is read: tables or pairs ascend, a table is open, or sums fit into a `u64`
 abbrev pub IsReadyAt : Stage → LineKind → Schema → Draft → Type 0
 IsReadyAt at kind.Table schema s = (m : Draft) → TableEnds at s m → TablesAscend m
 IsReadyAt at kind.Pair schema s = s.section.table < length schema.tables × ((m : Draft) → PairEnds at s m → PairsAscend m)
-IsReadyAt at kind.Frequent schema s = All AreSmall s.section.pairs
-IsReadyAt at kind.Rest schema s = All AreSmall s.section.pairs
-IsReadyAt at kind.Node schema s = All AreSmall s.section.pairs
+IsReadyAt at kind.Frequent schema s = All HasSmallSums s.section.pairs
+IsReadyAt at kind.Rest schema s = All HasSmallSums s.section.pairs
+IsReadyAt at kind.Node schema s = All HasSmallSums s.section.pairs
 IsReadyAt at _ schema s = ⊤
 
 abbrev pub IsReady : LineKind → Schema → Draft → Type 0

@@ -57,17 +57,17 @@ HasEmptySecond kind second = has_two kind ≡ false → second ≡ []
 -- a line has this kind's first part and these words; if the line is one of the grammar, the grammar allows these words
 pub record MayBeLineOf (kind : LineKind) (first second line : List ℕ) : Type 0 where
   pub whole : line ≡ front kind ++ words_text kind first second
-  pub alone : HasEmptySecond kind second
+  pub empty_second : HasEmptySecond kind second
   pub only : (k : LineKind) (a b : List ℕ) → IsLineOf k a b line → AreLineParts kind first second
 
 -- the grammar has no such line
 abbrev pub IsNoLine : List ℕ → Type 0
 IsNoLine line = (kind : LineKind) (first second : List ℕ) → IsLineOf kind first second line → ⊥
 
--- a text splits into these words. If any split of the text gives words of the grammar, this split does
+-- a text splits into these two words. If it splits into words of the grammar at all, these two are words of the grammar
 pub record SplitsInto (kind : LineKind) (words first second : List ℕ) : Type 0 where
   pub whole : words ≡ words_text kind first second
-  pub alone : HasEmptySecond kind second
+  pub empty_second : HasEmptySecond kind second
   pub only : (a b : List ℕ) → AreLineParts kind a b → words ≡ words_text kind a b → AreLineParts kind first second
 
 -- no words of the grammar for this kind have this text

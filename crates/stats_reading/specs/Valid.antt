@@ -19,7 +19,7 @@ pub record HasKindAndIndexes (table : Table) (s : Draft) : Type 0 where
   pub same_filter_at : IsPlaceOf (λ q. q.filter) s.pair.filter s.section.pairs s.same_filter_at
   pub same_joined_at : IsPlaceOf (λ q. q.joined) s.pair.joined s.section.pairs s.same_joined_at
 
--- the file keeps the rules that has only the tables and pairs so far, the current table included
+-- the tables and pairs that were read so far, with the current table, make a file that keeps the rules
 pub record IsValidSection (schema : Schema) (s : Draft) : Type 0 where
   pub table : Table
   pub exists : slice_get schema.tables s.section.table ≡ Some table

@@ -49,7 +49,7 @@ fn stands_before(earlier: &PairStats, filter: u32, joined: u32) -> bool
     earlier.filter < filter || (earlier.filter == filter && earlier.joined < joined)
 }
 
-// Whether a pair of these columns comes after all pairs of `pairs`. Pairs ascend, so comparing with the last pair is enough.
+// Whether a pair of these columns comes after all of `pairs`. They ascend, so a comparison with the last pair is enough.
 fn is_later(pairs: &[PairStats], filter: u32, joined: u32) -> bool
     requires { AllPairs ComesBefore pairs.now }
     ensures { IsTrue result ↔ All (λ q. ComesBefore q (empty_pair filter joined)) pairs.now }

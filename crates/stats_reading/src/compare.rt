@@ -94,7 +94,7 @@ fn same_piece(a: Piece, b: Piece) -> bool
     a.value == b.value && a.count == b.count
 }
 
-fn have_one_length(a: &[Piece], b: &[Piece]) -> bool
+fn have_same_length(a: &[Piece], b: &[Piece]) -> bool
     ensures { IsTrue result ↔ (length a.now ≡ length b.now) }
 {
     a.len() == b.len()
@@ -103,7 +103,7 @@ fn have_one_length(a: &[Piece], b: &[Piece]) -> bool
 fn same_pieces(a: &[Piece], b: &[Piece]) -> bool
     ensures { IsTrue result ↔ (a.now ≡ b.now) }
 {
-    if !have_one_length(a, b) {
+    if !have_same_length(a, b) {
         return false;
     }
     for i in 0..a.len() {

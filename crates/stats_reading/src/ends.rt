@@ -10,7 +10,7 @@ use crate::stages::Stage;
 use base_io::NoMemory;
 use std::alloc::Global;
 
-fn has_all(draft: &Draft) -> bool
+fn has_all_nodes(draft: &Draft) -> bool
     ensures { IsTrue result ↔ HasAllNodes draft.now }
 {
     draft.section.rows == 0 || (draft.pair.cuts.len() == 32 && draft.pair.nodes.len() == 63)
@@ -33,7 +33,7 @@ fn push_section(alloc: Global, draft: &mut Draft) -> Result<(), NoMemory>
 fn end_open_pair(alloc: Global, draft: &mut Draft) -> Result<(), Fault>
     ensures { Ends (λ t. HasAllNodes draft.old × (t ≡ pair_ended draft.old)) draft.new result }
 {
-    if !has_all(draft) {
+    if !has_all_nodes(draft) {
         return Err(Fault::Rule);
     }
     push_pair(alloc, draft)?;

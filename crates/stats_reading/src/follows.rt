@@ -4,7 +4,7 @@ ghost use Rattle.std.specs.declared.cmp.Ordering.TheVariants.{Greater};
 ghost use Rattle.stats_file.specs.declared.types.Datum.{Datum as Value};
 ghost use Rattle.stats_file.specs.declared.types.PairStats.{PairStats as Statistics};
 ghost use Rattle.stats_file.specs.Rules.{datum_cmp};
-ghost use Rattle.stats_reading.specs.Drafts.{AreSmall, CutFollows, FrequentFollows, HasSameFilter, IsSameRest, IsSameTotal, IsSameValue, HasSameJoined, NodeFollows, RestFollows, WholeFollows};
+ghost use Rattle.stats_reading.specs.Drafts.{HasSmallSums, CutFollows, FrequentFollows, HasSameFilter, IsSameRest, IsSameTotal, IsSameValue, HasSameJoined, NodeFollows, RestFollows, WholeFollows};
 
 use crate::compare::{compare, same_list, same_total, same_value};
 use crate::draft::Draft;
@@ -24,12 +24,12 @@ fn pair_at(draft: &Draft, place: usize) -> Option<&PairStats>
     }
 }
 
-fn is_whole_of_twin(draft: &Draft, list: &Pieces) -> bool
+fn agrees_with_earlier_whole(draft: &Draft, list: &Pieces) -> bool
     ensures { IsTrue result ↔ ((q : Statistics) → HasSameJoined draft.now q → q.whole ≡ list.now) }
 {
     match pair_at(draft, draft.same_joined_at) {
         None => true,
-        Some(same_joined_at) => same_list(&same_joined_at.whole, list),
+        Some(earlier) => same_list(&earlier.whole, list),
     }
 }
 
@@ -38,7 +38,7 @@ pub fn whole_follows(draft: &Draft, list: &Pieces) -> bool
     requires { sum list.now < 2 ^ 64 }
     ensures { IsTrue result ↔ WholeFollows draft.now list.now }
 {
-    list.total() == u128::from(draft.section.rows) && is_whole_of_twin(draft, list)
+    list.total() == u128::from(draft.section.rows) && agrees_with_earlier_whole(draft, list)
 }
 
 // Whether `value` isn't among the frequent values so far.
@@ -63,7 +63,7 @@ fn is_same_value(earlier: &(Datum, Pieces), value: &Datum, list: &Pieces) -> boo
 
 // Whether `pair`, an earlier pair, has this frequent value at this index, with a list of the same sum.
 fn has_value(pair: &PairStats, place: usize, value: &Datum, list: &Pieces) -> bool
-    requires left { AreSmall pair.now }
+    requires left { HasSmallSums pair.now }
     requires right { sum list.now < 2 ^ 64 }
     ensures { IsTrue result ↔ IsSameValue place (value.now, list.now) pair.now }
 {
@@ -74,20 +74,20 @@ fn has_value(pair: &PairStats, place: usize, value: &Datum, list: &Pieces) -> bo
 }
 
 fn is_alike_frequent(draft: &Draft, value: &Datum, list: &Pieces) -> bool
-    requires small { All AreSmall draft.now.section.pairs }
+    requires small { All HasSmallSums draft.now.section.pairs }
     requires right { sum list.now < 2 ^ 64 }
     ensures { IsTrue result
         ↔ ((q : Statistics) → HasSameFilter draft.now q → IsSameValue (length draft.now.pair.frequent) (value.now, list.now) q) }
 {
     match pair_at(draft, draft.same_filter_at) {
         None => true,
-        Some(same_filter_at) => has_value(same_filter_at, draft.pair.frequent.len(), value, list),
+        Some(earlier) => has_value(earlier, draft.pair.frequent.len(), value, list),
     }
 }
 
 /// Whether a value with its list may be the next frequent value.
 pub fn frequent_follows(draft: &Draft, value: &Datum, list: &Pieces) -> bool
-    requires small { All AreSmall draft.now.section.pairs }
+    requires small { All HasSmallSums draft.now.section.pairs }
     requires right { sum list.now < 2 ^ 64 }
     ensures { IsTrue result ↔ FrequentFollows draft.now (value.now, list.now) }
 {
@@ -97,7 +97,7 @@ pub fn frequent_follows(draft: &Draft, value: &Datum, list: &Pieces) -> bool
 }
 
 fn has_rest(pair: &PairStats, count: usize, list: &Pieces) -> bool
-    requires left { AreSmall pair.now }
+    requires left { HasSmallSums pair.now }
     requires right { sum list.now < 2 ^ 64 }
     ensures { IsTrue result ↔ IsSameRest count list.now pair.now }
 {
@@ -106,13 +106,13 @@ fn has_rest(pair: &PairStats, count: usize, list: &Pieces) -> bool
 
 /// Whether a list may be the list of the other values (those that aren't frequent).
 pub fn rest_follows(draft: &Draft, list: &Pieces) -> bool
-    requires small { All AreSmall draft.now.section.pairs }
+    requires small { All HasSmallSums draft.now.section.pairs }
     requires right { sum list.now < 2 ^ 64 }
     ensures { IsTrue result ↔ RestFollows draft.now list.now }
 {
     match pair_at(draft, draft.same_filter_at) {
         None => true,
-        Some(same_filter_at) => has_rest(same_filter_at, draft.pair.frequent.len(), list),
+        Some(earlier) => has_rest(earlier, draft.pair.frequent.len(), list),
     }
 }
 
@@ -142,7 +142,7 @@ fn is_alike_cut(draft: &Draft, value: &Datum) -> bool
 {
     match pair_at(draft, draft.same_filter_at) {
         None => true,
-        Some(same_filter_at) => has_cut(same_filter_at, draft.pair.cuts.len(), value),
+        Some(earlier) => has_cut(earlier, draft.pair.cuts.len(), value),
     }
 }
 
@@ -157,7 +157,7 @@ pub fn cut_follows(draft: &Draft, value: &Datum) -> bool
 }
 
 fn has_node(pair: &PairStats, place: usize, node: &Pieces) -> bool
-    requires left { AreSmall pair.now }
+    requires left { HasSmallSums pair.now }
     requires right { sum node.now < 2 ^ 64 }
     ensures { IsTrue result ↔ IsSameTotal place node.now pair.now }
 {
@@ -168,19 +168,19 @@ fn has_node(pair: &PairStats, place: usize, node: &Pieces) -> bool
 }
 
 fn is_alike_node(draft: &Draft, node: &Pieces) -> bool
-    requires small { All AreSmall draft.now.section.pairs }
+    requires small { All HasSmallSums draft.now.section.pairs }
     requires right { sum node.now < 2 ^ 64 }
     ensures { IsTrue result ↔ ((q : Statistics) → HasSameFilter draft.now q → IsSameTotal (length draft.now.pair.nodes) node.now q) }
 {
     match pair_at(draft, draft.same_filter_at) {
         None => true,
-        Some(same_filter_at) => has_node(same_filter_at, draft.pair.nodes.len(), node),
+        Some(earlier) => has_node(earlier, draft.pair.nodes.len(), node),
     }
 }
 
 /// Whether a list may be the next node.
 pub fn node_follows(draft: &Draft, node: &Pieces) -> bool
-    requires small { All AreSmall draft.now.section.pairs }
+    requires small { All HasSmallSums draft.now.section.pairs }
     requires right { sum node.now < 2 ^ 64 }
     ensures { IsTrue result ↔ NodeFollows draft.now node.now }
 {

@@ -1,4 +1,4 @@
-//! Laws of every file and its text.
+//! Laws about statistics files and their texts.
 ghost use Rattle.std.specs.Prelude.{◌≡◌, ◌⊎◌, Result, Ok, Err};
 ghost use Rattle.schema_types.specs.declared.types.Schema.{Schema};
 ghost use Rattle.schema_types.specs.Validity.{IsValid};
@@ -16,8 +16,8 @@ pub fn a_text_spells_one_file()
         → file_text schema a ≡ file_text schema b → a ≡ b }
 {}
 
-/// If the text of a file is read, the result is this file, or that memory ran out. The text is never refused. The law requires that the schema's
-/// column names consist of bytes. By the rules, the other names and the values consist of bytes too.
+/// If the text of a file is read, the result is this file, or that memory ran out. So the text is never refused. The law requires that the schema's
+/// column names consist of bytes. By the rules for files, all other names and values consist of bytes.
 pub fn a_written_file_is_read()
     ensures { (schema : Schema) (file : StatsFile) (answer : Result StatsFile StatsError)
         → IsValid schema → HasByteColumns schema → KeepsRules schema file

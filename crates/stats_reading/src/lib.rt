@@ -1,7 +1,7 @@
 //! Reads a statistics file from its bytes, or names the first line that is refused.
 //!
-//! In: a schema and the bytes of a file. Out: the one file that has these bytes as its text. If there is no such file: the cause, and the first line
-//! up to which the bytes begin no file. The contract is `IsAllowedResult` of stats_file (in `specs/Answers.antt`).
+//! In: a schema and the bytes of a file. Out: the only `StatsFile` that has these bytes as its text. If no file has this text: the cause, and the
+//! number of the first line that no file has after the lines before it. The contract is `IsAllowedResult` of stats_file (in `specs/Answers.antt`).
 //!
 //! ```text
 //! let file = read_stats(alloc, &schema, bytes)?;

@@ -118,7 +118,7 @@ fn has_two_words(kind: LineKind) -> bool
     matches!(kind, LineKind::Table | LineKind::Pair | LineKind::Frequent)
 }
 
-fn two(kind: LineKind, words: &[u8]) -> Option<(&[u8], &[u8])>
+fn split_words(kind: LineKind, words: &[u8]) -> Option<(&[u8], &[u8])>
     requires { has_two kind ≡ true }
     ensures { MatchOption result (HasNoLineWords kind words.now) (λ w. SplitsInto kind words.now w.0.now w.1.now) }
 {
@@ -133,7 +133,7 @@ fn words_of(kind: LineKind, words: &[u8]) -> Option<(&[u8], &[u8])>
     ensures { MatchOption result (HasNoLineWords kind words.now) (λ w. SplitsInto kind words.now w.0.now w.1.now) }
 {
     if has_two_words(kind) {
-        two(kind, words)
+        split_words(kind, words)
     } else {
         let none: &[u8] = &[];
         Some((words, none))
@@ -150,7 +150,7 @@ pub fn words_in(kind: LineKind, line: &[u8]) -> Option<(&[u8], &[u8])>
 }
 
 // Whether the grammar allows `word` in a line of this kind, and `second` is empty. Lines of this kind have one word.
-fn is_part_alone(kind: LineKind, word: &[u8], second: &[u8]) -> bool
+fn is_only_word(kind: LineKind, word: &[u8], second: &[u8]) -> bool
     requires { has_two kind ≡ false }
     ensures { IsTrue result ↔ AreLineParts kind word.now second.now }
 {
@@ -164,7 +164,7 @@ fn are_words(line: Line) -> bool
     if has_two_words(line.kind) {
         are_parts(line.kind, line.first, line.second)
     } else {
-        is_part_alone(line.kind, line.first, line.second)
+        is_only_word(line.kind, line.first, line.second)
     }
 }
 

@@ -62,7 +62,7 @@ fn is_done(draft: &Draft) -> bool
     matches!(draft.stage, Stage::Done)
 }
 
-fn is_whole(draft: &Draft, rest: &[u8]) -> bool
+fn is_complete(draft: &Draft, rest: &[u8]) -> bool
     ensures { IsTrue result ↔ ((draft.now.stage ≡ stages.Done) × (rest.now ≡ [])) }
 {
     rest.is_empty() && is_done(draft)
@@ -85,8 +85,8 @@ fn finish(draft: Draft) -> StatsFile
 }
 
 /// Reads the text of a file over a schema. Out: the file, or the first line that is refused, counted from 1. `Syntax`: no text of the grammar begins
-/// with the lines up to this one. `Rule`: some text of the grammar does, but no file that keeps the rules. A text that ends too early is refused by
-/// `Syntax`, at the line after its last complete line.
+/// with the lines up to this one. `Rule`: some text of the grammar begins with them, but no text of a file that keeps the rules. A text that ends
+/// too early is refused with `Syntax`, at the line after its last complete line.
 pub fn read_stats(alloc: Global, schema: &Schema, bytes: &[u8]) -> Result<StatsFile, StatsError>
     requires schema { IsValid schema.now }
     requires length { length bytes.now ≤ most_file }
@@ -102,7 +102,7 @@ pub fn read_stats(alloc: Global, schema: &Schema, bytes: &[u8]) -> Result<StatsF
         rest = others;
         line += 1;
     }
-    if is_whole(&draft, rest) {
+    if is_complete(&draft, rest) {
         Ok(finish(draft))
     } else {
         Err(StatsError::Syntax { line })

@@ -5,7 +5,7 @@ ghost use Rattle.stats_reading.specs.Stages.{next_stage};
 
 use crate::line::LineKind;
 
-/// What was read last. The stage is named after the lines that may come next.
+/// A stage is named after the lines that may come next. Its comment says what was read last.
 #[derive(Clone, Copy, Debug, PartialEq, Eq)]
 pub enum Stage {
     /// Nothing.

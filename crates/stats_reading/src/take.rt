@@ -77,12 +77,12 @@ fn take_words(alloc: Global, schema: &Schema, draft: &mut Draft, line: Line) -> 
     }
 }
 
-/// Takes a line, if its kind and its words may come next. The grammar is tested only for kinds of lines that are tested beforehand. For the other
-/// kinds, words that are taken are words of the grammar.
+/// Takes a line, if its kind and its words may come next. Of some kinds of lines the caller has tested the words against the grammar (`is_tested`).
+/// For the other kinds, words that are taken are words of the grammar.
 pub fn take(alloc: Global, schema: &Schema, draft: &mut Draft, line: Line) -> Result<(), Fault>
     requires schema { IsValid schema.now }
     requires valid { IsValidDraft draft.old.stage schema.now draft.old }
-    requires alone { HasEmptySecond line.kind line.second.now }
+    requires empty_second { HasEmptySecond line.kind line.second.now }
     ensures answers { (l : List ℕ) → IsLineOf line.entry.kind line.entry.first.now line.entry.second.now l
         → LineAnswers schema.now draft.old draft.new (l ++ codes "\n") result }
     ensures known { is_tested line.entry.kind ≡ false

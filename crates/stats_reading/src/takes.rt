@@ -1,7 +1,7 @@
 //! Reads the words of a line into a draft.
 ghost use Rattle.std.specs.Prelude.{◌≡◌, [], All, length, ◌∷◌};
 ghost use Rattle.schema_types.specs.declared.types.Schema.{Schema as Tables};
-ghost use Rattle.stats_reading.specs.Drafts.{frequent_words, list_word, number_word, value_word, with_cut, with_frequent, with_node, with_rest, with_whole, AreSmall, MayBeAccuracy, MayBeCut, MayBeFrequent, MayBeNode, MayBeRest, MayBeWhole, ReadsValue};
+ghost use Rattle.stats_reading.specs.Drafts.{frequent_words, list_word, number_word, value_word, with_cut, with_frequent, with_node, with_rest, with_whole, HasSmallSums, MayBeAccuracy, MayBeCut, MayBeFrequent, MayBeNode, MayBeRest, MayBeWhole, ReadsValue};
 
 use crate::draft::Draft;
 use crate::fault::Fault;
@@ -44,7 +44,7 @@ pub fn take_frequent(
     value: &[u8],
     word: &[u8],
 ) -> Result<(), Fault>
-    requires { All AreSmall draft.old.section.pairs }
+    requires { All HasSmallSums draft.old.section.pairs }
     ensures { ReadsValue frequent_words (MayBeFrequent draft.old) (λ f. draft.new ≡ with_frequent draft.old f) (value.now, word.now) result }
 {
     let Some(value) = datum(alloc, draft.kind, value)? else {
@@ -62,7 +62,7 @@ pub fn take_frequent(
 
 /// Reads the list of the other values (those that aren't frequent).
 pub fn take_rest(alloc: Global, draft: &mut Draft, word: &[u8]) -> Result<(), Fault>
-    requires { All AreSmall draft.old.section.pairs }
+    requires { All HasSmallSums draft.old.section.pairs }
     ensures { ReadsValue list_word (MayBeRest draft.old) (λ l. draft.new ≡ with_rest draft.old l) (word.now, []) result }
 {
     let Some(rest) = list(alloc, word, draft.section.rows)? else {
@@ -91,7 +91,7 @@ pub fn take_cut(alloc: Global, draft: &mut Draft, word: &[u8]) -> Result<(), Fau
 
 /// Reads a node.
 pub fn take_node(alloc: Global, draft: &mut Draft, word: &[u8]) -> Result<(), Fault>
-    requires { All AreSmall draft.old.section.pairs }
+    requires { All HasSmallSums draft.old.section.pairs }
     ensures { ReadsValue list_word (MayBeNode draft.old) (λ l. draft.new ≡ with_node draft.old l) (word.now, []) result }
 {
     let Some(node) = list(alloc, word, draft.section.rows)? else {

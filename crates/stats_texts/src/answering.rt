@@ -11,7 +11,7 @@ use std::alloc::Global;
 /// The answer to a text over a schema. `Read`: the text was read, and written again as the same bytes. `Changed`: it was written again as other
 /// bytes. `Syntax` and `Rule`: it was refused at a line.
 #[derive(Clone, Copy, Debug)]
-pub enum Verdict {
+pub enum TextAnswer {
     Read,
     Changed,
     Syntax(u32),
@@ -30,23 +30,23 @@ fn is_written(alloc: Global, file: &StatsFile, schema: &Schema, bytes: &[u8]) ->
 }
 
 /// The answer to a text over a schema. It is `Other` if a text is too long, the schema can't be read, or memory runs out.
-pub fn answer(alloc: Global, schema: &str, bytes: &[u8]) -> Verdict {
+pub fn answer(alloc: Global, schema: &str, bytes: &[u8]) -> TextAnswer {
     if bytes.len() > MOST_FILE as usize || schema.len() > MOST_TEXT as usize {
-        return Verdict::Other;
+        return TextAnswer::Other;
     }
     let Ok(schema) = read_schema(alloc, schema.as_bytes()) else {
-        return Verdict::Other;
+        return TextAnswer::Other;
     };
     match read_stats(alloc, &schema, bytes) {
         Ok(file) => {
             if is_written(alloc, &file, &schema, bytes) {
-                Verdict::Read
+                TextAnswer::Read
             } else {
-                Verdict::Changed
+                TextAnswer::Changed
             }
         }
-        Err(StatsError::Syntax { line }) => Verdict::Syntax(line),
-        Err(StatsError::Rule { line }) => Verdict::Rule(line),
-        Err(StatsError::NoMemory) => Verdict::Other,
+        Err(StatsError::Syntax { line }) => TextAnswer::Syntax(line),
+        Err(StatsError::Rule { line }) => TextAnswer::Rule(line),
+        Err(StatsError::NoMemory) => TextAnswer::Other,
     }
 }

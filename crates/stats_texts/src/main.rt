@@ -14,7 +14,7 @@ use std::io;
 
 // The schema of the texts that follow, and what these texts begin with.
 #[derive(Drop)]
-struct Asked {
+struct TextContext {
     schema: String,
     head: String,
 }
@@ -30,7 +30,7 @@ fn push_text(out: &mut String, text: &str) -> Result<(), AllocError> {
     Ok(())
 }
 
-// Appends a text several times. `counted` is the number of times, a space and the text.
+// Appends a text a number of times. `counted` is this number, a space and the text.
 fn push_times(out: &mut String, counted: &str) -> io::Result<()> {
     let Some((count, text)) = counted.split_once(' ') else {
         return Err(invalid_data());
@@ -44,36 +44,36 @@ fn push_times(out: &mut String, counted: &str) -> io::Result<()> {
     Ok(())
 }
 
-fn tell(rt: &HostRuntime, asked: &Asked, rest: &str) -> io::Result<()> {
-    let mut text = String::from_str(rt.alloc(), asked.head.as_str())?;
+fn print_answer(rt: &HostRuntime, context: &TextContext, rest: &str) -> io::Result<()> {
+    let mut text = String::from_str(rt.alloc(), context.head.as_str())?;
     push_text(&mut text, rest)?;
-    let verdict = answer(rt.alloc(), asked.schema.as_str(), text.as_bytes());
+    let verdict = answer(rt.alloc(), context.schema.as_str(), text.as_bytes());
     println!(rt; "{verdict:?}")
 }
 
-fn take(rt: &HostRuntime, asked: &mut Asked, line: &str) -> io::Result<()> {
+fn follow_line(rt: &HostRuntime, context: &mut TextContext, line: &str) -> io::Result<()> {
     let (word, text) = line.split_once(' ').unwrap_or((line, ""));
     match word {
-        "schema" => asked.schema = String::from_str(rt.alloc(), text)?,
+        "schema" => context.schema = String::from_str(rt.alloc(), text)?,
         "head" => {
-            asked.head = String::new(rt.alloc());
-            push_text(&mut asked.head, text)?;
+            context.head = String::new(rt.alloc());
+            push_text(&mut context.head, text)?;
         }
-        "more" => push_times(&mut asked.head, text)?,
-        "text" => tell(rt, asked, text)?,
+        "more" => push_times(&mut context.head, text)?,
+        "text" => print_answer(rt, context, text)?,
         _ => return Err(invalid_data()),
     }
     Ok(())
 }
 
 fn main(rt: HostRuntime) -> io::Result<()> {
-    let mut asked = Asked {
+    let mut context = TextContext {
         schema: String::new(rt.alloc()),
         head: String::new(rt.alloc()),
     };
     for line in rt.lines(rt.alloc()) {
         let line = line?;
-        take(&rt, &mut asked, line.as_str())?;
+        follow_line(&rt, &mut context, line.as_str())?;
     }
     Ok(())
 }

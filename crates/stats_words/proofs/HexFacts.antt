@@ -6,25 +6,25 @@ use Rattle.std.proofs.lemmas.Bool.{and_parts}
 use Rattle.stats_file.specs.Grammar.{are_hex_pairs, is_hex_digit}
 use Rattle.stats_file.specs.Lines.{hex_byte, hex_digit}
 
-shuffled : (q a b all : Bool) → (q && (a && (b && all))) ≡ ((a && b) && (q && all))
-shuffled true a b all = assoc a b all
+regroup_ands : (q a b all : Bool) → (q && (a && (b && all))) ≡ ((a && b) && (q && all))
+regroup_ands true a b all = assoc a b all
   where
     assoc : (a b c : Bool) → (a && (b && c)) ≡ ((a && b) && c)
     assoc true b c = refl
     assoc false b c = refl
-shuffled false true true all = refl
-shuffled false true false all = refl
-shuffled false false b all = refl
+regroup_ands false true true all = refl
+regroup_ands false true false all = refl
+regroup_ands false false b all = refl
 
-two_more : (n : ℕ) → (suc (suc n) % 2 == 0) ≡ (n % 2 == 0)
-two_more n = let e : suc (suc n) % 2 ≡ n % 2 = omega arith in ap (λ m. m == 0) e
+parity_of_two_more : (n : ℕ) → (suc (suc n) % 2 == 0) ≡ (n % 2 == 0)
+parity_of_two_more n = let e : suc (suc n) % 2 ≡ n % 2 = omega arith in ap (λ m. m == 0) e
 
 pub pairs_test : (ds : List ℕ) → (length ds % 2 == 0 && list_all is_hex_digit ds) ≡ are_hex_pairs ds
 pairs_test [] = refl
 pairs_test (a ∷ []) = refl
 pairs_test (a ∷ b ∷ ds) =
-    ap (λ q. q && (is_hex_digit a && (is_hex_digit b && list_all is_hex_digit ds))) (two_more (length ds))
-    ∙ shuffled (length ds % 2 == 0) (is_hex_digit a) (is_hex_digit b) (list_all is_hex_digit ds)
+    ap (λ q. q && (is_hex_digit a && (is_hex_digit b && list_all is_hex_digit ds))) (parity_of_two_more (length ds))
+    ∙ regroup_ands (length ds % 2 == 0) (is_hex_digit a) (is_hex_digit b) (list_all is_hex_digit ds)
     ∙ ap (λ q. (is_hex_digit a && is_hex_digit b) && q) (pairs_test ds)
 
 pub digit_in : (ds : List ℕ) (i : ℕ) → are_hex_pairs ds ≡ true → i < length ds → is_hex_digit (get_or ds i 0) ≡ true
@@ -51,8 +51,8 @@ even_pairs ds even = ap (λ (n : ℕ). n == 0 && list_all is_hex_digit ds) (sym 
 pub odd_pairs : (ds : List ℕ) → (length ds % 2 == 0) ≡ false → are_hex_pairs ds ≡ false
 odd_pairs ds odd = sym (pairs_test ds) ∙ ap (λ q. q && list_all is_hex_digit ds) odd
 
-pub is_even : (ds : List ℕ) → are_hex_pairs ds ≡ true → length ds ≡ 2 * (length ds / 2)
-is_even ds are =
+pub even_length : (ds : List ℕ) → are_hex_pairs ds ≡ true → length ds ≡ 2 * (length ds / 2)
+even_length ds are =
     let both = and_parts (length ds % 2 == 0) (list_all is_hex_digit ds) (pairs_test ds ∙ are) in
     let even : length ds % 2 ≡ 0 = eqb-true (length ds % 2) 0 both.0 in
     omega arith

@@ -1,4 +1,4 @@
--- A list is read run by run. A run is a value and how often it comes in a row.
+-- A list is read run by run. A run is a value and a count.
 use Rattle.std.proofs.Common.{[], ◌≡◌, ◌≢◌, ℕ, zero, suc, ◌+◌, ◌*◌, ◌-◌, ◌^◌, ◌<◌, ◌≤◌, List, ◌∷◌, ◌++◌, replicate, length, length-append, refl, ap, sym, subst, ◌∙◌, arith, append_assoc, append-nil, None, Some}
 use Rattle.std.specs.Prelude.{All, codes, sum}
 use Rattle.std.specs.List.{AllByRecursion, flat_map}
@@ -14,9 +14,9 @@ use Rattle.stats_file.specs.Rules.{IsList}
 use Rattle.stats_file.specs.Runs.{runs_of}
 use Rattle.stats_file.proofs.RunFacts.{runs_found}
 use Rattle.stats_words.specs.Runs.{list_text, RunMayFollow}
-use Rattle.stats_words.specs.Splits.{IsSplitAt, Without}
+use Rattle.stats_words.specs.Splits.{IsSplitAt, HasNoByte}
 use Rattle.stats_words.specs.Words.{Spells}
-use Rattle.stats_words.proofs.RunTexts.{at_least_both, with_blank_after, expanded_runs, no_blank_in, runs_fall, small_runs, stripped, Stripped, sum_of_runs, texts_joined}
+use Rattle.stats_words.proofs.RunTexts.{at_least_both, with_blank_after, expanded_runs, no_blank_in, runs_fall, runs_are_within, stripped, RunsSplitOff, sum_of_runs, texts_joined}
 use Rattle.stats_words.proofs.SplitFacts.{not_without, split_same}
 
 -- the value of the last run, or b if there are no runs
@@ -24,9 +24,9 @@ abbrev pub last_value : ℕ → List Piece → ℕ
 last_value b [] = b
 last_value b (r ∷ rs) = last_value r.value rs
 
-lowest_more : (b : ℕ) (rs : List Piece) (run : Piece) → last_value b (rs ++ run ∷ []) ≡ run.value
-lowest_more b [] run = refl
-lowest_more b (r ∷ rs) run = lowest_more r.value rs run
+last_value_push : (b : ℕ) (rs : List Piece) (run : Piece) → last_value b (rs ++ run ∷ []) ≡ run.value
+last_value_push b [] run = refl
+last_value_push b (r ∷ rs) run = last_value_push r.value rs run
 
 next_lower : (b : ℕ) (rs : List Piece) (m : Piece) (ms : List Piece) → AreRuns (rs ++ (m ∷ ms)) → (length rs ≡ 0 → m.value < b) → m.value < last_value b rs
 next_lower b [] m ms runs lt = lt refl
@@ -49,7 +49,7 @@ elements_above a (r ∷ rs) all = front r.count (elements_above a rs all.1)
     front zero rest = rest
     front (suc n) rest = (omega (arith, all.0), front n rest)
 
--- the state of the loop: `word` is the text of `runs`, each with a blank after it, followed by `rest`. The list of these runs is `list`. The next
+-- the state of the loop: `word` is the text of `runs`, with a blank after each run, followed by `rest`. The list of these runs is `list`. The next
 -- value must be below `below`, and the remaining elements sum to at most `left`
 pub record RunsReadSoFar (rows : ℕ) (word rest list : List ℕ) (below left : ℕ) : Type 0 where
   pub runs : List Piece
@@ -66,8 +66,8 @@ may_push rows word rest list below left run h may =
     subst (λ (l : List ℕ). All (λ x. run.value ≤ x) l) (sym h.list_is)
     (All-from_recursion (λ x. run.value ≤ x) (expanded h.runs) (elements_above run.value h.runs (all_above run.value below h.runs may.lower h.above)))
 
-pub room : (rows : ℕ) (word rest list : List ℕ) (below left : ℕ) (run : Piece) → RunsReadSoFar rows word rest list below left → RunMayFollow below left run → length list + run.count ≤ rows
-room rows word rest list below left run h may =
+pub room_for_run : (rows : ℕ) (word rest list : List ℕ) (below left : ℕ) (run : Piece) → RunsReadSoFar rows word rest list below left → RunMayFollow below left run → length list + run.count ≤ rows
+room_for_run rows word rest list below left run h may =
     let both = at_least_both run.value run.count may.value may.count in
     let within : run.count * run.value ≤ left = may.within in
     omega (arith, both.1, h.few)
@@ -87,9 +87,9 @@ pushed rows word rest list new below left run h may is =
       total = ap sum same ∙ sum-expanded-push h.runs run;
     }
 
-pub listed_more : (rows : ℕ) (word rest first others list new : List ℕ) (below left : ℕ) (run : Piece) → RunsReadSoFar rows word rest list below left → IsSplitAt 32 rest first others
+pub list_read_step : (rows : ℕ) (word rest first others list new : List ℕ) (below left : ℕ) (run : Piece) → RunsReadSoFar rows word rest list below left → IsSplitAt 32 rest first others
     → Spells run_text (RunMayFollow below left) first (Some run) → new ≡ list ++ replicate run.count run.value → RunsReadSoFar rows word others new run.value (left - run.count * run.value)
-listed_more rows word rest first others list new below left run h split (may, text) is =
+list_read_step rows word rest first others list new below left run h split (may, text) is =
     let more = pushed rows word rest list new below left run h may is in
     let both = at_least_both run.value run.count may.value may.count in
     let within : run.count * run.value ≤ left = may.within in
@@ -101,18 +101,18 @@ listed_more rows word rest first others list new below left run h split (may, te
           ∙ sym (append_assoc (flat_map with_blank_after h.runs) (with_blank_after run ++ []) others) ∙ ap (λ (w : List ℕ). w ++ others) (sym (flat_map-append with_blank_after h.runs (run ∷ [])));
       list_is = more.list_is;
       falls = more.falls;
-      below_is = sym (lowest_more (rows + 1) h.runs run);
+      below_is = sym (last_value_push (rows + 1) h.runs run);
       above = above_more run.value h.runs run refl (all_above run.value below h.runs may.lower h.above);
       total = omega (arith, more.total, h.total, ap sum h.list_is);
       few = omega (arith, len, length-replicate run.count run.value, both.1, h.few);
     }
 
-pub listed_last : (rows : ℕ) (word rest list new : List ℕ) (below left : ℕ) (run : Piece) → rows < 2 ^ 32 → RunsReadSoFar rows word rest list below left
+pub list_read_end : (rows : ℕ) (word rest list new : List ℕ) (below left : ℕ) (run : Piece) → rows < 2 ^ 32 → RunsReadSoFar rows word rest list below left
     → Spells run_text (RunMayFollow below left) rest (Some run) → new ≡ list ++ replicate run.count run.value → Spells list_text (IsList rows) word (Some new)
-listed_last rows word rest list new below left run fits h (may, text) is =
+list_read_end rows word rest list new below left run fits h (may, text) is =
     let more = pushed rows word rest list new below left run h may is in
     let within : run.count * run.value ≤ left = may.within in
-    let few = room rows word rest list below left run h may in
+    let few = room_for_run rows word rest list below left run h may in
     let len = ap length is ∙ length-append list (replicate run.count run.value) in
     let short : length new ≤ rows = omega (arith, len, length-replicate run.count run.value) in
     let runs_are : runs_of new ≡ h.runs ++ run ∷ [] =
@@ -126,12 +126,12 @@ listed_last rows word rest list new below left run fits h (may, text) is =
     )
 
 others_text : (rows : ℕ) (word rest list : List ℕ) (below left : ℕ) → rows < 2 ^ 32 → word ≢ codes "-" → (h : RunsReadSoFar rows word rest list below left)
-    → (l : List ℕ) → IsList rows l → list_text l ≡ word → Stripped h.runs (runs_of l) rest
+    → (l : List ℕ) → IsList rows l → list_text l ≡ word → RunsSplitOff h.runs (runs_of l) rest
 others_text rows word rest list below left fits dash h l is e =
     let runs = runs_fall l is.falls is.positive in
     let sum_is : sum (expanded (runs_of l)) ≤ rows = subst (λ (x : List ℕ). sum x ≤ rows) (sym (expanded_runs l)) is.within in
     let own_sum : sum (expanded h.runs) ≤ rows = omega (arith, ap sum h.list_is, h.total) in
-    stripped rows h.runs (runs_of l) rest (omega arith) (small_runs rows h.runs h.falls own_sum) (small_runs rows (runs_of l) runs sum_is) (not_none (runs_of l) (λ n. dash (sym e ∙ ap runs_text n)))
+    stripped rows h.runs (runs_of l) rest (omega arith) (runs_are_within rows h.runs h.falls own_sum) (runs_are_within rows (runs_of l) runs sum_is) (not_none (runs_of l) (λ n. dash (sym e ∙ ap runs_text n)))
     (e ∙ h.front)
   where
     not_none : (rs : List Piece) → (rs ≡ [] → ⊥) → 0 < length rs
@@ -147,7 +147,7 @@ runs_at [] m ms runs = runs
 runs_at (r ∷ rs) m ms runs = runs_at rs m ms runs.2
 
 may_be_next : (rows : ℕ) (word rest list : List ℕ) (below left : ℕ) (h : RunsReadSoFar rows word rest list below left) (l : List ℕ) → IsList rows l
-    → (s : Stripped h.runs (runs_of l) rest) → RunMayFollow below left s.run
+    → (s : RunsSplitOff h.runs (runs_of l) rest) → RunMayFollow below left s.run
 may_be_next rows word rest list below left h l is s =
     let runs = subst AreRuns s.whole (runs_fall l is.falls is.positive) in
     let here = runs_at h.runs s.run s.more runs in
@@ -163,9 +163,9 @@ may_be_next rows word rest list below left h l is s =
       within = omega (arith, h.total, ap sum h.list_is);
     }
 
-pub listed_none : (rows : ℕ) (word rest first others list : List ℕ) (below left : ℕ) → rows < 2 ^ 32 → word ≢ codes "-" → RunsReadSoFar rows word rest list below left
+pub list_refused : (rows : ℕ) (word rest first others list : List ℕ) (below left : ℕ) → rows < 2 ^ 32 → word ≢ codes "-" → RunsReadSoFar rows word rest list below left
     → IsSplitAt 32 rest first others → Spells run_text (RunMayFollow below left) first None → Spells list_text (IsList rows) word None
-listed_none rows word rest first others list below left fits dash h split no' l is e =
+list_refused rows word rest first others list below left fits dash h split no' l is e =
     let s = others_text rows word rest list below left fits dash h l is e in
     let may = may_be_next rows word rest list below left h l is s in
     let total : left ≤ rows = omega (arith, h.total) in
@@ -174,24 +174,24 @@ listed_none rows word rest first others list below left fits dash h split no' l 
     let free = no_blank_in rows s.run (omega arith) (omega (arith, both.0), omega (arith, both.1)) in
     first_run s.run s.more s.text free may
   where
-    first_run : (m : Piece) (ms : List Piece) → runs_text (m ∷ ms) ≡ rest → Without 32 (run_text m) → RunMayFollow below left m → ⊥
+    first_run : (m : Piece) (ms : List Piece) → runs_text (m ∷ ms) ≡ rest → HasNoByte 32 (run_text m) → RunMayFollow below left m → ⊥
     first_run m [] text free may =
-        not_without 32 first others (subst (λ (w : List ℕ). Without 32 w) (sym (append-nil (run_text m)) ∙ text ∙ split.whole) free)
+        not_without 32 first others (subst (λ (w : List ℕ). HasNoByte 32 w) (sym (append-nil (run_text m)) ∙ text ∙ split.whole) free)
     first_run m (n ∷ ms) text free may =
         no' m may (split_same 32 (run_text m) first (runs_text (n ∷ ms)) others free split.first (text ∙ split.whole)).0
 
-pub listed_none_last : (rows : ℕ) (word rest list : List ℕ) (below left : ℕ) → rows < 2 ^ 32 → word ≢ codes "-" → RunsReadSoFar rows word rest list below left
-    → Without 32 rest → Spells run_text (RunMayFollow below left) rest None → Spells list_text (IsList rows) word None
-listed_none_last rows word rest list below left fits dash h none no' l is e =
+pub list_refused_at_end : (rows : ℕ) (word rest list : List ℕ) (below left : ℕ) → rows < 2 ^ 32 → word ≢ codes "-" → RunsReadSoFar rows word rest list below left
+    → HasNoByte 32 rest → Spells run_text (RunMayFollow below left) rest None → Spells list_text (IsList rows) word None
+list_refused_at_end rows word rest list below left fits dash h none no' l is e =
     let s = others_text rows word rest list below left fits dash h l is e in
     first_run s.run s.more s.text (may_be_next rows word rest list below left h l is s)
   where
     first_run : (m : Piece) (ms : List Piece) → runs_text (m ∷ ms) ≡ rest → RunMayFollow below left m → ⊥
     first_run m [] text may = no' m may (sym (append-nil (run_text m)) ∙ text)
-    first_run m (n ∷ ms) text may = not_without 32 (run_text m) (runs_text (n ∷ ms)) (subst (λ (w : List ℕ). Without 32 w) (sym text) none)
+    first_run m (n ∷ ms) text may = not_without 32 (run_text m) (runs_text (n ∷ ms)) (subst (λ (w : List ℕ). HasNoByte 32 w) (sym text) none)
 
-pub no_runs : (rows : ℕ) (word list : List ℕ) → list ≡ [] → word ≡ codes "-" → Spells list_text (IsList rows) word (Some list)
+pub dash_is_empty_list : (rows : ℕ) (word list : List ℕ) → list ≡ [] → word ≡ codes "-" → Spells list_text (IsList rows) word (Some list)
 unfolding runs_of
-no_runs rows word list none is =
+dash_is_empty_list rows word list none is =
     subst (λ (l : List ℕ). Spells list_text (IsList rows) word (Some l)) (sym none)
     (record { falls = λ r. omega arith; positive = λ k d lt. absurd (omega arith); within = omega arith }, sym is)

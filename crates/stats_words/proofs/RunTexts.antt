@@ -1,4 +1,4 @@
--- A run (a value and a count) has a text, and a list has runs. The text of a list of runs determines these runs.
+-- The text of a run (a value and a count), and of a list of runs. The text of a list of runs determines these runs.
 use Rattle.std.proofs.Common.{[], ◌≡◌, ◌≢◌, ℕ, zero, suc, ◌+◌, ◌*◌, ◌-◌, ◌^◌, ◌<◌, ◌≤◌, ◌==◌, true, false, List, ◌∷◌, ◌++◌, replicate, length, get_or, refl, ap, sym, subst, ◌∙◌, arith, append_assoc, append-nil, if◌then◌else◌, None, Some}
 use Rattle.std.specs.Prelude.{All, codes, decimal, sum}
 use Rattle.std.specs.List.{AllByRecursion, flat_map}
@@ -11,21 +11,21 @@ use Rattle.piece_math.specs.declared.pieces.Piece.{Piece}
 use Rattle.piece_math.specs.Expanded.{expanded, first_value, AreRuns}
 use Rattle.stats_file.specs.Grammar.{IsRunWord}
 use Rattle.stats_file.specs.Lines.{run_text, runs_text}
-use Rattle.stats_file.specs.Runs.{in_front, run_of, runs_of}
+use Rattle.stats_file.specs.Runs.{with_number_in_front, run_of, runs_of}
 use Rattle.stats_file.proofs.WordFacts.{numeral}
 use Rattle.stats_words.specs.Runs.{RunMayFollow}
-use Rattle.stats_words.specs.Splits.{IsSplitAt, Without}
+use Rattle.stats_words.specs.Splits.{IsSplitAt, HasNoByte}
 use Rattle.stats_words.specs.Words.{Spells}
 use Rattle.stats_words.proofs.ListWordFacts.{numeral_without, run_without}
 use Rattle.stats_words.proofs.SplitFacts.{not_without, split_same}
 
-abbrev pub IsSmall : ℕ → Piece → Type 0
-IsSmall most run = (run.value ≤ most) × (run.count ≤ most)
+abbrev pub IsRunWithin : ℕ → Piece → Type 0
+IsRunWithin most run = (run.value ≤ most) × (run.count ≤ most)
 
-pub no_star_in : (n : ℕ) → n < 2 ^ 64 → Without 42 (decimal n)
+pub no_star_in : (n : ℕ) → n < 2 ^ 64 → HasNoByte 42 (decimal n)
 no_star_in n small = numeral_without 42 (omega arith) (decimal n) (numeral n small)
 
-pub is_run_word : (most : ℕ) (run : Piece) → most < 2 ^ 64 → IsSmall most run → IsRunWord (run_text run)
+pub is_run_word : (most : ℕ) (run : Piece) → most < 2 ^ 64 → IsRunWithin most run → IsRunWord (run_text run)
 is_run_word most run fits small =
     let value : run.value ≤ most = small.0 in
     let count : run.count ≤ most = small.1 in
@@ -37,10 +37,10 @@ is_run_word most run fits small =
       whole = refl;
     }
 
-pub no_blank_in : (most : ℕ) (run : Piece) → most < 2 ^ 64 → IsSmall most run → Without 32 (run_text run)
+pub no_blank_in : (most : ℕ) (run : Piece) → most < 2 ^ 64 → IsRunWithin most run → HasNoByte 32 (run_text run)
 no_blank_in most run fits small = run_without (run_text run) (is_run_word most run fits small)
 
-pub same_run_of : (most : ℕ) (a b : Piece) → most < 2 ^ 64 → IsSmall most a → IsSmall most b → run_text a ≡ run_text b → a ≡ b
+pub same_run_of : (most : ℕ) (a b : Piece) → most < 2 ^ 64 → IsRunWithin most a → IsRunWithin most b → run_text a ≡ run_text b → a ≡ b
 same_run_of most a b fits small_a small_b e =
     let av : a.value ≤ most = small_a.0 in
     let ac : a.count ≤ most = small_a.1 in
@@ -56,13 +56,13 @@ at_least_both zero c v_some c_some = absurd (omega arith)
 at_least_both (suc v) zero v_some c_some = absurd (omega arith)
 at_least_both (suc v) (suc c) v_some c_some = (grind arith, grind arith)
 
-pub small_of : (below left : ℕ) (run : Piece) → RunMayFollow below left run → IsSmall left run
-small_of below left run may =
+pub follower_is_within : (below left : ℕ) (run : Piece) → RunMayFollow below left run → IsRunWithin left run
+follower_is_within below left run may =
     let both = at_least_both run.value run.count may.value may.count in
     let within : run.count * run.value ≤ left = may.within in
     (omega (arith, both.0), omega (arith, both.1))
 
-words_of : (word value count : List ℕ) (run : Piece) (left : ℕ) → left < 2 ^ 64 → IsSmall left run → IsSplitAt 42 word value count → run_text run ≡ word
+words_of : (word value count : List ℕ) (run : Piece) (left : ℕ) → left < 2 ^ 64 → IsRunWithin left run → IsSplitAt 42 word value count → run_text run ≡ word
     → (decimal run.value ≡ value) × (decimal run.count ≡ count)
 words_of word value count run left fits small split e =
     let le : run.value ≤ left = small.0 in
@@ -71,19 +71,19 @@ words_of word value count run left fits small split e =
 pub no_value : (below left : ℕ) (value count : List ℕ) → left < 2 ^ 64 → Spells decimal (λ n. n ≤ left) value None
     → (word : List ℕ) → IsSplitAt 42 word value count → Spells run_text (RunMayFollow below left) word None
 no_value below left value count fits h word split run may e =
-    let small = small_of below left run may in
+    let small = follower_is_within below left run may in
     h run.value small.0 (words_of word value count run left fits small split e).0
 
 pub no_count : (below left : ℕ) (value count : List ℕ) → left < 2 ^ 64 → Spells decimal (λ n. n ≤ left) count None
     → (word : List ℕ) → IsSplitAt 42 word value count → Spells run_text (RunMayFollow below left) word None
 no_count below left value count fits h word split run may e =
-    let small = small_of below left run may in
+    let small = follower_is_within below left run may in
     h run.count small.1 (words_of word value count run left fits small split e).1
 
 pub no_run : (below left : ℕ) (value count : List ℕ) (v c : ℕ) → left < 2 ^ 64 → Spells decimal (λ n. n ≤ left) value (Some v) → Spells decimal (λ n. n ≤ left) count (Some c)
     → ((0 < v) × (0 < c) × (v < below) × (c * v ≤ left) → ⊥) → (word : List ℕ) → IsSplitAt 42 word value count → Spells run_text (RunMayFollow below left) word None
 no_run below left value count v c fits hv hc other word split run may e =
-    let small = small_of below left run may in
+    let small = follower_is_within below left run may in
     let words = words_of word value count run left fits small split e in
     let le_v : run.value ≤ left = small.0 in
     let le_c : run.count ≤ left = small.1 in
@@ -104,8 +104,8 @@ some_run below left value count v c hv hc may word split = (
   ap (λ (x : List ℕ). x ++ (42 ∷ decimal c)) hv.1 ∙ ap (λ (x : List ℕ). value ++ (42 ∷ x)) hc.1 ∙ sym split.whole,
 )
 
-pub starless : (below left : ℕ) (word : List ℕ) → Without 42 word → Spells run_text (RunMayFollow below left) word None
-starless below left word none run may e = not_without 42 (decimal run.value) (decimal run.count) (subst (λ (w : List ℕ). Without 42 w) (sym e) none)
+pub no_run_without_star : (below left : ℕ) (word : List ℕ) → HasNoByte 42 word → Spells run_text (RunMayFollow below left) word None
+no_run_without_star below left word none run may e = not_without 42 (decimal run.value) (decimal run.count) (subst (λ (w : List ℕ). HasNoByte 42 w) (sym e) none)
 
 -- the text of a run that another run follows, with the blank between them
 abbrev pub with_blank_after : Piece → List ℕ
@@ -124,20 +124,20 @@ texts_joined (r ∷ rs) m =
     append_assoc (with_blank_after r) (flat_map with_blank_after rs) (run_text m) ∙ append_assoc (run_text r) (codes " ") (flat_map with_blank_after rs ++ run_text m)
     ∙ ap (λ (w : List ℕ). run_text r ++ (codes " " ++ w)) (texts_joined rs m) ∙ ap (λ (w : List ℕ). run_text r ++ w) (next_text rs m)
 
-pub record Stripped (runs all : List Piece) (rest : List ℕ) : Type 0 where
+pub record RunsSplitOff (runs all : List Piece) (rest : List ℕ) : Type 0 where
   pub run : Piece
   pub more : List Piece
   pub whole : all ≡ runs ++ (run ∷ more)
   pub text : runs_text (run ∷ more) ≡ rest
 
-pub stripped : (most : ℕ) (runs all : List Piece) (rest : List ℕ) → most < 2 ^ 64 → AllByRecursion (IsSmall most) runs → AllByRecursion (IsSmall most) all → 0 < length all
-    → runs_text all ≡ flat_map with_blank_after runs ++ rest → Stripped runs all rest
+pub stripped : (most : ℕ) (runs all : List Piece) (rest : List ℕ) → most < 2 ^ 64 → AllByRecursion (IsRunWithin most) runs → AllByRecursion (IsRunWithin most) all → 0 < length all
+    → runs_text all ≡ flat_map with_blank_after runs ++ rest → RunsSplitOff runs all rest
 stripped most runs [] rest fits small all_small some e = absurd (omega arith)
 stripped most [] (m ∷ ms) rest fits small all_small some e = record { run = m; more = ms; whole = refl; text = e }
 stripped most (r ∷ runs) (m ∷ []) rest fits small all_small some e =
     let whole : run_text m ≡ run_text r ++ (32 ∷ (flat_map with_blank_after runs ++ rest)) =
     sym (append-nil (run_text m)) ∙ e ∙ append_assoc (with_blank_after r) (flat_map with_blank_after runs) rest ∙ append_assoc (run_text r) (codes " ") (flat_map with_blank_after runs ++ rest) in
-    absurd (not_without 32 (run_text r) (flat_map with_blank_after runs ++ rest) (subst (λ (w : List ℕ). Without 32 w) whole (no_blank_in most m fits all_small.0)))
+    absurd (not_without 32 (run_text r) (flat_map with_blank_after runs ++ rest) (subst (λ (w : List ℕ). HasNoByte 32 w) whole (no_blank_in most m fits all_small.0)))
 stripped most (r ∷ runs) (m ∷ n ∷ ms) rest fits small all_small some e =
     let same = split_same 32 (run_text m) (run_text r) (runs_text (n ∷ ms)) (flat_map with_blank_after runs ++ rest) (no_blank_in most m fits all_small.0) (no_blank_in most r fits small.0)
     (e ∙ append_assoc (with_blank_after r) (flat_map with_blank_after runs) rest ∙ append_assoc (run_text r) (codes " ") (flat_map with_blank_after runs ++ rest)) in
@@ -150,15 +150,15 @@ stripped most (r ∷ runs) (m ∷ n ∷ ms) rest fits small all_small some e =
 pub sum_of_runs : (p : Piece) (ps : List Piece) → sum (expanded (p ∷ ps)) ≡ p.count * p.value + sum (expanded ps)
 sum_of_runs p ps = sum_by-append (λ (x : ℕ). x) (replicate p.count p.value) (expanded ps) ∙ ap (λ n. n + sum (expanded ps)) (sum_by-replicate (λ (x : ℕ). x) p.count p.value)
 
-pub small_runs : (most : ℕ) (ps : List Piece) → AreRuns ps → sum (expanded ps) ≤ most → AllByRecursion (IsSmall most) ps
-small_runs most [] runs within = tt
-small_runs most (p ∷ ps) runs within =
+pub runs_are_within : (most : ℕ) (ps : List Piece) → AreRuns ps → sum (expanded ps) ≤ most → AllByRecursion (IsRunWithin most) ps
+runs_are_within most [] runs within = tt
+runs_are_within most (p ∷ ps) runs within =
     let total = sum_of_runs p ps in
     let value : 0 < p.value = omega (arith, runs.0) in
     let both = at_least_both p.value p.count value runs.1 in
-    ((omega (arith, total, both.0), omega (arith, total, both.1)), small_runs most ps runs.2 (omega (arith, total)))
+    ((omega (arith, total, both.0), omega (arith, total, both.1)), runs_are_within most ps runs.2 (omega (arith, total)))
 
-in_front_expanded : (x : ℕ) (ps : List Piece) → expanded (in_front x ps) ≡ x ∷ expanded ps
+in_front_expanded : (x : ℕ) (ps : List Piece) → expanded (with_number_in_front x ps) ≡ x ∷ expanded ps
 in_front_expanded x [] = refl
 in_front_expanded x (p ∷ ps) = at (x == p.value) refl
   where
@@ -174,7 +174,7 @@ unfolding runs_of
 expanded_runs [] = refl
 expanded_runs (x ∷ list) = in_front_expanded x (runs_of list) ∙ ap (λ (rest : List ℕ). x ∷ rest) (expanded_runs list)
 
-first_of : (x : ℕ) (ps : List Piece) → first_value (in_front x ps) ≡ x
+first_of : (x : ℕ) (ps : List Piece) → first_value (with_number_in_front x ps) ≡ x
 first_of x [] = refl
 first_of x (p ∷ ps) = at (x == p.value)
   where
@@ -187,7 +187,7 @@ unfolding runs_of
 first_runs [] = refl
 first_runs (x ∷ list) = first_of x (runs_of list)
 
-in_front_runs : (x : ℕ) (ps : List Piece) → 0 < x → first_value ps ≤ x → AreRuns ps → AreRuns (in_front x ps)
+in_front_runs : (x : ℕ) (ps : List Piece) → 0 < x → first_value ps ≤ x → AreRuns ps → AreRuns (with_number_in_front x ps)
 in_front_runs x [] some le runs = (some, omega arith, tt)
 in_front_runs x (p ∷ ps) some le runs = at (x == p.value) refl
   where

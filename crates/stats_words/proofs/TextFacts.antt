@@ -1,4 +1,4 @@
--- A word spells a text by the hexadecimal digits of the text's bytes.
+-- A word spells a text as the hexadecimal digits of the text's bytes.
 use Rattle.std.proofs.Common.{[], ◌≡◌, ◌≢◌, ℕ, ◌+◌, ◌/◌, ◌%◌, ◌<◌, ltb, Bool, true, false, cond, inl, inr, List, ◌∷◌, ◌++◌, get_or, drop, refl, ap, sym, subst, ◌∙◌, arith, None, Some, Option}
 use Rattle.std.specs.Prelude.{FitsSigned, IsUtf8, MatchOption}
 use Rattle.std.specs.Fmt.{signed_decimal}
@@ -24,9 +24,9 @@ joined_bytes : (a b : List ℕ) → AreBytes a → AreBytes b → AreBytes (a ++
 joined_bytes [] b are others = others
 joined_bytes (x ∷ a) b are others = (are.0, joined_bytes a b are.1 others)
 
-encoded : (c : ℕ) → c < 1114112 → AreBytes (encode c)
+encode_gives_bytes : (c : ℕ) → c < 1114112 → AreBytes (encode c)
 unfolding encode
-encoded c small = at (ltb c 128) (ltb c 2048) (ltb c 65536) refl refl refl
+encode_gives_bytes c small = at (ltb c 128) (ltb c 2048) (ltb c 65536) refl refl refl
   where
     at : (x y z : Bool) → ltb c 128 ≡ x → ltb c 2048 ≡ y → ltb c 65536 ≡ z
         → AreBytes (cond x (c ∷ []) (cond y ((192 + c / 64) ∷ (128 + c % 64) ∷ []) (cond z ((224 + c / 4096) ∷ (128 + (c / 64) % 64) ∷ (128 + c % 64) ∷ [])
@@ -36,14 +36,14 @@ encoded c small = at (ltb c 128) (ltb c 2048) (ltb c 65536) refl refl refl
     at false false true e f g = let lt : c < 65536 = grind (arith, nat_tests) in (omega arith, (omega arith, (omega arith, tt)))
     at false false false e f g = (omega arith, (omega arith, (omega arith, (omega arith, tt))))
 
-all_encoded : (cs : List ℕ) → scalars cs ≡ true → AreBytes (encodes cs)
-all_encoded [] are = tt
-all_encoded (c ∷ cs) are =
+encodes_give_bytes : (cs : List ℕ) → scalars cs ≡ true → AreBytes (encodes cs)
+encodes_give_bytes [] are = tt
+encodes_give_bytes (c ∷ cs) are =
     let both = and_parts (scalar c) (scalars cs) are in
-    joined_bytes (encode c) (encodes cs) (encoded c (below_end c both.0)) (all_encoded cs both.1)
+    joined_bytes (encode c) (encodes cs) (encode_gives_bytes c (below_end c both.0)) (encodes_give_bytes cs both.1)
 
 pub utf8_bytes : (bytes : List ℕ) → IsUtf8 bytes → AreBytes bytes
-utf8_bytes bytes (cs, (are, is)) = subst AreBytes is (all_encoded cs are)
+utf8_bytes bytes (cs, (are, is)) = subst AreBytes is (encodes_give_bytes cs are)
 
 same_digit : (m n : ℕ) → hex_digit m ≡ hex_digit n → m ≡ n
 same_digit m n e = grind (arith, nat_tests)
@@ -69,8 +69,8 @@ same_bytes (x ∷ a) (y ∷ b) e =
 pub same_hex : (a b : List ℕ) → hex_text a ≡ hex_text b → a ≡ b
 same_hex a b e = same_bytes a b (ap (λ (w : List ℕ). drop 1 w) e)
 
-pub no_hex : (most : ℕ) (word : List ℕ) → (IsHexWord word → ⊥) → Spells datum_text (IsOfKind (kinds.Text most)) word None
-no_hex most word other = none
+pub not_hex_spells_no_text : (most : ℕ) (word : List ℕ) → (IsHexWord word → ⊥) → Spells datum_text (IsOfKind (kinds.Text most)) word None
+not_hex_spells_no_text most word other = none
   where
     none : (d : Datum) → IsOfKind (kinds.Text most) d → datum_text d ≢ word
     none (datums.Int n) never e = never

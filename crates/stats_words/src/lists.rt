@@ -1,4 +1,4 @@
-//! Degree lists, written as runs of equal numbers.
+//! Reads degree lists, which are written as runs of equal numbers.
 ghost use Rattle.std.specs.Prelude.{◌≡◌, ◌≢◌, ◌*◌, ◌^◌, ◌<◌, ◌≤◌, ◌↔◌, ℕ, List, IfOk, IsTrue, codes};
 ghost use Rattle.stats_file.specs.Grammar.{AreRunWords, IsListWord, IsNumeral, IsRunWord};
 ghost use Rattle.stats_file.specs.Lines.{run_text};

@@ -22,7 +22,7 @@ fn begins_numeral(first: u8, others: &[u8]) -> bool
     first.is_ascii_digit() && are_digits(others) && (first > b'0' || others.is_empty())
 }
 
-/// Whether a word is a numeral: decimal digits without a leading zero, or 0 alone.
+/// Whether a word is a numeral: decimal digits without a leading zero, or just 0.
 pub fn is_numeral(word: &[u8]) -> bool
     ensures { result ≡ numeral_test word.now }
 {
@@ -32,7 +32,7 @@ pub fn is_numeral(word: &[u8]) -> bool
     }
 }
 
-// Whether a word may be a numeral, if it consists of digits: it has at least one digit, and no leading zero unless it is 0 alone.
+// Whether a word may be a numeral, if it consists of digits: it has at least one digit, and no leading zero unless it is just 0.
 fn may_begin_numeral(word: &[u8]) -> bool
     ensures { numeral_test word.now ≡ (list_all digit_test word.now && result) }
 {
@@ -82,7 +82,7 @@ pub fn number(word: &[u8], most: u64) -> Option<u64>
 }
 
 // The negative number that these digits spell after a dash.
-fn negative(digits: &[u8]) -> Option<i64>
+fn negative_number(digits: &[u8]) -> Option<i64>
     ensures { Spells signed_decimal (FitsSigned w64) (45 ∷ digits.now) result }
 {
     let size = number(digits, 1 << 63)?;
@@ -108,7 +108,7 @@ pub fn signed_number(word: &[u8]) -> Option<i64>
     ensures { Spells signed_decimal (FitsSigned w64) word.now result }
 {
     match word {
-        [b'-', digits @ ..] => negative(digits),
+        [b'-', digits @ ..] => negative_number(digits),
         _ => number_without_dash(word),
     }
 }

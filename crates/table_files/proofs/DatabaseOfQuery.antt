@@ -28,9 +28,9 @@ use Rattle.sql_meaning.specs.Databases as asked
 use Rattle.sql_meaning.specs.Tables.{cells_of}
 use Rattle.table_files.specs.EntryTables.{AreCellsOfEach, HasCells}
 use Rattle.table_files.specs.Stage.{without_repeats, no_table, numbers_of, index_of, table_at, tables_of_query}
-use Rattle.table_files.proofs.FewRows.{HasFewRows, tables_are_few}
-use Rattle.table_files.proofs.EntryRows.{db, each_long, each_sound, has_cells, place_low, slot_is}
-use Rattle.table_files.proofs.IndexFacts.{different_all, different_short}
+use Rattle.table_files.proofs.FewRows.{HasRowsWithinLimit, tables_within_row_limit}
+use Rattle.table_files.proofs.EntryRows.{db, each_count, each_sound, has_cells, index_within, slot_is}
+use Rattle.table_files.proofs.IndexFacts.{different_all, without_repeats_short}
 
 -- ---- if property Q of a comparison implies property R, the same holds for AND, OR and NOT of comparisons
 
@@ -65,7 +65,7 @@ module _ (Q R : Cond-F Cond → Type 0) (and : (all : List Cond) → R (layer.An
 
 -- ---- columns
 
-module _ (schema : Schema) (query : Query) (d : Database) (has : HasCells schema query.from d) (long : length d.slots ≡ length query.from) where
+module _ (schema : Schema) (query : Query) (d : Database) (cells_there : HasCells schema query.from d) (slot_count : length d.slots ≡ length query.from) where
   declared_at : (ref' : ColumnRef) (column : Column) → valid.FindsColumn schema query.from ref' column
       → slice_get (table_at schema (get_or (numbers_of query.from) ref'.from 0)).columns ref'.column ≡ Some column
   declared_at ref' column f =
@@ -80,7 +80,7 @@ module _ (schema : Schema) (query : Query) (d : Database) (has : HasCells schema
       let low : ref'.from < length query.from = slice_get_within query.from ref'.from f.source f.entry in
       let table : Table = table_at schema (get_or (numbers_of query.from) ref'.from 0) in
       let within : ref'.column < length table.columns = slice_get_within table.columns ref'.column column (declared_at ref' column f) in
-      let wide : length (cells_of d ref'.from).kinds ≡ length table.columns = ap length (has ref'.from low).kinds ∙ length-map table.columns (λ (c : Column). c.kind) in
+      let wide : length (cells_of d ref'.from).kinds ≡ length table.columns = ap length (cells_there ref'.from low).kinds ∙ length-map table.columns (λ (c : Column). c.kind) in
       record { entry = omega arith; exists = omega arith }
 
   kind_of : (ref' : ColumnRef) (text : Bool) → valid.IsColumnOf schema query.from ref' text → asked.IsColumnOfKind d ref' text
@@ -88,7 +88,7 @@ module _ (schema : Schema) (query : Query) (d : Database) (has : HasCells schema
       let low : ref'.from < length query.from = slice_get_within query.from ref'.from h.finds.source h.finds.entry in
       let table : Table = table_at schema (get_or (numbers_of query.from) ref'.from 0) in
       let found : slice_get (cells_of d ref'.from).kinds ref'.column ≡ Some h.column.kind =
-      ap (λ ks. slice_get ks ref'.column) (has ref'.from low).kinds ∙ slice_get-map (λ (c : Column). c.kind) table.columns ref'.column
+      ap (λ ks. slice_get ks ref'.column) (cells_there ref'.from low).kinds ∙ slice_get-map (λ (c : Column). c.kind) table.columns ref'.column
       ∙ ap (option_map (λ (c : Column). c.kind)) (declared_at ref' h.column h.finds) in
       record { exists = column_of ref' h.column h.finds; kind = ap (option_map valid.is_text) found ∙ ap Some h.kind }
 
@@ -97,8 +97,8 @@ module _ (schema : Schema) (query : Query) (d : Database) (has : HasCells schema
   operand_of (operand.Int number) text h = h
   operand_of (operand.Text t) text h = h
 
-  pub askable : (c : Cond) → valid.IsCondOf schema query.from c → asked.IsWellTyped d c
-  askable = carried (IsTypedLayer (valid.IsColumnOf schema query.from)) (IsTypedLayer (asked.IsColumnOfKind d)) (λ all. tt) (λ any. tt) (λ inner. tt)
+  pub well_typed : (c : Cond) → valid.IsCondOf schema query.from c → asked.IsWellTyped d c
+  well_typed = carried (IsTypedLayer (valid.IsColumnOf schema query.from)) (IsTypedLayer (asked.IsColumnOfKind d)) (λ all. tt) (λ any. tt) (λ inner. tt)
       (λ op left right h. record { text = h.text; left_kind = operand_of left h.text h.left_kind; right_kind = operand_of right h.text h.right_kind })
 
   pub output_of : (ref' : ColumnRef) (column : Column) → valid.FindsColumn schema query.from ref' column → asked.IsColumnOf d ref'
@@ -106,43 +106,43 @@ module _ (schema : Schema) (query : Query) (d : Database) (has : HasCells schema
 
 -- ---- the query can be evaluated on the database
 
-module _ (schema : Schema) (query : Query) (texts : List (List ℕ)) (cells : List Cells) (is_of : valid.IsOf schema query)
-    (are : AreCellsOfEach schema texts (tables_of_query query.from) cells) (few : All HasFewRows cells) where
+module _ (schema : Schema) (query : Query) (texts : List (List ℕ)) (cells : List Cells) (is_of : valid.IsQueryOf schema query)
+    (are : AreCellsOfEach schema texts (tables_of_query query.from) cells) (rows_limited : All HasRowsWithinLimit cells) where
   abbrev d : Database
   d = db schema query.from texts cells
 
   long_slots : length d.slots ≡ length query.from
   long_slots = length-map (numbers_of query.from) (index_of (tables_of_query query.from)) ∙ length-map query.from (λ (source : Source). source.table)
 
-  slots_low : All (λ slot. slot < length cells) d.slots
-  slots_low = All-from_get_or (λ slot. slot < length cells) d.slots 0
-      (λ i low. omega (arith, slot_is schema query.from texts cells i (omega (arith, long_slots)), place_low schema query.from texts cells i (omega (arith, long_slots)), each_long schema texts (tables_of_query query.from) cells are))
+  slots_within : All (λ slot. slot < length cells) d.slots
+  slots_within = All-from_get_or (λ slot. slot < length cells) d.slots 0
+      (λ i low. omega (arith, slot_is schema query.from texts cells i (omega (arith, long_slots)), index_within schema query.from texts cells i (omega (arith, long_slots)), each_count schema texts (tables_of_query query.from) cells are))
 
   pub database_is : asked.IsDatabaseOf query d
   database_is = record {
-    some = is_of.some;
-    few = is_of.few;
-    few_conjuncts = is_of.conjuncts_few;
+    some = is_of.has_entries;
+    few = is_of.entries_within_limit;
+    conjuncts_within_limit = is_of.conjuncts_within_limit;
     entries = long_slots;
     tables = record {
       cells = All-from_recursion (asked.AreCells texts) cells (each_sound schema texts (tables_of_query query.from) cells are);
-      slots = slots_low;
+      slots = slots_within;
     };
-    few_rows = λ entry low. tables_are_few d few entry;
+    rows_within_limit = λ entry low. tables_within_row_limit d rows_limited entry;
     same_slot = λ i j lowi lowj same. slot_is schema query.from texts cells i lowi ∙ ap (index_of (tables_of_query query.from)) same
         ∙ sym (slot_is schema query.from texts cells j lowj);
-    conjuncts = λ i e low. askable schema query d (has_cells schema query.from texts cells are) long_slots (get_or query.conjuncts i e) (is_of.conjuncts i e low);
+    conjuncts = λ i e low. well_typed schema query d (has_cells schema query.from texts cells are) long_slots (get_or query.conjuncts i e) (is_of.conjuncts i e low);
     outputs = λ i e low. let out = is_of.outs i e low in
         output_of schema query d (has_cells schema query.from texts cells are) long_slots (get_or query.select i e).column out.column out.finds;
   }
 
 -- ---- which tables a query names
 
-pub numbers_low : (schema : Schema) (query : Query) → valid.IsOf schema query → All (λ number. number < length schema.tables) (tables_of_query query.from)
-numbers_low schema query is_of = All-from_recursion (λ number. number < length schema.tables) (tables_of_query query.from)
+pub table_numbers_within : (schema : Schema) (query : Query) → valid.IsQueryOf schema query → All (λ number. number < length schema.tables) (tables_of_query query.from)
+table_numbers_within schema query is_of = All-from_recursion (λ number. number < length schema.tables) (tables_of_query query.from)
     (different_all (λ number. number < length schema.tables) (numbers_of query.from)
     (recursion_from_All (λ number. number < length schema.tables) (numbers_of query.from)
     (All-map (λ number. number < length schema.tables) (λ (source : Source). source.table) query.from is_of.sources)))
 
-pub numbers_few : (schema : Schema) (query : Query) → valid.IsOf schema query → length (tables_of_query query.from) ≤ 12
-numbers_few schema query is_of = omega (arith, different_short (numbers_of query.from), length-map query.from (λ (source : Source). source.table), is_of.few)
+pub at_most_twelve_tables : (schema : Schema) (query : Query) → valid.IsQueryOf schema query → length (tables_of_query query.from) ≤ 12
+at_most_twelve_tables schema query is_of = omega (arith, without_repeats_short (numbers_of query.from), length-map query.from (λ (source : Source). source.table), is_of.entries_within_limit)

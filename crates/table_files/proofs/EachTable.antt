@@ -18,15 +18,15 @@ use Rattle.outcomes.specs.declared.failure.Failure.{Failure}
 use Rattle.outcomes.specs.declared.names.FileId.{FileId}
 use Rattle.outcomes.specs.declared.names.FileId.TheVariants as file
 use Rattle.outcomes.specs.declared.refusal.Refusal.{Refusal}
-use Rattle.outcomes.proofs.ReadFacts.{Meets, joined, reads_as, then_gives, then_reads, then_stops}
-use Rattle.table_files.specs.EntryTables.{AreCellsOfEach, AreOfAFile, AreOfFilesEach, rows_of_tables}
+use Rattle.outcomes.proofs.ReadFacts.{IsFollowedBy, joined, reads_as, then_gives, then_reads, then_stops}
+use Rattle.table_files.specs.EntryTables.{AreCellsOfEach, CanComeFromFile, EachCanComeFromFile, rows_of_tables}
 use Rattle.table_files.specs.Stage.{IsReached, no_table, rows_of_each, table_at, table_rows}
 use Rattle.table_files.specs.TableFile.{file_rows, rows_in}
 
 abbrev AllRows : Type 0
 AllRows = Result (List (List Row)) Refusal
 
--- ---- reading all tables is reading those before table n, then table n, then those after it
+-- ---- reading all tables is reading the tables before table n, then table n, then the tables after it
 
 second_part : (a : List Row) (e : AllRows) (u : Result (List Row) Refusal) (w : AllRows)
     → ((e >>= (λ rs. u >>= (λ r. w >>= (λ others. Ok (rs ++ (r ∷ others)))))) >>= (λ rest. Ok (a ∷ rest)))
@@ -55,12 +55,12 @@ parted schema (m ∷ before) n after files =
 
 -- ---- reading one more table, number n: its refusal ends the reading, its rows are appended
 
--- `Reads` needs a condition on the file at which a reading may fail. For a reading that succeeds, any condition is enough. `AnyFile` holds for every
--- file
+-- `Reads` needs a condition on the file at which a reading may fail. A reading that succeeds fails at no file, so any condition may be given.
+-- `AnyFile` holds for every file
 abbrev pub AnyFile : Files → FileId → Type 0
 AnyFile files id = ⊤
 
-module _ (schema : Schema) (first second : Reading) (meets : Meets first second) (before : List ℕ) (n : ℕ) (rs : List (List Row))
+module _ (schema : Schema) (first second : Reading) (meets : IsFollowedBy first second) (before : List ℕ) (n : ℕ) (rs : List (List Row))
     (h : Reads first (rows_of_each schema before) AnyFile (Ok rs)) where
   abbrev AtThis : Files → FileId → Type 0
   AtThis = AtFile (file.Table n)
@@ -116,8 +116,8 @@ rows-push : (texts : List (List ℕ)) (found : List Cells) (c : Cells) → rows_
 rows-push texts [] c = refl
 rows-push texts (d ∷ ds) c = ap (λ (others : List (List Row)). rows_of_cells texts d ∷ others) (rows-push texts ds c)
 
-files-push : (schema : Schema) (numbers : List ℕ) (rows : List (List Row)) (n : ℕ) (r : List Row) → AreOfFilesEach schema numbers rows → AreOfAFile (table_at schema n) r
-    → AreOfFilesEach schema (numbers ++ n ∷ []) (rows ++ r ∷ [])
+files-push : (schema : Schema) (numbers : List ℕ) (rows : List (List Row)) (n : ℕ) (r : List Row) → EachCanComeFromFile schema numbers rows → CanComeFromFile (table_at schema n) r
+    → EachCanComeFromFile schema (numbers ++ n ∷ []) (rows ++ r ∷ [])
 files-push schema [] [] n r h k = (k, tt)
 files-push schema [] (s ∷ rows) n r h k = absurd h
 files-push schema (m ∷ ms) [] n r h k = absurd h
@@ -126,10 +126,10 @@ files-push schema (m ∷ ms) (s ∷ rows) n r h k = (h.0, files-push schema ms r
 -- ---- the loop over the tables
 
 -- this is the state of the loop: the first i tables are read
-pub record SoFar (schema : Schema) (numbers : List ℕ) (store : Reading) (i : ℕ) (texts : List (List ℕ)) (found : List Cells) : Type 0 where
+pub record TablesReadSoFar (schema : Schema) (numbers : List ℕ) (store : Reading) (i : ℕ) (texts : List (List ℕ)) (found : List Cells) : Type 0 where
   pub cells : AreCellsOfEach schema texts (take i numbers) found
   pub reads : Reads store (rows_of_each schema (take i numbers)) AnyFile (Ok (rows_of_tables texts found))
-  pub files : AreOfFilesEach schema (take i numbers) (rows_of_tables texts found)
+  pub files : EachCanComeFromFile schema (take i numbers) (rows_of_tables texts found)
   pub few : length texts ≤ i * 256000000
 
 parts_at : (numbers : List ℕ) (i n : ℕ) → i < length numbers → n ≡ get_or numbers i 0 → take i numbers ++ (n ∷ drop (i + 1) numbers) ≡ numbers
@@ -149,24 +149,24 @@ module _ (schema : Schema) (n : ℕ) (t : Table) (declared : slice_get schema.ta
       → Reads store (rows_in n (table_at schema n) name) (AtFile (file.Table n)) answer
   rows_named name store answer k = subst (λ (u : Table). Reads store (rows_in n u name) (AtFile (file.Table n)) answer) same_table k
 
-  named_file : (rows : List Row) → AreOfAFile t rows → AreOfAFile (table_at schema n) rows
-  named_file rows h = subst (λ (u : Table). AreOfAFile u rows) same_table h
+  named_file : (rows : List Row) → CanComeFromFile t rows → CanComeFromFile (table_at schema n) rows
+  named_file rows h = subst (λ (u : Table). CanComeFromFile u rows) same_table h
 
   pub named_cells : (texts : List (List ℕ)) (c : Cells) → AreCellsOf t texts c → AreCellsOf (table_at schema n) texts c
   named_cells texts c h = subst (λ (u : Table). AreCellsOf u texts c) same_table h
 
-module _ (schema : Schema) (numbers : List ℕ) (first second : Reading) (meets : Meets first second) (i n : ℕ) (a : List (List ℕ)) (found : List Cells)
-    (lt : i < length numbers) (is : n ≡ get_or numbers i 0) (t : Table) (declared : slice_get schema.tables n ≡ Some t) (so_far : SoFar schema numbers first i a found) where
+module _ (schema : Schema) (numbers : List ℕ) (first second : Reading) (meets : IsFollowedBy first second) (i n : ℕ) (a : List (List ℕ)) (found : List Cells)
+    (lt : i < length numbers) (number_is : n ≡ get_or numbers i 0) (t : Table) (declared : slice_get schema.tables n ≡ Some t) (so_far : TablesReadSoFar schema numbers first i a found) where
   pub next_stops : (e : Failure) → Reads second (file_rows n t) (AtFile (file.Table n)) (Err e)
       → Reads (joined first second) (rows_of_each schema numbers) (IsReached schema numbers) (Err e)
-  next_stops e k = each_stops schema first second meets (take i numbers) n (rows_of_tables a found) so_far.reads (drop (i + 1) numbers) numbers e (parts_at numbers i n lt is)
+  next_stops e k = each_stops schema first second meets (take i numbers) n (rows_of_tables a found) so_far.reads (drop (i + 1) numbers) numbers e (parts_at numbers i n lt number_is)
       (named_rows schema n t declared second (Err e) k)
 
   taken : take (i + 1) numbers ≡ take i numbers ++ n ∷ []
-  taken = take_more numbers i 0 lt ∙ ap (λ (m : ℕ). take i numbers ++ m ∷ []) (sym is)
+  taken = take_more numbers i 0 lt ∙ ap (λ (m : ℕ). take i numbers ++ m ∷ []) (sym number_is)
 
-  pub next_read : (b : List (List ℕ)) (c : Cells) → PoolBeginsWith a b → length b ≤ length a + 256000000 → AreCellsOf t b c → AreOfAFile t (rows_of_cells b c)
-      → Reads second (file_rows n t) (AtFile (file.Table n)) (Ok (rows_of_cells b c)) → SoFar schema numbers (joined first second) (i + 1) b (found ++ c ∷ [])
+  pub next_read : (b : List (List ℕ)) (c : Cells) → PoolBeginsWith a b → length b ≤ length a + 256000000 → AreCellsOf t b c → CanComeFromFile t (rows_of_cells b c)
+      → Reads second (file_rows n t) (AtFile (file.Table n)) (Ok (rows_of_cells b c)) → TablesReadSoFar schema numbers (joined first second) (i + 1) b (found ++ c ∷ [])
   next_read b c begins more cells file k =
       let rows : rows_of_tables a found ++ rows_of_cells b c ∷ [] ≡ rows_of_tables b (found ++ c ∷ []) =
       ap (λ (l : List (List Row)). l ++ rows_of_cells b c ∷ []) (sym (each_rows-grown schema a b begins (take i numbers) found so_far.cells)) ∙ sym (rows-push b found c) in
@@ -176,8 +176,8 @@ module _ (schema : Schema) (numbers : List ℕ) (first second : Reading) (meets 
         reads = subst (λ (l : List ℕ). Reads (joined first second) (rows_of_each schema l) AnyFile (Ok (rows_of_tables b (found ++ c ∷ [])))) (sym taken)
             (subst (λ (v : List (List Row)). Reads (joined first second) (rows_of_each schema (take i numbers ++ n ∷ [])) AnyFile (Ok v)) rows
             (each_more schema first second meets (take i numbers) n (rows_of_tables a found) so_far.reads (rows_of_cells b c) (named_rows schema n t declared second (Ok (rows_of_cells b c)) k)));
-        files = subst (λ (l : List ℕ). AreOfFilesEach schema l (rows_of_tables b (found ++ c ∷ []))) (sym taken)
-            (subst (λ (v : List (List Row)). AreOfFilesEach schema (take i numbers ++ n ∷ []) v) rows
+        files = subst (λ (l : List ℕ). EachCanComeFromFile schema l (rows_of_tables b (found ++ c ∷ []))) (sym taken)
+            (subst (λ (v : List (List Row)). EachCanComeFromFile schema (take i numbers ++ n ∷ []) v) rows
             (files-push schema (take i numbers) (rows_of_tables a found) n (rows_of_cells b c) so_far.files (named_file schema n t declared (rows_of_cells b c) file)));
         few = omega (arith, so_far.few, more);
       }

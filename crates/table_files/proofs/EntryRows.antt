@@ -14,7 +14,7 @@ use Rattle.csv_tables.specs.declared.types.Database.{Database}
 use Rattle.query_types.specs.declared.types.Source.{Source}
 use Rattle.sql_meaning.specs.Databases.{AreCells}
 use Rattle.sql_meaning.specs.Tables.{cells_of, no_cells, tables_of}
-use Rattle.table_files.specs.EntryTables.{AreCellsOfEach, AreOfAFile, AreOfFiles, AreOfFilesEach, HasCells, entry_rows, rows_of_tables}
+use Rattle.table_files.specs.EntryTables.{AreCellsOfEach, CanComeFromFile, CanComeFromFiles, EachCanComeFromFile, HasCells, entry_rows, rows_of_tables}
 use Rattle.table_files.specs.Stage.{without_repeats, numbers_of, index_of, rows_by_entry, table_at, tables_of_query}
 use Rattle.table_files.proofs.IndexFacts.{at_place, has_different, has_each, has_place}
 
@@ -30,11 +30,11 @@ each_place g xs = same_lists (map (λ i. g (get_or xs i 0)) (range_with_len 0 (l
 
 -- ---- the cells of tables by index
 
-pub each_long : (schema : Schema) (texts : List (List ℕ)) (numbers : List ℕ) (cells : List Cells) → AreCellsOfEach schema texts numbers cells → length cells ≡ length numbers
-each_long schema texts [] [] h = refl
-each_long schema texts [] (c ∷ cs) h = absurd h
-each_long schema texts (n ∷ ns) [] h = absurd h
-each_long schema texts (n ∷ ns) (c ∷ cs) h = omega (arith, each_long schema texts ns cs h.1)
+pub each_count : (schema : Schema) (texts : List (List ℕ)) (numbers : List ℕ) (cells : List Cells) → AreCellsOfEach schema texts numbers cells → length cells ≡ length numbers
+each_count schema texts [] [] h = refl
+each_count schema texts [] (c ∷ cs) h = absurd h
+each_count schema texts (n ∷ ns) [] h = absurd h
+each_count schema texts (n ∷ ns) (c ∷ cs) h = omega (arith, each_count schema texts ns cs h.1)
 
 pub each_sound : (schema : Schema) (texts : List (List ℕ)) (numbers : List ℕ) (cells : List Cells) → AreCellsOfEach schema texts numbers cells → AllByRecursion (AreCells texts) cells
 each_sound schema texts [] [] h = tt
@@ -49,8 +49,8 @@ each_at schema texts (n ∷ ns) [] k h lt = absurd h
 each_at schema texts (n ∷ ns) (c ∷ cs) zero h lt = h.0
 each_at schema texts (n ∷ ns) (c ∷ cs) (suc k) h lt = each_at schema texts ns cs k h.1 (omega arith)
 
-file_at : (schema : Schema) (numbers : List ℕ) (rows : List (List Row)) (k : ℕ) → AreOfFilesEach schema numbers rows → k < length numbers
-    → AreOfAFile (table_at schema (get_or numbers k 0)) (get_or rows k [])
+file_at : (schema : Schema) (numbers : List ℕ) (rows : List (List Row)) (k : ℕ) → EachCanComeFromFile schema numbers rows → k < length numbers
+    → CanComeFromFile (table_at schema (get_or numbers k 0)) (get_or rows k [])
 file_at schema [] rows k h lt = absurd (omega arith)
 file_at schema (n ∷ ns) [] k h lt = absurd h
 file_at schema (n ∷ ns) (r ∷ rs) zero h lt = h.0
@@ -59,46 +59,46 @@ file_at schema (n ∷ ns) (r ∷ rs) (suc k) h lt = file_at schema ns rs k h.1 (
 -- ---- the database of the tables of a query
 
 module _ (schema : Schema) (from : List Source) (texts : List (List ℕ)) (cells : List Cells) where
-  abbrev Numbers : List ℕ
-  Numbers = tables_of_query from
+  abbrev numbers : List ℕ
+  numbers = tables_of_query from
 
   abbrev pub db : Database
   db = record { pool = texts; cells = cells; slots = map (index_of (tables_of_query from)) (numbers_of from) }
 
-  entry_low : (entry : ℕ) → entry < length from → entry < length (numbers_of from)
-  entry_low entry lt = omega (arith, length-map from (λ (source : Source). source.table))
+  entry_within : (entry : ℕ) → entry < length from → entry < length (numbers_of from)
+  entry_within entry lt = omega (arith, length-map from (λ (source : Source). source.table))
 
-  pub slot_is : (entry : ℕ) → entry < length from → get_or db.slots entry 0 ≡ index_of Numbers (get_or (numbers_of from) entry 0)
-  slot_is entry lt = list.get_or-map (index_of Numbers) (numbers_of from) entry 0 0 (entry_low entry lt)
+  pub slot_is : (entry : ℕ) → entry < length from → get_or db.slots entry 0 ≡ index_of numbers (get_or (numbers_of from) entry 0)
+  slot_is entry lt = list.get_or-map (index_of numbers) (numbers_of from) entry 0 0 (entry_within entry lt)
 
-  pub place_low : (entry : ℕ) → entry < length from → index_of Numbers (get_or (numbers_of from) entry 0) < length Numbers
-  place_low entry lt = has_place Numbers (get_or (numbers_of from) entry 0)
-      (has_different (numbers_of from) (get_or (numbers_of from) entry 0) (has_each (numbers_of from) entry (entry_low entry lt)))
+  pub index_within : (entry : ℕ) → entry < length from → index_of numbers (get_or (numbers_of from) entry 0) < length numbers
+  index_within entry lt = has_place numbers (get_or (numbers_of from) entry 0)
+      (has_different (numbers_of from) (get_or (numbers_of from) entry 0) (has_each (numbers_of from) entry (entry_within entry lt)))
 
-  pub has_cells : AreCellsOfEach schema texts Numbers cells → HasCells schema from db
+  pub has_cells : AreCellsOfEach schema texts numbers cells → HasCells schema from db
   has_cells are entry lt =
       let number : ℕ = get_or (numbers_of from) entry 0 in
-      let here : AreCellsOf (table_at schema (get_or Numbers (index_of Numbers number) 0)) texts (get_or cells (index_of Numbers number) no_cells) =
-      each_at schema texts Numbers cells (index_of Numbers number) are (place_low entry lt) in
-      let named : AreCellsOf (table_at schema number) texts (get_or cells (index_of Numbers number) no_cells) =
-      subst (λ (m : ℕ). AreCellsOf (table_at schema m) texts (get_or cells (index_of Numbers number) no_cells)) (at_place Numbers number (place_low entry lt)) here in
+      let here : AreCellsOf (table_at schema (get_or numbers (index_of numbers number) 0)) texts (get_or cells (index_of numbers number) no_cells) =
+      each_at schema texts numbers cells (index_of numbers number) are (index_within entry lt) in
+      let named : AreCellsOf (table_at schema number) texts (get_or cells (index_of numbers number) no_cells) =
+      subst (λ (m : ℕ). AreCellsOf (table_at schema m) texts (get_or cells (index_of numbers number) no_cells)) (at_place numbers number (index_within entry lt)) here in
       subst (λ (slot : ℕ). AreCellsOf (table_at schema number) texts (get_or cells slot no_cells)) (sym (slot_is entry lt)) named
 
   pub rows_by_place : rows_by_entry from (rows_of_tables texts cells) ≡ entry_rows db
   rows_by_place =
       let rows_at : ℕ → List Row = λ slot. rows_of_cells texts (get_or cells slot no_cells) in
-      map_same (λ number. get_or (rows_of_tables texts cells) (index_of Numbers number) []) (λ number. rows_at (index_of Numbers number))
-      (λ number. listn.get_or-map (rows_of_cells texts) cells (index_of Numbers number) no_cells) (numbers_of from)
-      ∙ sym (map-map rows_at (index_of Numbers) (numbers_of from)) ∙ sym (each_place rows_at db.slots)
+      map_same (λ number. get_or (rows_of_tables texts cells) (index_of numbers number) []) (λ number. rows_at (index_of numbers number))
+      (λ number. listn.get_or-map (rows_of_cells texts) cells (index_of numbers number) no_cells) (numbers_of from)
+      ∙ sym (map-map rows_at (index_of numbers) (numbers_of from)) ∙ sym (each_place rows_at db.slots)
 
-  pub has_files : AreOfFilesEach schema Numbers (rows_of_tables texts cells) → AreOfFiles schema from (tables_of db)
+  pub has_files : EachCanComeFromFile schema numbers (rows_of_tables texts cells) → CanComeFromFiles schema from (tables_of db)
   has_files are entry lt =
       let number : ℕ = get_or (numbers_of from) entry 0 in
-      let place : ℕ = index_of Numbers number in
-      let here : AreOfAFile (table_at schema (get_or Numbers place 0)) (get_or (rows_of_tables texts cells) place []) =
-      file_at schema Numbers (rows_of_tables texts cells) place are (place_low entry lt) in
-      let named : AreOfAFile (table_at schema number) (get_or (rows_of_tables texts cells) place []) =
-      subst (λ (m : ℕ). AreOfAFile (table_at schema m) (get_or (rows_of_tables texts cells) place [])) (at_place Numbers number (place_low entry lt)) here in
+      let place : ℕ = index_of numbers number in
+      let here : CanComeFromFile (table_at schema (get_or numbers place 0)) (get_or (rows_of_tables texts cells) place []) =
+      file_at schema numbers (rows_of_tables texts cells) place are (index_within entry lt) in
+      let named : CanComeFromFile (table_at schema number) (get_or (rows_of_tables texts cells) place []) =
+      subst (λ (m : ℕ). CanComeFromFile (table_at schema m) (get_or (rows_of_tables texts cells) place [])) (at_place numbers number (index_within entry lt)) here in
       let rows : get_or (rows_of_tables texts cells) place [] ≡ tables_of db entry =
       listn.get_or-map (rows_of_cells texts) cells place no_cells ∙ ap (λ (slot : ℕ). rows_of_cells texts (get_or cells slot no_cells)) (sym (slot_is entry lt)) in
-      subst (AreOfAFile (table_at schema number)) rows named
+      subst (CanComeFromFile (table_at schema number)) rows named

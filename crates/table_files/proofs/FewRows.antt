@@ -36,14 +36,14 @@ one_more number false e (Ok row) (Ok others) rows is later all =
     let same : row ∷ others ≡ rows = cc in
     omega (arith, ap (λ (s : List Row). length s) same, rest_few)
 
-few_records : (columns : List Column) (places : List ℕ) (width number : ℕ) (records : List Record) (rows : List Row) → number ≤ 4000001
+records_within_row_limit : (columns : List Column) (places : List ℕ) (width number : ℕ) (records : List Record) (rows : List Row) → number ≤ 4000001
     → rows_of_records columns places width number records ≡ Ok rows → length rows + number ≤ 4000001
-few_records columns places width number [] rows low is = let none : [] ≡ rows = cc in omega (arith, ap (λ (s : List Row). length s) none)
-few_records columns places width number (fields ∷ records) rows low is =
+records_within_row_limit columns places width number [] rows low is = let none : [] ≡ rows = cc in omega (arith, ap (λ (s : List Row). length s) none)
+records_within_row_limit columns places width number (fields ∷ records) rows low is =
     one_more number (nat_lt 4000000 number) (error.Limit 4000001)
     (refuse_if (not (nat_eq (length fields) width)) (error.Width number (length fields)) (values_of_record number 0 columns places fields))
     (rows_of_records columns places width (number + 1) records) rows refl
-    (λ others low' rest. few_records columns places width (number + 1) records others low' rest) is
+    (λ others low' rest. records_within_row_limit columns places width (number + 1) records others low' rest) is
 
 -- ---- the steps of reading a file
 
@@ -67,11 +67,11 @@ under_header : (columns : List Column) (records : List Record) (rows : List Row)
 unfolding rows_under_header
 under_header columns records rows is =
     let read = then_ok (column_places 0 columns (header_of records)) (λ places. rows_of_records columns places (length (header_of records)) 1 (after_header records)) rows is in
-    omega (arith, few_records columns read.0 (length (header_of records)) 1 (after_header records) rows (omega arith) read.2)
+    omega (arith, records_within_row_limit columns read.0 (length (header_of records)) 1 (after_header records) rows (omega arith) read.2)
 
-file_is_few : (table : Table) (bytes : List ℕ) (rows : List Row) → rows_of_file table bytes ≡ Ok rows → length rows ≤ 4000000
+file_rows_within_limit : (table : Table) (bytes : List ℕ) (rows : List Row) → rows_of_file table bytes ≡ Ok rows → length rows ≤ 4000000
 unfolding rows_of_file rows_in_records
-file_is_few table bytes rows is =
+file_rows_within_limit table bytes rows is =
     let records : List Record = records_of (strip_bom bytes) in
     let sound = not_refused (not (is_utf8 bytes)) (error.Utf8 (utf8_valid_len bytes)) (rows_under_header table.columns records >>= rows_with_keys table.keys) rows is in
     let read = then_ok (rows_under_header table.columns records) (rows_with_keys table.keys) rows sound in
@@ -80,17 +80,17 @@ file_is_few table bytes rows is =
 
 -- ---- the limit of 4,000,000 rows for the cells of a table, and for the tables of a database
 
-abbrev pub HasFewRows : Cells → Type 0
-HasFewRows cells = cells.rows ≤ 4000000
+abbrev pub HasRowsWithinLimit : Cells → Type 0
+HasRowsWithinLimit cells = cells.rows ≤ 4000000
 
-pub cells_are_few : (table : Table) (bytes : List ℕ) (texts : List (List ℕ)) (cells : Cells) → rows_of_file table bytes ≡ Ok (rows_of_cells texts cells) → HasFewRows cells
-cells_are_few table bytes texts cells is =
-    omega (arith, file_is_few table bytes (rows_of_cells texts cells) is, rows-length texts cells.kinds cells.columns cells.rows)
+pub cells_within_row_limit : (table : Table) (bytes : List ℕ) (texts : List (List ℕ)) (cells : Cells) → rows_of_file table bytes ≡ Ok (rows_of_cells texts cells) → HasRowsWithinLimit cells
+cells_within_row_limit table bytes texts cells is =
+    omega (arith, file_rows_within_limit table bytes (rows_of_cells texts cells) is, rows-length texts cells.kinds cells.columns cells.rows)
 
-pub tables_are_few : (db : Database) → All HasFewRows db.cells → (entry : ℕ) → row_counts (tables_of db) entry ≤ 4000000
-tables_are_few db few entry =
+pub tables_within_row_limit : (db : Database) → All HasRowsWithinLimit db.cells → (entry : ℕ) → row_counts (tables_of db) entry ≤ 4000000
+tables_within_row_limit db few entry =
     let cells : Cells = cells_of db entry in
-    let few_cells : HasFewRows cells = elim (cases_lt (get_or db.slots entry 0) (length db.cells)) [
+    let few_cells : HasRowsWithinLimit cells = elim (cases_lt (get_or db.slots entry 0) (length db.cells)) [
       | inl low ↦ few (get_or db.slots entry 0) no_cells low
       | inr far ↦ (let none : cells ≡ no_cells = get_or_past db.cells (get_or db.slots entry 0) no_cells far in omega (arith, ap (λ (c : Cells). c.rows) none))
     ] in

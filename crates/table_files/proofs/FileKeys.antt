@@ -40,9 +40,9 @@ use Rattle.table_files.proofs.FewRows.{not_refused, then_ok, with_keys}
 
 -- ---- texts are UTF-8
 
-abbrev pub IsReadable : Value → Type 0
-IsReadable (Int number) = ⊤
-IsReadable (Text text) = IsUtf8 text
+abbrev pub IsUtf8Value : Value → Type 0
+IsUtf8Value (Int number) = ⊤
+IsUtf8Value (Text text) = IsUtf8 text
 
 next_texts : (n : ℕ) (s : State) (xs : List ℕ) → IsUtf8 xs → ((t : State) (ys : List ℕ) → IsUtf8 ys → AllByRecursion AllText (records_from default_config n t ys))
     → (o : Option Read) → next_record default_config s [] [] xs ≡ o → AllByRecursion AllText (records_next (records_from default_config n) o)
@@ -66,15 +66,15 @@ field_text [] place h = IsUtf8-nil
 field_text (field ∷ fields) zero h = h.0
 field_text (field ∷ fields) (suc place) h = field_text fields place h.1
 
-number_readable : (number : Option ℤ) (v : Value) → option_map Int number ≡ Some v → IsReadable v
+number_readable : (number : Option ℤ) (v : Value) → option_map Int number ≡ Some v → IsUtf8Value v
 number_readable None v is = absurd cc
-number_readable (Some n) v is = let same : Int n ≡ v = cc in subst IsReadable same tt
+number_readable (Some n) v is = let same : Int n ≡ v = cc in subst IsUtf8Value same tt
 
-text_readable : (test : Bool) (field : List ℕ) (v : Value) → IsUtf8 field → (if test then Some (Text field) else None) ≡ Some v → IsReadable v
-text_readable true field v text is = let same : Text field ≡ v = cc in subst IsReadable same text
+text_readable : (test : Bool) (field : List ℕ) (v : Value) → IsUtf8 field → (if test then Some (Text field) else None) ≡ Some v → IsUtf8Value v
+text_readable true field v text is = let same : Text field ≡ v = cc in subst IsUtf8Value same text
 text_readable false field v text is = absurd cc
 
-field_readable : (k : Kind) (field : List ℕ) (v : Value) → IsUtf8 field → value_of_field k field ≡ Some v → IsReadable v
+field_readable : (k : Kind) (field : List ℕ) (v : Value) → IsUtf8 field → value_of_field k field ≡ Some v → IsUtf8Value v
 field_readable kind.Int field v text is = number_readable (number_of field) v is
 field_readable (kind.Text most) field v text is = text_readable (nat_le (length (chars field)) most) field v text is
 
@@ -89,29 +89,29 @@ both_ok (Ok x) (Err e) all is = absurd cc
 both_ok (Err e) rest all is = absurd cc
 
 row_readable : (number at : ℕ) (columns : List Column) (places : List ℕ) (fields : Record) (row : Row) → AllText fields
-    → values_of_record number at columns places fields ≡ Ok row → AllByRecursion IsReadable row
-row_readable number at [] places fields row text is = let none : [] ≡ row = cc in subst (AllByRecursion IsReadable) none tt
-row_readable number at (column ∷ columns) [] fields row text is = let none : [] ≡ row = cc in subst (AllByRecursion IsReadable) none tt
+    → values_of_record number at columns places fields ≡ Ok row → AllByRecursion IsUtf8Value row
+row_readable number at [] places fields row text is = let none : [] ≡ row = cc in subst (AllByRecursion IsUtf8Value) none tt
+row_readable number at (column ∷ columns) [] fields row text is = let none : [] ≡ row = cc in subst (AllByRecursion IsUtf8Value) none tt
 row_readable number at (column ∷ columns) (place ∷ places) fields row text is =
     let field : List ℕ = get_or fields place [] in
     let both = both_ok (or_refuse (error.Field number at) (value_of_field column.kind field)) (values_of_record number (at + 1) columns places fields) row is in
-    let one : IsReadable both.0 =
+    let one : IsUtf8Value both.0 =
     field_readable column.kind field both.0 (field_text fields place text) (refused_or (error.Field number at) (value_of_field column.kind field) both.0 both.2) in
-    subst (AllByRecursion IsReadable) both.4 (one, row_readable number (at + 1) columns places fields both.1 text both.3)
+    subst (AllByRecursion IsUtf8Value) both.4 (one, row_readable number (at + 1) columns places fields both.1 text both.3)
 
 rows_readable : (columns : List Column) (places : List ℕ) (width number : ℕ) (records : List Record) (rows : List Row) → AllByRecursion AllText records
-    → rows_of_records columns places width number records ≡ Ok rows → AllByRecursion (AllByRecursion IsReadable) rows
-rows_readable columns places width number [] rows texts is = let none : [] ≡ rows = cc in subst (AllByRecursion (AllByRecursion IsReadable)) none tt
+    → rows_of_records columns places width number records ≡ Ok rows → AllByRecursion (AllByRecursion IsUtf8Value) rows
+rows_readable columns places width number [] rows texts is = let none : [] ≡ rows = cc in subst (AllByRecursion (AllByRecursion IsUtf8Value)) none tt
 rows_readable columns places width number (fields ∷ records) rows texts is =
     let both = both_ok (row_of_record columns places width number fields) (rows_of_records columns places width (number + 1) records) rows is in
     let wide = not_refused (nat_lt 4000000 number) (error.Limit 4000001)
     (refuse_if (not (nat_eq (length fields) width)) (error.Width number (length fields)) (values_of_record number 0 columns places fields)) both.0 both.2 in
     let values = not_refused (not (nat_eq (length fields) width)) (error.Width number (length fields)) (values_of_record number 0 columns places fields) both.0 wide in
-    subst (AllByRecursion (AllByRecursion IsReadable)) both.4
+    subst (AllByRecursion (AllByRecursion IsUtf8Value)) both.4
     (row_readable number 0 columns places fields both.0 texts.0 values, rows_readable columns places width (number + 1) records both.1 texts.1 both.3)
 
 under_header : (columns : List Column) (records : List Record) (rows : List Row) → AllByRecursion AllText records → rows_under_header columns records ≡ Ok rows
-    → AllByRecursion (AllByRecursion IsReadable) rows
+    → AllByRecursion (AllByRecursion IsUtf8Value) rows
 unfolding rows_under_header
 under_header columns records rows texts is =
     let read = then_ok (column_places 0 columns (header_of records)) (λ places. rows_of_records columns places (length (header_of records)) 1 (after_header records)) rows is in
@@ -164,7 +164,7 @@ none_before seen (x ∷ rest) none i j less from' low =
 
 -- ---- values that compare as equal are equal
 
-equal_values : (a b : Value) → IsReadable a → IsReadable b → is_eq (value_cmp a b) ≡ true → a ≡ b
+equal_values : (a b : Value) → IsUtf8Value a → IsUtf8Value b → is_eq (value_cmp a b) ≡ true → a ≡ b
 equal_values (Int a) (Int b) p q h = ap Int (exact_signed a b ((Equal-is (int_cmp a b)).0 h))
 equal_values (Int a) (Text b) p q h = absurd (false≢true h)
 equal_values (Text a) (Int b) p q h = absurd (false≢true h)
@@ -176,20 +176,20 @@ same_itself : (v : Value) → is_same v v ≡ true
 same_itself (Int n) = (Decides-int_eq n n).1 refl
 same_itself (Text text) = (bytes_eq-Decides text text).1 refl
 
-value_readable : (row : Row) (column : ℕ) → AllByRecursion IsReadable row → IsReadable (get_or row column (Int (pos 0)))
+value_readable : (row : Row) (column : ℕ) → AllByRecursion IsUtf8Value row → IsUtf8Value (get_or row column (Int (pos 0)))
 value_readable [] column h = tt
 value_readable (v ∷ row) zero h = h.0
 value_readable (v ∷ row) (suc column) h = value_readable row column h.1
 
-row_at : (rows : List Row) (i : ℕ) → AllByRecursion (AllByRecursion IsReadable) rows → AllByRecursion IsReadable (get_or rows i [])
+row_at : (rows : List Row) (i : ℕ) → AllByRecursion (AllByRecursion IsUtf8Value) rows → AllByRecursion IsUtf8Value (get_or rows i [])
 row_at [] i h = tt
 row_at (row ∷ rows) zero h = h.0
 row_at (row ∷ rows) (suc i) h = row_at rows i h.1
 
--- ---- the rows of a file are readable, and keep the table's keys
+-- ---- the texts in a file's rows are UTF-8, and no key of the table repeats in the rows
 
 pub record KeepsKeys (table : Table) (rows : List Row) : Type 0 where
-  pub readable : AllByRecursion (AllByRecursion IsReadable) rows
+  pub texts_are_utf8 : AllByRecursion (AllByRecursion IsUtf8Value) rows
   pub keys : AllByRecursion (λ key. first_repeat key rows ≡ None) table.keys
 
 pub file_keeps : (table : Table) (bytes : List ℕ) (rows : List Row) → rows_of_file table bytes ≡ Ok rows → KeepsKeys table rows
@@ -208,11 +208,11 @@ file_keeps table bytes rows is = by (is_utf8 bytes) refl
         let text : IsUtf8 (strip_bom bytes) = text_after_mark bytes (IsUtf8-from_is_utf8 bytes valid) in
         let texts : AllByRecursion AllText records = record_texts (length (strip_bom bytes) + 1) st.StartRecord (strip_bom bytes) text in
         subst (KeepsKeys table) same (record {
-          readable = under_header table.columns records read.0 texts read.1;
+          texts_are_utf8 = under_header table.columns records read.0 texts read.1;
           keys = keys_kept table.keys read.0 rows read.2;
         })
 
-module _ (rows : List Row) (readable : AllByRecursion (AllByRecursion IsReadable) rows) (column : ℕ) (none : first_repeat (column ∷ []) rows ≡ None) where
+module _ (rows : List Row) (texts_are_utf8 : AllByRecursion (AllByRecursion IsUtf8Value) rows) (column : ℕ) (no_repeat : first_repeat (column ∷ []) rows ≡ None) where
   abbrev value_in : ℕ → Value
   value_in i = get_or (get_or rows i []) column (Int (pos 0))
 
@@ -223,7 +223,7 @@ module _ (rows : List Row) (readable : AllByRecursion (AllByRecursion IsReadable
   before i j less low same =
       let keys : List (List Value) = map (key_values (column ∷ [])) rows in
       let long : length keys ≡ length rows = length-map rows (key_values (column ∷ [])) in
-      let apart' : are_same (get_or keys j []) (get_or keys i []) ≡ false = none_before [] keys none i j less (omega arith) (omega (arith, low, long)) in
+      let apart' : are_same (get_or keys j []) (get_or keys i []) ≡ false = none_before [] keys no_repeat i j less (omega arith) (omega (arith, low, long)) in
       let keys_apart : are_same (value_in j ∷ []) (value_in i ∷ []) ≡ false =
       ap (λ (k : List Value). are_same k (value_in i ∷ [])) (sym (key_at j low)) ∙ ap (are_same (get_or keys j [])) (sym (key_at i (omega (arith, less, low)))) ∙ apart' in
       let alike : is_same (value_in j) (value_in i) ≡ true = ap (is_same (value_in j)) same ∙ same_itself (value_in j) in
@@ -233,7 +233,7 @@ module _ (rows : List Row) (readable : AllByRecursion (AllByRecursion IsReadable
   pub rows_apart : (i j : ℕ) → i < length rows → j < length rows → is_eq (value_cmp (value_in i) (value_in j)) ≡ true → i ≡ j
   rows_apart i j low high h =
       let same : value_in i ≡ value_in j =
-      equal_values (value_in i) (value_in j) (value_readable (get_or rows i []) column (row_at rows i readable)) (value_readable (get_or rows j []) column (row_at rows j readable)) h in
+      equal_values (value_in i) (value_in j) (value_readable (get_or rows i []) column (row_at rows i texts_are_utf8)) (value_readable (get_or rows j []) column (row_at rows j texts_are_utf8)) h in
       elim (cases_lt i j) [
         | inl less ↦ absurd (before i j less high same)
         | inr most ↦ elim (cases_eq i j) [

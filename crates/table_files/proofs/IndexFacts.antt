@@ -108,7 +108,7 @@ different_old ns n lt = elim (cases_Bool (has (without_repeats ns) n)) [
   | inr fresh ↦ absurd (omega (arith, no_place (without_repeats ns) n fresh))
 ]
 
--- ---- the list that `without_repeats` gives isn't longer, and its numbers keep a property that all numbers had
+-- ---- `without_repeats` never makes a list longer, and what holds for all numbers of the list still holds
 
 kept_short : (m : ℕ) (xs : List ℕ) → length (without m xs) ≤ length xs
 kept_short m [] = omega arith
@@ -117,9 +117,9 @@ kept_short m (x ∷ xs) = elim (cases_Bool (eqb x m)) [
   | inr e ↦ (let left : without m (x ∷ xs) ≡ x ∷ without m xs = rw e refl in omega (arith, ap length left, kept_short m xs))
 ]
 
-pub different_short : (ns : List ℕ) → length (without_repeats ns) ≤ length ns
-different_short [] = omega arith
-different_short (n ∷ ns) = omega (arith, kept_short n (without_repeats ns), different_short ns)
+pub without_repeats_short : (ns : List ℕ) → length (without_repeats ns) ≤ length ns
+without_repeats_short [] = omega arith
+without_repeats_short (n ∷ ns) = omega (arith, kept_short n (without_repeats ns), without_repeats_short ns)
 
 kept_all : (P : ℕ → Type 0) (m : ℕ) (xs : List ℕ) → AllByRecursion P xs → AllByRecursion P (without m xs)
 kept_all P m [] h = tt

@@ -1,4 +1,4 @@
--- Reading a file from a store gives what `read` of the specification says of the file's bytes.
+-- Reading a file from a store gives what `read` of the specification gives for the store's files.
 use Rattle.std.proofs.Common.{◌≡◌, ◌≢◌, ℕ, ◌+◌, ◌<◌, ◌≤◌, Bool, true, false, List, length, Option, None, Some, Result, Ok, Err, refl, ap, sym, ◌∙◌, subst, arith}
 use Rattle.std.specs.Prelude.{nat_lt, if◌then◌else◌}
 use Rattle.std.proofs.lemmas.Bool.Decides.{nat_tests}
@@ -23,24 +23,24 @@ above most n lt = grind (arith, nat_tests)
 within : (most n : ℕ) → n ≤ most → nat_lt most n ≡ false
 within most n le = grind (arith, nat_tests)
 
-whole : (id : FileId) (most : ℕ) (found : Option (List ℕ)) (bytes : List ℕ) → ReadsFile (answer_of_contents found) most (Ok bytes) → bytes_of id most found ≡ Ok bytes
-whole id most None bytes h = absurd h.1
-whole id most (Some all) bytes h =
+bytes_of_whole_file : (id : FileId) (most : ℕ) (found : Option (List ℕ)) (bytes : List ℕ) → ReadsFile (answer_of_contents found) most (Ok bytes) → bytes_of id most found ≡ Ok bytes
+bytes_of_whole_file id most None bytes h = absurd h.1
+bytes_of_whole_file id most (Some all) bytes h =
     ap (λ (b : Bool). bytes_unless id most b all) (within most (length all) (subst (λ (xs : List ℕ). length xs ≤ most) h.1 h.0)) ∙ ap (λ (xs : List ℕ). Ok xs) (sym h.1)
 
-long : (id : FileId) (most passed : ℕ) (found : Option (List ℕ)) → ReadsFile (answer_of_contents found) most (Err (error.TooLong passed))
+bytes_of_long_file : (id : FileId) (most passed : ℕ) (found : Option (List ℕ)) → ReadsFile (answer_of_contents found) most (Err (error.TooLong passed))
     → bytes_of id most found ≡ Err (refusal.Limit limit.FileBytes id (most + 1))
-long id most passed None h = absurd h.1
-long id most passed (Some all) h = ap (λ (b : Bool). bytes_unless id most b all) (above most (length all) h.1)
+bytes_of_long_file id most passed None h = absurd h.1
+bytes_of_long_file id most passed (Some all) h = ap (λ (b : Bool). bytes_unless id most b all) (above most (length all) h.1)
 
-absent : (id : FileId) (most : ℕ) (found : Option (List ℕ)) → IsAbsent (answer_of_contents found) → bytes_of id most found ≡ Err (refusal.Missing id)
-absent id most None h = refl
-absent id most (Some all) h = absurd h
+bytes_of_absent_file : (id : FileId) (most : ℕ) (found : Option (List ℕ)) → IsAbsent (answer_of_contents found) → bytes_of id most found ≡ Err (refusal.Missing id)
+bytes_of_absent_file id most None h = refl
+bytes_of_absent_file id most (Some all) h = absurd h
 
 module _ (store : Reading) (id : FileId) (most : ℕ) (name : List ℕ) (later : store.faults_before ≤ store.faults_after) (same : store.files_after ≡ store.files) where
   pub load_whole : (bytes : List ℕ) → ReadsFile (answer_about store.files name) most (Ok bytes) → store.misses_after ≡ store.misses_before → Reads store (read id most name) (AtFile id) (Ok bytes)
   load_whole bytes h misses = record {
-    gives = λ files told'. whole id most (file_of files name) bytes (subst (λ (f : Option Files). ReadsFile (answer_about f name) most (Ok bytes)) told' h);
+    gives = λ files told'. bytes_of_whole_file id most (file_of files name) bytes (subst (λ (f : Option Files). ReadsFile (answer_about f name) most (Ok bytes)) told' h);
     misses = λ files told' missed. misses;
     later = later;
     same = same;
@@ -50,7 +50,7 @@ module _ (store : Reading) (id : FileId) (most : ℕ) (name : List ℕ) (later :
       → Reads store (read id most name) (AtFile id) (Err (failure.Refused (refusal.Limit limit.FileBytes id (most + 1))))
   load_long passed h misses = record {
     gives = (
-      (λ files told'. long id most passed (file_of files name) (subst (λ (f : Option Files). ReadsFile (answer_about f name) most (Err (error.TooLong passed))) told' h)),
+      (λ files told'. bytes_of_long_file id most passed (file_of files name) (subst (λ (f : Option Files). ReadsFile (answer_about f name) most (Err (error.TooLong passed))) told' h)),
       (λ none file e. cc),
       (λ e. cc),
     );
@@ -68,11 +68,11 @@ module _ (store : Reading) (id : FileId) (most : ℕ) (name : List ℕ) (later :
   }
     where
       gone : (files : Files) → store.files ≡ Some files → read id most name files ≡ Err (refusal.Missing id)
-      gone files told' = absent id most (file_of files name) (subst (λ (f : Option Files). IsAbsent (answer_about f name)) told' h)
+      gone files told' = bytes_of_absent_file id most (file_of files name) (subst (λ (f : Option Files). IsAbsent (answer_about f name)) told' h)
 
   pub load_fault : Rose store.faults_before store.faults_after → store.misses_after ≡ store.misses_before → Reads store (read id most name) (AtFile id) (Err (failure.Fault id))
   load_fault rose misses = record { gives = (rose, (λ files told'. refl)); misses = λ files told' missed. misses; later = later; same = same }
 
-pub wanting : {A : Type 0} (store : Reading) (stage : Files → Result A Refusal) (C : Files → FileId → Type 0) → store.misses_after ≡ store.misses_before
+pub no_memory_reads : {A : Type 0} (store : Reading) (stage : Files → Result A Refusal) (C : Files → FileId → Type 0) → store.misses_after ≡ store.misses_before
     → store.faults_before ≤ store.faults_after → store.files_after ≡ store.files → Reads store stage C (Err failure.NoMemory)
-wanting store stage C misses later same = record { gives = tt; misses = λ files told missed. misses; later = later; same = same }
+no_memory_reads store stage C misses later same = record { gives = tt; misses = λ files told missed. misses; later = later; same = same }

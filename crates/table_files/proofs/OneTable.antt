@@ -13,18 +13,18 @@ use Rattle.outcomes.specs.Reads.{AtFile, Reads, StopsBy, with_refusal}
 use Rattle.outcomes.specs.declared.failure.Failure.{Failure}
 use Rattle.outcomes.specs.declared.names.FileId.{FileId}
 use Rattle.outcomes.specs.declared.names.FileId.TheVariants as file
-use Rattle.outcomes.proofs.ReadFacts.{then_gives, then_stops, then_tells}
+use Rattle.outcomes.proofs.ReadFacts.{then_gives, then_stops, then_fails}
 use Rattle.table_files.specs.FileNames.{file_name}
 use Rattle.table_files.specs.TableFile.{file_rows, read, rows_in, rows_of_bytes}
 
-table_tells : (number : ℕ) (answer : Result (List Row) TableError) (e : TableError) → IsRefusalOrNoMemory answer e → StopsBy (with_refusal (table_refusal number) answer) (table_failure number e)
-table_tells number answer table.NoMemory h = tt
-table_tells number answer (table.Utf8 at) h = (ap (with_refusal (table_refusal number)) h, (λ file e. cc), (λ e. cc))
-table_tells number answer (table.Header column) h = (ap (with_refusal (table_refusal number)) h, (λ file e. cc), (λ e. cc))
-table_tells number answer (table.Width row found) h = (ap (with_refusal (table_refusal number)) h, (λ file e. cc), (λ e. cc))
-table_tells number answer (table.Field row column) h = (ap (with_refusal (table_refusal number)) h, (λ file e. cc), (λ e. cc))
-table_tells number answer (table.Key row earlier) h = (ap (with_refusal (table_refusal number)) h, (λ file e. cc), (λ e. cc))
-table_tells number answer (table.Limit found) h = (ap (with_refusal (table_refusal number)) h, (λ file e. cc), (λ e. cc))
+table_stops : (number : ℕ) (answer : Result (List Row) TableError) (e : TableError) → IsRefusalOrNoMemory answer e → StopsBy (with_refusal (table_refusal number) answer) (table_failure number e)
+table_stops number answer table.NoMemory h = tt
+table_stops number answer (table.Utf8 at) h = (ap (with_refusal (table_refusal number)) h, (λ file e. cc), (λ e. cc))
+table_stops number answer (table.Header column) h = (ap (with_refusal (table_refusal number)) h, (λ file e. cc), (λ e. cc))
+table_stops number answer (table.Width row found) h = (ap (with_refusal (table_refusal number)) h, (λ file e. cc), (λ e. cc))
+table_stops number answer (table.Field row column) h = (ap (with_refusal (table_refusal number)) h, (λ file e. cc), (λ e. cc))
+table_stops number answer (table.Key row earlier) h = (ap (with_refusal (table_refusal number)) h, (λ file e. cc), (λ e. cc))
+table_stops number answer (table.Limit found) h = (ap (with_refusal (table_refusal number)) h, (λ file e. cc), (λ e. cc))
 
 abbrev AtTable : ℕ → Files → FileId → Type 0
 AtTable number = AtFile (file.Table number)
@@ -43,8 +43,8 @@ module _ {store : Reading} (number : ℕ) (t : Table) (name : List ℕ) where
   pub rows_refused : (bytes slice : List ℕ) (error : TableError) → slice ≡ bytes → IsRefusalOrNoMemory (rows_of_file t slice) error
       → Reads store (read (file.Table number) 67108864 name) (AtTable number) (Ok bytes) → Reads store (rows_in number t name) (AtTable number) (Err (table_failure number error))
   rows_refused bytes slice error same refuses h =
-      then_tells store (read (file.Table number) 67108864 name) (rows_of_bytes number t) (AtTable number) (AtTable number) bytes (table_failure number error)
-      (subst (λ (text : List ℕ). StopsBy (rows_of_bytes number t text) (table_failure number error)) same (table_tells number (rows_of_file t slice) error refuses)) h
+      then_fails store (read (file.Table number) 67108864 name) (rows_of_bytes number t) (AtTable number) (AtTable number) bytes (table_failure number error)
+      (subst (λ (text : List ℕ). StopsBy (rows_of_bytes number t text) (table_failure number error)) same (table_stops number (rows_of_file t slice) error refuses)) h
 
   pub own_rows : {answer : Result (List Row) Failure} → name ≡ file_name t → Reads store (rows_in number t name) (AtTable number) answer → Reads store (file_rows number t) (AtTable number) answer
   unfolding file_rows

@@ -1,4 +1,4 @@
--- If the stage that reads a query's tables succeeds, its rows are those of the files in the store.
+-- If the stage that reads a query's tables succeeds, its rows are the rows of the files in the store.
 use Rattle.std.proofs.Common.{◌≡◌, ℕ, ◌+◌, ◌<◌, Bool, true, false, List, [], length, get_or, Option, None, Some, Result, Ok, Err, ap, sym, ◌∙◌, subst, arith}
 use Rattle.std.specs.Prelude.{if◌then◌else◌, nat_lt}
 use Rattle.std.proofs.lemmas.List.{length-map}
@@ -16,7 +16,7 @@ use Rattle.outcomes.specs.declared.names.FileId.TheVariants as file
 use Rattle.outcomes.specs.declared.refusal.Refusal.{Refusal}
 use Rattle.outcomes.specs.declared.refusal.Refusal.TheVariants as refusal
 use Rattle.query_types.specs.declared.types.Source.{Source}
-use Rattle.table_files.specs.EntryTables.{AreOfAFile, AreOfFiles, tables_in}
+use Rattle.table_files.specs.EntryTables.{CanComeFromFile, CanComeFromFiles, tables_in}
 use Rattle.table_files.specs.FileNames.{file_name}
 use Rattle.table_files.specs.Stage.{numbers_of, index_of, rows_by_entry, rows_of_each, table_at, table_rows, tables_of_query, tables_stage}
 use Rattle.table_files.specs.TableFile.{bytes_of, file_rows, read, rows_of_bytes}
@@ -26,7 +26,7 @@ pub ok_without_refusal : {A E : Type 0} (refusal_of : E → Refusal) (r : Result
 ok_without_refusal refusal_of (Ok y) x e = (let same : y ≡ x = cc in ap Ok same)
 ok_without_refusal refusal_of (Err s) x e = cc
 
-limited_ok : {A : Type 0} (long : Bool) (r : Refusal) (y x : A) → (if long then Err r else Ok y) ≡ Ok x → y ≡ x
+limited_ok : {A : Type 0} (exceeds_limit : Bool) (r : Refusal) (y x : A) → (if exceeds_limit then Err r else Ok y) ≡ Ok x → y ≡ x
 limited_ok true r y x e = cc
 limited_ok false r y x e = cc
 
@@ -67,7 +67,7 @@ module _ (schema : Schema) (from : List Source) (files : Files) (rows : List (Li
   pub entries_are : (entry : ℕ) → entry < length from → table_rows schema (get_or (numbers_of from) entry 0) files ≡ Ok (tables_in rows entry)
   entries_are entry low = entries_have schema from files rows staged entry low ∙ ap (λ (r : List Row). Ok r) (tables_are entry low)
 
-  pub staged_files : AreOfFiles schema from (tables_in rows)
+  pub staged_files : CanComeFromFiles schema from (tables_in rows)
   staged_files entry low =
       let number : ℕ = get_or (numbers_of from) entry 0 in
       let read = table_ok number (table_at schema number) files (tables_in rows entry) (entries_are entry low) in (read.0, read.2)

@@ -17,7 +17,7 @@ use Rattle.table_files.specs.declared.rows.TableRows.{TableRows}
 abbrev pub entry_rows : Database → List (List Row)
 entry_rows db = map (tables_of db) (range_with_len 0 (length db.slots))
 
--- the rows of each entry as `Tables`. Numbers past the last entry have the first entry's rows, or no rows; a query doesn't use these
+-- the rows of each entry as `Tables`. An entry number past the last gets the first entry's rows, if there are any; no query uses such a number
 abbrev pub tables_in : List (List Row) → Tables
 tables_in rows entry = slice_index_or rows entry (slice_index_or rows 0 [])
 
@@ -26,7 +26,7 @@ abbrev pub HasCells : Schema → List Source → Database → Type 0
 HasCells schema from db = (entry : ℕ) → entry < length from
     → AreCellsOf (table_at schema (slice_index (numbers_of from) entry)) db.pool (cells_of db entry)
 
--- There are as many `Cells` as table numbers. `Cells` i are those of the table whose number is element i of the numbers
+-- there is one `Cells` for each table number. The i-th `Cells` has the cells of the table with the i-th number
 abbrev pub AreCellsOfEach : Schema → List (List ℕ) → List ℕ → List Cells → Type 0
 AreCellsOfEach schema texts [] [] = ⊤
 AreCellsOfEach schema texts [] (cells ∷ others) = ⊥
@@ -45,16 +45,16 @@ rows_of_read read = rows_of_cells read.pool read.cells
 -- ---- files
 
 -- some bytes, read as the table's file, give these rows
-abbrev pub AreOfAFile : Table → List Row → Type 0
-AreOfAFile table rows = (bytes : List ℕ) × (rows_of_file table bytes ≡ Ok rows)
+abbrev pub CanComeFromFile : Table → List Row → Type 0
+CanComeFromFile table rows = (bytes : List ℕ) × (rows_of_file table bytes ≡ Ok rows)
 
 -- the rows of each FROM entry are those of some file of its table
-abbrev pub AreOfFiles : Schema → List Source → Tables → Type 0
-AreOfFiles schema from tables = (entry : ℕ) → entry < length from → AreOfAFile (table_at schema (slice_index (numbers_of from) entry)) (tables entry)
+abbrev pub CanComeFromFiles : Schema → List Source → Tables → Type 0
+CanComeFromFiles schema from tables = (entry : ℕ) → entry < length from → CanComeFromFile (table_at schema (slice_index (numbers_of from) entry)) (tables entry)
 
--- There are as many lists of rows as table numbers. List i comes from some file of the table whose number is element i of the numbers
-abbrev pub AreOfFilesEach : Schema → List ℕ → List (List Row) → Type 0
-AreOfFilesEach schema [] [] = ⊤
-AreOfFilesEach schema [] (rows ∷ others) = ⊥
-AreOfFilesEach schema (number ∷ numbers) [] = ⊥
-AreOfFilesEach schema (number ∷ numbers) (rows ∷ others) = AreOfAFile (table_at schema number) rows × AreOfFilesEach schema numbers others
+-- there is one list of rows for each table number. The i-th list of rows comes from some file of the table with the i-th number
+abbrev pub EachCanComeFromFile : Schema → List ℕ → List (List Row) → Type 0
+EachCanComeFromFile schema [] [] = ⊤
+EachCanComeFromFile schema [] (rows ∷ others) = ⊥
+EachCanComeFromFile schema (number ∷ numbers) [] = ⊥
+EachCanComeFromFile schema (number ∷ numbers) (rows ∷ others) = CanComeFromFile (table_at schema number) rows × EachCanComeFromFile schema numbers others

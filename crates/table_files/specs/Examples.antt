@@ -22,6 +22,6 @@ entry_of table = record { table = table; alias = codes "E" }
 abbrev pub s_r_s : List Source
 s_r_s = entry_of 1 ∷ entry_of 0 ∷ entry_of 1 ∷ []
 
--- a file of R alone
+-- the only file is that of R
 abbrev pub only_r : Files
 only_r = (codes "r.csv", codes "X\r\n1\r\n") ∷ []

@@ -1,5 +1,5 @@
--- The names of the tables' files. The store is asked for these names as they are, without a folder. They don't depend on the names of the schema's
--- file and the query's file. Names match byte for byte.
+-- The names of the tables' files. The store is asked for these names as they are, without a folder. The names don't depend on the names of the
+-- schema's file and the query's file. Names match byte for byte.
 use Rattle.std.specs.Prelude.{ℕ, List, ◌++◌, map, codes}
 use Rattle.std.specs.Char.{to_ascii_lowercase}
 use Rattle.schema_types.specs.declared.types.Table.{Table}

@@ -58,7 +58,7 @@ tables_stage schema from files = do
   rows ← rows_of_each schema (tables_of_query from) files
   Ok (rows_by_entry from rows)
 
--- reading the tables in turn reaches the file `id`: it is the file of one of them, and no earlier table is refused
+-- reading the tables in turn reaches the file `id`: it is the file of one of the tables, and no earlier table is refused
 pub record IsReached (schema : Schema) (numbers : List ℕ) (files : Files) (id : FileId) : Type 0 where
   pub before : List ℕ
   pub number : ℕ

@@ -4,7 +4,7 @@ ghost use Rattle.limits.specs.Profile.{most_entries, most_rows};
 ghost use Rattle.base_io.specs.Devices.{reading};
 ghost use Rattle.outcomes.specs.Reads.{Reads, mapped};
 ghost use Rattle.schema_types.specs.Validity.{IsValid};
-ghost use Rattle.table_files.specs.EntryTables.{AreCellsOfEach, AreOfFilesEach, rows_of_tables};
+ghost use Rattle.table_files.specs.EntryTables.{AreCellsOfEach, EachCanComeFromFile, rows_of_tables};
 ghost use Rattle.table_files.specs.Stage.{IsReached, rows_of_each};
 
 use crate::table::load_table;
@@ -28,7 +28,7 @@ pub(crate) fn read_each<S: Store>(
     requires empty { pool.old ≡ [] }
     ensures cells { IfOk result (AreCellsOfEach schema.now pool.new numbers.now) }
     ensures few_rows { IfOk result (All (λ cells. cells.rows ≤ most_rows)) }
-    ensures files { IfOk result (λ cells. AreOfFilesEach schema.now numbers.now (rows_of_tables pool.new cells)) }
+    ensures files { IfOk result (λ cells. EachCanComeFromFile schema.now numbers.now (rows_of_tables pool.new cells)) }
     ensures reads { Reads (reading S.files S.faults S.misses store.old store.new) (rows_of_each schema.now numbers.now)
         (IsReached schema.now numbers.now) (mapped (rows_of_tables pool.new) result) }
 {

@@ -7,7 +7,7 @@ ghost use Rattle.table_files.specs.Stage.{without_repeats, rows_by_entry, tables
 ghost use Rattle.table_files.specs.FileNames.{file_name};
 
 /// For FROM S, R, S the stage reads S and then R, and the third entry has the rows of the first.
-pub fn orders()
+pub fn order_of_tables()
     ensures name { file_name (numbers_table (codes "Big_R")) ≡ codes "big_r.csv" }
     ensures once { tables_of_query s_r_s ≡ 1 ∷ 0 ∷ [] }
     ensures shared { rows_by_entry s_r_s (([] ∷ []) ∷ [] ∷ []) ≡ ([] ∷ []) ∷ [] ∷ ([] ∷ []) ∷ [] }
@@ -16,7 +16,7 @@ pub fn orders()
 
 #[tactic(auto, unfolding(crate::specs::TableFile::file_rows, crate::specs::Stage::tables_stage))]
 /// The first absent file in the order of FROM is reported, whatever the order of the schema is.
-pub fn absences()
+pub fn first_absent_file()
     ensures none { tables_stage two_tables s_r_s [] ≡ Err (refusal.Missing (file.Table 1)) }
     ensures first { tables_stage two_tables s_r_s only_r ≡ Err (refusal.Missing (file.Table 1)) }
 {}

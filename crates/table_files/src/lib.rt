@@ -19,7 +19,7 @@ mod rows;
 mod stage;
 mod table;
 
-pub use examples::{absences, orders};
+pub use examples::{first_absent_file, order_of_tables};
 pub use laws::entries_have_their_rows;
 pub use load::load_file;
 pub use rows::{TableRows, read_rows};

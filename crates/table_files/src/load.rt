@@ -9,7 +9,7 @@ use base_io::{ReadError, Seq, Store, read_file};
 use outcomes::{Failure, FileId, Refusal};
 use schema_types::LimitKind;
 
-/// Reads a file of at most `limit` bytes, into the memory of a list that is no longer needed.
+/// Reads a file of at most `limit` bytes. The list `memory` is reused for them.
 pub fn load_file<S: Store>(
     memory: Seq<u8>,
     store: &mut S,

@@ -6,7 +6,8 @@ use base_io::{NoMemory, Seq};
 use query_types::Source;
 use std::alloc::Global;
 
-// The index of a number, or the list's length if the number isn't there. The list has one number for each table of a query, so at most twelve.
+// The index of a number, or the list's length if the number isn't there. The list has one number for each table of a query, so it has at most twelve
+// numbers.
 fn index_of(numbers: &[u32], number: u32) -> usize
     ensures { result ≡ place_in numbers.now number }
 {

@@ -24,8 +24,8 @@ pub struct TableRows {
     pub cells: Cells,
 }
 
-/// Reads rows of the table with this number in the schema from the file of this name. It refuses what a table's file may not have. It tests keys
-/// among these rows alone.
+/// Reads rows of the table with this number in the schema from the file of this name. It refuses whatever would be refused in the table's own
+/// file. Keys are tested only among these rows.
 pub fn read_rows<S: Store>(
     alloc: Global,
     store: &mut S,
@@ -58,7 +58,7 @@ pub fn read_rows<S: Store>(
         &mut file_memory,
         &mut pool,
     )?;
-    // The contract of `len` says that the pool's texts are UTF-8 and different.
+    // `len` is called only for its contract: the texts of the pool are UTF-8 and all different.
     let _texts = pool.len();
     Ok(TableRows { pool, cells })
 }

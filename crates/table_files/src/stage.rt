@@ -3,11 +3,11 @@ ghost use Rattle.std.specs.Prelude.{◌≡◌, ◌<◌, All, IfOk, IsUtf8, lengt
 ghost use Rattle.csv_tables.specs.Pools.{TextsAreDifferent};
 ghost use Rattle.base_io.specs.Devices.{reading};
 ghost use Rattle.outcomes.specs.Reads.{Reads, mapped};
-ghost use Rattle.query_types.specs.Validity.{IsOf};
+ghost use Rattle.query_types.specs.Validity.{IsQueryOf};
 ghost use Rattle.schema_types.specs.Validity.{IsValid};
 ghost use Rattle.sql_meaning.specs.Databases.{IsDatabaseOf};
 ghost use Rattle.sql_meaning.specs.Tables.{tables_of};
-ghost use Rattle.table_files.specs.EntryTables.{AreOfFiles, HasCells, entry_rows, tables_in};
+ghost use Rattle.table_files.specs.EntryTables.{CanComeFromFiles, HasCells, entry_rows, tables_in};
 ghost use Rattle.table_files.specs.Stage.{IsReached, tables_of_query, tables_stage};
 
 use crate::each::read_each;
@@ -31,7 +31,7 @@ pub fn read_tables<S: Store>(
     query: &Query,
 ) -> Result<Database, Failure>
     requires schema { IsValid schema.now }
-    requires query { IsOf schema.now query.now }
+    requires query { IsQueryOf schema.now query.now }
 
     // The query can be evaluated on the database, which has the cells of each entry's table.
     ensures database { IfOk result (IsDatabaseOf query.now) }
@@ -45,7 +45,7 @@ pub fn read_tables<S: Store>(
     ensures different { IfOk result (λ db. TextsAreDifferent db.pool) }
 
     // Each table has the rows of some file, in which columns and keys are as the schema declares.
-    ensures files { IfOk result (λ db. AreOfFiles schema.now query.now.from (tables_of db)) }
+    ensures files { IfOk result (λ db. CanComeFromFiles schema.now query.now.from (tables_of db)) }
 
     // The tables made of the entries' rows are those of the database.
     ensures tables { IfOk result (λ db. tables_in (entry_rows db) ≡ tables_of db) }
@@ -63,7 +63,7 @@ pub fn read_tables<S: Store>(
     };
     let mut pool = Pool::new(alloc);
     let cells = read_each(alloc, store, schema, numbers.as_slice(), &mut pool)?;
-    // The contract of `len` says that the pool's texts are UTF-8 and different.
+    // `len` is called only for its contract: the texts of the pool are UTF-8 and all different.
     let _texts = pool.len();
     Ok(Database { pool, cells, slots })
 }

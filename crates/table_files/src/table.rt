@@ -6,7 +6,7 @@ ghost use Rattle.csv_tables.specs.Pools.{PoolBeginsWith};
 ghost use Rattle.base_io.specs.Devices.{reading};
 ghost use Rattle.outcomes.specs.Reads.{AtFile, Reads, mapped};
 ghost use Rattle.schema_types.specs.Validity.{IsValidTable};
-ghost use Rattle.table_files.specs.EntryTables.{AreOfAFile};
+ghost use Rattle.table_files.specs.EntryTables.{CanComeFromFile};
 ghost use Rattle.table_files.specs.FileNames.{file_name};
 ghost use Rattle.table_files.specs.TableFile.{file_rows, rows_in};
 
@@ -43,7 +43,7 @@ pub(crate) fn load_rows<S: Store>(
     requires room { length pool.old ≤ 4000000000 }
     ensures cells { IfOk result (AreCellsOf table.now pool.new) }
     ensures few { IfOk result (λ cells. cells.rows ≤ most_rows) }
-    ensures file { IfOk result (λ cells. AreOfAFile table.now (rows_of_cells pool.new cells)) }
+    ensures file { IfOk result (λ cells. CanComeFromFile table.now (rows_of_cells pool.new cells)) }
     ensures begins { IfOk result (λ _. PoolBeginsWith pool.old pool.new) }
     ensures more { IfOk result (λ _. length pool.new ≤ length pool.old + 256000000) }
     ensures reads { Reads (reading S.files S.faults S.misses store.old store.new) (rows_in number table.now name.now)
@@ -75,7 +75,7 @@ pub(crate) fn load_table<S: Store>(
     requires room { length pool.old ≤ 4000000000 }
     ensures cells { IfOk result (AreCellsOf table.now pool.new) }
     ensures few { IfOk result (λ cells. cells.rows ≤ most_rows) }
-    ensures file { IfOk result (λ cells. AreOfAFile table.now (rows_of_cells pool.new cells)) }
+    ensures file { IfOk result (λ cells. CanComeFromFile table.now (rows_of_cells pool.new cells)) }
     ensures begins { IfOk result (λ _. PoolBeginsWith pool.old pool.new) }
     ensures more { IfOk result (λ _. length pool.new ≤ length pool.old + 256000000) }
     ensures reads { Reads (reading S.files S.faults S.misses store.old store.new) (file_rows number table.now)

@@ -1,4 +1,4 @@
--- A column of cells has the same lists as the column of their values. Each cell has one number, and cells compare as their values do.
+-- A column of cells has the same lists as the column of the cells' values. Equal cells have one number, and cells compare as their values do.
 use Rattle.std.proofs.Common.{◌≡◌, ℕ, ◌<◌, true, List, [], ◌∷◌, length, map, get_or, pos, Option, None, Some, refl, ap, sym, ◌∙◌, subst, arith, inl, inr}
 use Rattle.std.specs.Prelude.{option_map}
 use Rattle.std.specs.List.{All, Contains, zip}
@@ -13,19 +13,19 @@ use Rattle.cond_stats.specs.Leaves.{last_leaf_where}
 use Rattle.cond_stats.specs.Lists.{compressed_degrees, list_of_range, list_of_value}
 use Rattle.level_bounds.specs.Keys.{HaveDifferentCharacters}
 use Rattle.level_bounds.proofs.CellKeys.{equal_cells}
-use Rattle.level_bounds.proofs.Lists.{map_both}
+use Rattle.level_bounds.proofs.Lists.{map_of_map}
 use Rattle.relabelling_laws.specs.Relabelling.{IsMissing, IsOneToOne, KeepsOrder, PassAlike}
 use Rattle.relabelling_laws.proofs.Columns.{leaf_is}
-use Rattle.relabelling_laws.proofs.Rows.{absent_is, columns_are, range_is, value_is, whole_is, is_in_column_or_not as found}
+use Rattle.relabelling_laws.proofs.Rows.{absent_list_unchanged, zip_of_columns, range_list_unchanged, value_list_unchanged, whole_list_unchanged, is_in_column_or_not as found}
 use Rattle.table_stats.specs.Cells.{IsCellFor}
 use Rattle.table_stats.specs.Columns.{first_row, leaf_of_value, as_first_rows, paired, row_le, value_of_row}
 use Rattle.table_stats.specs.Statistics.{end_leaf, list_between, list_with}
-use Rattle.table_stats.proofs.EqualValues.{alike_le, equal_back, equal_chain, equal_itself, is_equal}
-use Rattle.table_stats.proofs.FirstRows.{equal_firsts, first_has, first_there, same_first}
+use Rattle.table_stats.proofs.EqualValues.{alike_le, equal_symmetric, equal_transitive, equal_itself, is_equal}
+use Rattle.table_stats.proofs.FirstRows.{equal_firsts, first_has, first_row_exists, same_first}
 
 -- ---- a column of cells, and its values
 
-module _ (texts : List (List ℕ)) (differ : HaveDifferentCharacters texts) (kind : Kind) (cells : List ℕ) (are : All (IsCell texts kind) cells) where
+module _ (texts : List (List ℕ)) (texts_differ : HaveDifferentCharacters texts) (kind : Kind) (cells : List ℕ) (cells_are_valid : All (IsCell texts kind) cells) where
   abbrev pub of_cell : ℕ → Value
   of_cell cell = value_of_cell texts kind cell
 
@@ -37,16 +37,16 @@ module _ (texts : List (List ℕ)) (differ : HaveDifferentCharacters texts) (kin
   number_of cell = first_row cell_values (of_cell cell)
 
   pub numbers_of_cells : as_first_rows cell_values ≡ map number_of cells
-  numbers_of_cells = map_both (first_row cell_values) of_cell number_of (λ cell. refl) cells
+  numbers_of_cells = map_of_map (first_row cell_values) of_cell number_of (λ cell. refl) cells
 
   is_cell : (cell : ℕ) → Contains cells cell → IsCell texts kind cell
-  is_cell cell has = subst (IsCell texts kind) has.2 (are has.0 cell has.1)
+  is_cell cell has = subst (IsCell texts kind) has.2 (cells_are_valid has.0 cell has.1)
 
   has_row : (cell : ℕ) → Contains cells cell → number_of cell < length cell_values
   has_row cell has =
       let low : has.0 < length cells = has.1 in
       let at : get_or cell_values has.0 (Int (pos 0)) ≡ of_cell cell = get_or-map of_cell cells has.0 cell (Int (pos 0)) low ∙ ap of_cell has.2 in
-      first_there cell_values (of_cell cell) has.0 (Int (pos 0)) (omega (arith, low, length-map cells of_cell))
+      first_row_exists cell_values (of_cell cell) has.0 (Int (pos 0)) (omega (arith, low, length-map cells of_cell))
       (ap (λ (v : Value). is_equal v (of_cell cell)) at ∙ equal_itself (of_cell cell))
 
   first_is : (cell : ℕ) → Contains cells cell → is_equal (value_of_row cell_values (number_of cell)) (of_cell cell) ≡ true
@@ -54,7 +54,7 @@ module _ (texts : List (List ℕ)) (differ : HaveDifferentCharacters texts) (kin
 
   pub one_to_one : IsOneToOne number_of cells
   one_to_one a b has_a has_b same =
-      equal_cells texts differ kind kind a b (is_cell a has_a) (is_cell b has_b) (equal_firsts cell_values (of_cell a) (of_cell b) (has_row a has_a) same)
+      equal_cells texts texts_differ kind kind a b (is_cell a has_a) (is_cell b has_b) (equal_firsts cell_values (of_cell a) (of_cell b) (has_row a has_a) same)
 
   pub keeps_order : KeepsOrder (cell_le texts kind) (row_le cell_values) number_of cells
   keeps_order a b has_a has_b =
@@ -89,8 +89,8 @@ module _ (texts : List (List ℕ)) (differ : HaveDifferentCharacters texts) (kin
       absurd (false≢true (sym (stands found.0 (is_cell found.0 found.1)) ∙ found.2))
   both_missing value (Some cell) stands missing has =
       let found = from_value value has in
-      let same : found.0 ≡ cell = equal_cells texts differ kind kind found.0 cell (is_cell found.0 found.1) stands.0
-      (equal_chain (of_cell found.0) value (of_cell cell) found.2 (equal_back (of_cell cell) value stands.1)) in
+      let same : found.0 ≡ cell = equal_cells texts texts_differ kind kind found.0 cell (is_cell found.0 found.1) stands.0
+      (equal_transitive (of_cell found.0) value (of_cell cell) found.2 (equal_symmetric (of_cell cell) value stands.1)) in
       missing (subst (Contains cells) same found.1)
 
   pub its_number : (value : Value) (cell : ℕ) → IsCellFor texts kind value (Some cell) → first_row cell_values value ≡ number_of cell
@@ -112,11 +112,11 @@ module _ (texts : List (List ℕ)) (differ : HaveDifferentCharacters texts) (kin
   abbrev joined_number : ℕ → ℕ
   joined_number = number_of texts differ other joined are_joined
 
-  apart : IsOneToOne filter_number filter
-  apart = one_to_one texts differ kind filter are_filter
+  filter_one_to_one : IsOneToOne filter_number filter
+  filter_one_to_one = one_to_one texts differ kind filter are_filter
 
-  joined_apart : IsOneToOne joined_number joined
-  joined_apart = one_to_one texts differ other joined are_joined
+  joined_one_to_one : IsOneToOne joined_number joined
+  joined_one_to_one = one_to_one texts differ other joined are_joined
 
   pairs : paired filter_of joined_of ≡ zip (map filter_number filter) (map joined_number joined)
   pairs =
@@ -125,36 +125,36 @@ module _ (texts : List (List ℕ)) (differ : HaveDifferentCharacters texts) (kin
 
   pub same_whole : compressed_degrees accuracy joined ≡ compressed_degrees accuracy (as_first_rows joined_of)
   same_whole =
-      sym (ap (compressed_degrees accuracy) (numbers_of_cells texts differ other joined are_joined) ∙ whole_is accuracy joined_number joined joined_apart)
+      sym (ap (compressed_degrees accuracy) (numbers_of_cells texts differ other joined are_joined) ∙ whole_list_unchanged accuracy joined_number joined joined_one_to_one)
 
   missing_equal : (value : Value) (cell : Option ℕ) → IsCellFor texts kind value cell → IsMissing filter cell
       → list_of_value accuracy (zip (map filter_number filter) (map joined_number joined)) (Some (first_row filter_of value)) ≡ list_of_value accuracy (zip filter joined) cell
   missing_equal value cell stands missing =
-      absent_is accuracy filter_number joined_number filter joined (Some (first_row filter_of value)) cell apart joined_apart
+      absent_list_unchanged accuracy filter_number joined_number filter joined (Some (first_row filter_of value)) cell filter_one_to_one joined_one_to_one
       (both_missing texts differ kind filter are_filter value cell stands missing) missing
 
-  stood_equal : (value : Value) (cell : Option ℕ) → IsCellFor texts kind value cell
+  present_equal : (value : Value) (cell : Option ℕ) → IsCellFor texts kind value cell
       → list_of_value accuracy (zip (map filter_number filter) (map joined_number joined)) (Some (first_row filter_of value)) ≡ list_of_value accuracy (zip filter joined) cell
-  stood_equal value None stands = missing_equal value None stands tt
-  stood_equal value (Some cell) stands = elim (found filter cell) [
+  present_equal value None stands = missing_equal value None stands tt
+  present_equal value (Some cell) stands = elim (found filter cell) [
     | inl has ↦ ap (λ (number : ℕ). list_of_value accuracy (zip (map filter_number filter) (map joined_number joined)) (Some number))
         (its_number texts differ kind filter are_filter value cell stands)
-        ∙ value_is accuracy filter_number joined_number filter joined cell apart joined_apart has
+        ∙ value_list_unchanged accuracy filter_number joined_number filter joined cell filter_one_to_one joined_one_to_one has
     | inr missing ↦ missing_equal value (Some cell) stands missing
   ]
 
   pub same_equal : (value : Value) (cell : Option ℕ) → IsCellFor texts kind value cell
       → list_of_value accuracy (zip filter joined) cell ≡ list_with accuracy filter_of joined_of value
   same_equal value cell stands =
-      sym (ap (λ (rows : List (ℕ × ℕ)). list_of_value accuracy rows (Some (first_row filter_of value))) pairs ∙ stood_equal value cell stands)
+      sym (ap (λ (rows : List (ℕ × ℕ)). list_of_value accuracy rows (Some (first_row filter_of value))) pairs ∙ present_equal value cell stands)
 
   pub same_range : length filter ≡ length joined → (low high : Option Value)
       → list_of_cells_between texts kind accuracy (zip filter joined) low high ≡ list_between accuracy filter_of joined_of low high
   same_range as_long low high =
       let leaf : List ℕ → Value → ℕ = leaf_in_cells texts kind in
-      ap (λ (s : List ℕ). list_of_range (cell_le texts kind) accuracy (zip filter joined) (option_map (leaf s) low) (option_map (leaf s) high)) (columns_are filter joined as_long).0
-      ∙ sym (range_is (cell_le texts kind) (row_le filter_of) accuracy filter_number joined_number filter joined (option_map (leaf filter) low) (option_map (leaf filter) high)
-      (keeps_order texts differ kind filter are_filter) joined_apart)
+      ap (λ (s : List ℕ). list_of_range (cell_le texts kind) accuracy (zip filter joined) (option_map (leaf s) low) (option_map (leaf s) high)) (zip_of_columns filter joined as_long).0
+      ∙ sym (range_list_unchanged (cell_le texts kind) (row_le filter_of) accuracy filter_number joined_number filter joined (option_map (leaf filter) low) (option_map (leaf filter) high)
+      (keeps_order texts differ kind filter are_filter) joined_one_to_one)
       ∙ ap (λ (rows : List (ℕ × ℕ)). list_of_range (row_le filter_of) accuracy rows (option_map (leaf filter) low) (option_map (leaf filter) high)) (sym pairs)
       ∙ ap (λ (o : Option ℕ). list_of_range (row_le filter_of) accuracy (paired filter_of joined_of) o (option_map (leaf filter) high))
       (sym (ends_are texts differ kind filter are_filter low))

@@ -6,13 +6,13 @@ use Rattle.std.proofs.lemmas.List.{length-map}
 use Rattle.csv_tables.specs.Values.{Value, Int}
 use Rattle.cond_stats.specs.Rows.{filter_values}
 use Rattle.filtered_lists.specs.Standing.{value_in_row}
-use Rattle.level_bounds.proofs.Lists.{map_both}
-use Rattle.relabelling_laws.proofs.Rows.{columns_are}
+use Rattle.level_bounds.proofs.Lists.{map_of_map}
+use Rattle.relabelling_laws.proofs.Rows.{zip_of_columns}
 use Rattle.sql_meaning.specs.Tables.{Tables, row_counts}
 use Rattle.table_stats.specs.Keys.{SeparatesListed, SeparatesValues}
 use Rattle.table_stats.specs.Columns.{column_values, first_row, as_first_rows, paired, value_of_row}
 use Rattle.table_stats.proofs.EqualValues.{equal_itself, is_equal}
-use Rattle.table_stats.proofs.FirstRows.{first_has, first_there, same_first}
+use Rattle.table_stats.proofs.FirstRows.{first_has, first_row_exists, same_first}
 
 -- ---- a list of values, one for each row
 
@@ -23,11 +23,11 @@ module _ (values : List Value) where
 
   pub listed_numbers : as_first_rows values ≡ map listed_number (range_with_len 0 (length values))
   listed_numbers =
-      ap (map (first_row values)) (fill_by_all (value_of_row values) values (length values) (Int (pos 0)) refl (λ row low. refl))
-      ∙ map_both (first_row values) (value_of_row values) listed_number (λ row. refl) (range_with_len 0 (length values))
+      ap (map (first_row values)) (fill_by_all (value_of_row values) values (length values) (Int (pos 0)) refl (λ row is_below. refl))
+      ∙ map_of_map (first_row values) (value_of_row values) listed_number (λ row. refl) (range_with_len 0 (length values))
 
   pub listed_below : (row : ℕ) → row < length values → listed_number row < length values
-  listed_below row low = first_there values (value_of_row values row) row (Int (pos 0)) low (equal_itself (value_of_row values row))
+  listed_below row is_below = first_row_exists values (value_of_row values row) row (Int (pos 0)) is_below (equal_itself (value_of_row values row))
 
 -- ---- the columns of an entry
 
@@ -49,33 +49,33 @@ module _ (tables : Tables) (entry : ℕ) where
     abbrev pub number_at : ℕ → ℕ
     number_at row = first_row values (value_at row)
 
-    pub height : length values ≡ row_count
-    height = length-map-range_with_len value_at 0 row_count
+    pub values_length : length values ≡ row_count
+    values_length = length-map-range_with_len value_at 0 row_count
 
     pub numbers_are : as_first_rows values ≡ map number_at rows
-    numbers_are = map_both (first_row values) value_at number_at (λ row. refl) rows
+    numbers_are = map_of_map (first_row values) value_at number_at (λ row. refl) rows
 
-    pub there : (row : ℕ) → row < row_count → value_of_row values row ≡ value_at row
-    there row low = get_or-map-range_with_len value_at 0 row_count row row (Int (pos 0)) low (omega arith)
+    pub value_of_row_is : (row : ℕ) → row < row_count → value_of_row values row ≡ value_at row
+    value_of_row_is row is_below = get_or-map-range_with_len value_at 0 row_count row row (Int (pos 0)) is_below (omega arith)
 
-    pub here : (row : ℕ) → row < row_count → is_equal (get_or values row (Int (pos 0))) (value_at row) ≡ true
-    here row low =
-        ap (λ (v : Value). is_equal v (value_at row)) (get_or-map-range_with_len value_at 0 row_count row row (Int (pos 0)) low (omega arith))
+    pub value_is_equal : (row : ℕ) → row < row_count → is_equal (get_or values row (Int (pos 0))) (value_at row) ≡ true
+    value_is_equal row is_below =
+        ap (λ (v : Value). is_equal v (value_at row)) (get_or-map-range_with_len value_at 0 row_count row row (Int (pos 0)) is_below (omega arith))
         ∙ equal_itself (value_at row)
 
     pub number_below : (row : ℕ) → row < row_count → number_at row < length values
-    number_below row low = first_there values (value_at row) row (Int (pos 0)) (omega (arith, height)) (here row low)
+    number_below row is_below = first_row_exists values (value_at row) row (Int (pos 0)) (omega (arith, values_length)) (value_is_equal row is_below)
 
     pub number_has : (row : ℕ) → row < row_count → is_equal (value_of_row values (number_at row)) (value_at row) ≡ true
-    number_has row low = first_has values (value_at row) (number_below row low)
+    number_has row is_below = first_has values (value_at row) (number_below row is_below)
 
     pub same_number : (row other : ℕ) → is_equal (value_at row) (value_at other) ≡ true → number_at row ≡ number_at other
     same_number row other h = same_first values (value_at row) (value_at other) h
 
   -- ---- a list `joined` with one value for each row of the table; it needn't be a column of the table
-  module _ (joined : List Value) (long : length joined ≡ row_count) where
+  module _ (joined : List Value) (joined_length : length joined ≡ row_count) where
     pub listed_numbers_are : as_first_rows joined ≡ map (listed_number joined) rows
-    listed_numbers_are = listed_numbers joined ∙ ap (λ (n : ℕ). map (listed_number joined) (range_with_len 0 n)) long
+    listed_numbers_are = listed_numbers joined ∙ ap (λ (n : ℕ). map (listed_number joined) (range_with_len 0 n)) joined_length
 
     pub pairs_are : (column : ℕ) → paired (values column) joined ≡ zip (map (number_at column) rows) (map (listed_number joined) rows)
     pairs_are column =
@@ -84,18 +84,18 @@ module _ (tables : Tables) (entry : ℕ) where
 
     pub filter_numbers : (column : ℕ) → filter_values (paired (values column) joined) ≡ as_first_rows (values column)
     filter_numbers column =
-        (columns_are (as_first_rows (values column)) (as_first_rows joined)
+        (zip_of_columns (as_first_rows (values column)) (as_first_rows joined)
         (omega (
           arith,
           length-map (values column) (first_row (values column)),
           length-map joined (first_row joined),
-          height column,
-          long,
+          values_length column,
+          joined_length,
         ))).0
 
-  pub listed_tell : (column : ℕ) (key : ℕ → ℕ) → SeparatesValues tables entry column key → SeparatesListed (values column) key
-  listed_tell column key tells row other low also =
-      let below : row < row_count = omega (arith, low, height column) in
-      let beside : other < row_count = omega (arith, also, height column) in
-      subst (λ (v : Value). (key row ≡ key other) ↔ (is_equal v (value_of_row (values column) other) ≡ true)) (sym (there column row below))
-      (subst (λ (v : Value). (key row ≡ key other) ↔ (is_equal (value_at column row) v ≡ true)) (sym (there column other beside)) (tells row other below beside))
+  pub values_are_separated : (column : ℕ) (key : ℕ → ℕ) → SeparatesValues tables entry column key → SeparatesListed (values column) key
+  values_are_separated column key tells row other is_below also =
+      let below : row < row_count = omega (arith, is_below, values_length column) in
+      let beside : other < row_count = omega (arith, also, values_length column) in
+      subst (λ (v : Value). (key row ≡ key other) ↔ (is_equal v (value_of_row (values column) other) ≡ true)) (sym (value_of_row_is column row below))
+      (subst (λ (v : Value). (key row ≡ key other) ↔ (is_equal (value_at column row) v ≡ true)) (sym (value_of_row_is column other beside)) (tells row other below beside))

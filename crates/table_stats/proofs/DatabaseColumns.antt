@@ -1,4 +1,4 @@
--- The columns of cells of a database have the lists of their values.
+-- The columns of a database, as cells, have the same lists as the columns of their values.
 use Rattle.std.proofs.Common.{◌≡◌, ℕ, ◌<◌, List, [], length, map, get_or, pos, Option, ap, sym, ◌∙◌, subst, arith}
 use Rattle.std.specs.Prelude.{slice_index}
 use Rattle.std.specs.List.{zip}
@@ -24,29 +24,29 @@ use Rattle.table_stats.specs.Columns.{column_values, as_first_rows}
 use Rattle.table_stats.specs.Statistics.{column_lists, list_between, list_with}
 use Rattle.table_stats.proofs.CellColumns.{same_equal, same_range, same_whole}
 
-module _ (db : Database) (are : AreTables db) (differ : HaveDifferentCharacters db.pool) (entry : ℕ) (there : entry < length db.slots) where
+module _ (db : Database) (tables_are_valid : AreTables db) (characters_differ : HaveDifferentCharacters db.pool) (entry : ℕ) (entry_exists : entry < length db.slots) where
   abbrev cells : Cells
   cells = cells_of db entry
 
   pub cells_are : AreCells db.pool cells
-  cells_are = are.cells (slice_index db.slots entry) no_cells (are.slots entry 0 there)
+  cells_are = tables_are_valid.cells (slice_index db.slots entry) no_cells (tables_are_valid.slots entry 0 entry_exists)
 
   abbrev kind_at : ℕ → Kind
   kind_at column = get_or cells.kinds column kind.Int
 
-  abbrev column_at_all : ℕ → List ℕ
-  column_at_all column = get_or cells.columns column []
+  abbrev cells_in : ℕ → List ℕ
+  cells_in column = get_or cells.columns column []
 
   abbrev Exists : ℕ → Type 0
   Exists column = column < length cells.kinds
 
-  pub column_is : (column : ℕ) → Exists column → IsColumn db.pool cells.rows (kind_at column) (column_at_all column)
+  pub column_is : (column : ℕ) → Exists column → IsColumn db.pool cells.rows (kind_at column) (cells_in column)
   column_is column exists = column_at db.pool cells.rows cells.kinds cells.columns cells_are column kind.Int [] exists
 
-  pub values_are : (column : ℕ) → Exists column → map (value_of_cell db.pool (kind_at column)) (column_at_all column) ≡ column_values (tables_of db) entry column
+  pub values_are : (column : ℕ) → Exists column → map (value_of_cell db.pool (kind_at column)) (cells_in column) ≡ column_values (tables_of db) entry column
   values_are column exists =
       let of_cell : ℕ → Value = value_of_cell db.pool (kind_at column) in
-      let all : List ℕ = column_at_all column in
+      let all : List ℕ = cells_in column in
       fill_by_all (value_in_row (tables_of db) entry column) (map of_cell all) (row_counts (tables_of db) entry) (Int (pos 0))
       (length-map all of_cell ∙ (column_is column exists).height ∙ sym (rows_are db entry))
       (λ row low.
@@ -56,27 +56,27 @@ module _ (db : Database) (are : AreTables db) (differ : HaveDifferentCharacters 
       ∙ sym (value_at db.pool cells.rows cells.kinds cells.columns cells_are row column kind.Int [] (Int (pos 0)) below exists))
 
   module _ (accuracy joined : ℕ) (has_joined : Exists joined) where
-    pub whole_is_same : compressed_degrees accuracy (column_at_all joined) ≡ (column_lists (tables_of db) accuracy entry joined).whole
+    pub whole_is_same : compressed_degrees accuracy (cells_in joined) ≡ (column_lists (tables_of db) accuracy entry joined).whole
     whole_is_same =
-        same_whole db.pool differ (kind_at joined) (kind_at joined) (column_at_all joined) (column_at_all joined) (column_is joined has_joined).cells (column_is joined has_joined).cells accuracy
+        same_whole db.pool characters_differ (kind_at joined) (kind_at joined) (cells_in joined) (cells_in joined) (column_is joined has_joined).cells (column_is joined has_joined).cells accuracy
         ∙ ap (λ (s : List Value). compressed_degrees accuracy (as_first_rows s)) (values_are joined has_joined)
 
     module _ (filter : ℕ) (has_filter : Exists filter) where
       pub equal_is_same : (value : Value) (cell : Option ℕ) → IsCellFor db.pool (kind_at filter) value cell
-          → list_of_value accuracy (zip (column_at_all filter) (column_at_all joined)) cell ≡ (column_lists (tables_of db) accuracy entry joined).equal filter value
+          → list_of_value accuracy (zip (cells_in filter) (cells_in joined)) cell ≡ (column_lists (tables_of db) accuracy entry joined).equal filter value
       equal_is_same value cell stands =
-          same_equal db.pool differ (kind_at filter) (kind_at joined) (column_at_all filter) (column_at_all joined) (column_is filter has_filter).cells (column_is joined has_joined).cells accuracy
+          same_equal db.pool characters_differ (kind_at filter) (kind_at joined) (cells_in filter) (cells_in joined) (column_is filter has_filter).cells (column_is joined has_joined).cells accuracy
           value cell stands
-          ∙ ap (λ (s : List Value). list_with accuracy s (map (value_of_cell db.pool (kind_at joined)) (column_at_all joined)) value) (values_are filter has_filter)
+          ∙ ap (λ (s : List Value). list_with accuracy s (map (value_of_cell db.pool (kind_at joined)) (cells_in joined)) value) (values_are filter has_filter)
           ∙ ap (λ (s : List Value). list_with accuracy (column_values (tables_of db) entry filter) s value) (values_are joined has_joined)
 
       pub range_is_same : (low high : Option Value)
-          → list_of_cells_between db.pool (kind_at filter) accuracy (zip (column_at_all filter) (column_at_all joined)) low high
+          → list_of_cells_between db.pool (kind_at filter) accuracy (zip (cells_in filter) (cells_in joined)) low high
           ≡ (column_lists (tables_of db) accuracy entry joined).range (record { column = filter; low = low; high = high })
       range_is_same low high =
-          same_range db.pool differ (kind_at filter) (kind_at joined) (column_at_all filter) (column_at_all joined) (column_is filter has_filter).cells (column_is joined has_joined).cells accuracy
+          same_range db.pool characters_differ (kind_at filter) (kind_at joined) (cells_in filter) (cells_in joined) (column_is filter has_filter).cells (column_is joined has_joined).cells accuracy
           ((column_is filter has_filter).height ∙ sym (column_is joined has_joined).height) low high
-          ∙ ap (λ (s : List Value). list_between accuracy s (map (value_of_cell db.pool (kind_at joined)) (column_at_all joined)) low high) (values_are filter has_filter)
+          ∙ ap (λ (s : List Value). list_between accuracy s (map (value_of_cell db.pool (kind_at joined)) (cells_in joined)) low high) (values_are filter has_filter)
           ∙ ap (λ (s : List Value). list_between accuracy (column_values (tables_of db) entry filter) s low high) (values_are joined has_joined)
 
 -- ---- columns that a query names

@@ -1,4 +1,4 @@
--- Each list of a joined column dominates the keys of this column, over the rows for which the list stands.
+-- Each list of a joined column dominates the keys that this column has in the rows which the list is for.
 use Rattle.std.proofs.Common.{◌≡◌, ◌↔◌, ℕ, ◌+◌, ◌<◌, ◌≤◌, Bool, true, eqb, List, length, map, Option, None, Some, refl, ap, sym, ◌∙◌, subst, arith}
 use Rattle.std.specs.Prelude.{unwrap_or}
 use Rattle.std.specs.List.{filter}
@@ -20,12 +20,12 @@ use Rattle.filtered_lists.proofs.Counting.{all_pass}
 use Rattle.level_bounds.proofs.Lists.{range_within}
 use Rattle.relabelling_laws.specs.Relabelling.{AreEqualAlike}
 use Rattle.relabelling_laws.proofs.Dominated.{passing_dominated}
-use Rattle.relabelling_laws.proofs.Rows.{of_rows}
+use Rattle.relabelling_laws.proofs.Rows.{passing_of_rows}
 use Rattle.sql_meaning.specs.Tables.{Tables, row_counts}
 use Rattle.table_stats.specs.Columns.{column_values, first_row, as_first_rows, paired, row_le, value_of_row}
 use Rattle.table_stats.specs.Keys.{SeparatesListed, SeparatesValues}
 use Rattle.table_stats.specs.Statistics.{column_lists, end_leaf, lists_over}
-use Rattle.table_stats.proofs.ColumnRows.{filter_numbers, height, listed_below, listed_number, listed_numbers_are, listed_tell, number_at, number_has, pairs_are, row_count, rows, value_at, values}
+use Rattle.table_stats.proofs.ColumnRows.{filter_numbers, values_length, listed_below, listed_number, listed_numbers_are, values_are_separated, number_at, number_has, pairs_are, row_count, rows, value_at, values}
 use Rattle.table_stats.proofs.EqualValues.{alike_le, equal_itself, is_equal, le_from_ge}
 use Rattle.table_stats.proofs.FirstRows.{equal_firsts, same_first}
 use Rattle.table_stats.proofs.FewerRows.{PassesBoth, all_in_range, fewer_dominated}
@@ -50,19 +50,19 @@ module _ (filter : List Value) where
   last-small None = omega arith
   last-small (Some high) = leaf-below (row_le filter) (as_first_rows filter) (λ cut. value_le (value_of_row filter cut) high)
 
-  module _ (number : ℕ) (value : Value) (has : is_equal (value_of_row filter number) value ≡ true) where
+  module _ (number : ℕ) (value : Value) (number_has_value : is_equal (value_of_row filter number) value ≡ true) where
     from_first : (low : Option Value) → is_from low value ≡ true → first_leaf low ≤ leaf_at number
     from_first None h = omega arith
     from_first (Some low) h = last_place-mono (λ cut. value_le (value_of_row filter cut) low) (λ cut. row_le filter cut number)
         (λ cut under. value_le-trans (value_of_row filter cut) low (value_of_row filter number) under
-        (alike_le low low (value_of_row filter number) value (equal_itself low) has ∙ le_from_ge value low h))
+        (alike_le low low (value_of_row filter number) value (equal_itself low) number_has_value ∙ le_from_ge value low h))
         (cuts (row_le filter) (as_first_rows filter))
 
     up_to_last : (high : Option Value) → is_up_to high value ≡ true → leaf_at number ≤ last_leaf high
     up_to_last None h = leaf-below (row_le filter) (as_first_rows filter) (λ cut. row_le filter cut number)
     up_to_last (Some high) h = last_place-mono (λ cut. row_le filter cut number) (λ cut. value_le (value_of_row filter cut) high)
         (λ cut under. value_le-trans (value_of_row filter cut) (value_of_row filter number) high under
-        (alike_le (value_of_row filter number) value high high has (equal_itself high) ∙ h))
+        (alike_le (value_of_row filter number) value high high number_has_value (equal_itself high) ∙ h))
         (cuts (row_le filter) (as_first_rows filter))
 
     pub in_their_node : (low high : Option Value) → is_from low value ≡ true → is_up_to high value ≡ true
@@ -72,7 +72,7 @@ module _ (filter : List Value) where
 
 -- ---- an entry's table with a list of joined values, one for each row of the table
 
-module _ (tables : Tables) (accuracy entry : ℕ) (joined : List Value) (long : length joined ≡ row_count tables entry) where
+module _ (tables : Tables) (accuracy entry : ℕ) (joined : List Value) (joined_length : length joined ≡ row_count tables entry) where
   -- the joined values, as numbers, of the rows that pass a test
   abbrev pub joined_rows : (ℕ → Bool) → List ℕ
   joined_rows test = map (listed_number joined) (filter test (rows tables entry))
@@ -80,14 +80,14 @@ module _ (tables : Tables) (accuracy entry : ℕ) (joined : List Value) (long : 
   whole_dominates : DominatesKeys (compressed_degrees accuracy (as_first_rows joined)) (joined_rows (λ row. true))
   whole_dominates =
       subst (DominatesKeys (compressed_degrees accuracy (as_first_rows joined)))
-      (listed_numbers_are tables entry joined long ∙ ap (map (listed_number joined)) (sym (all_pass (λ row. true) (rows tables entry))))
+      (listed_numbers_are tables entry joined joined_length ∙ ap (map (listed_number joined)) (sym (all_pass (λ row. true) (rows tables entry))))
       (compressed_dominates accuracy (as_first_rows joined))
 
   pairs_where : (column : ℕ) (passes : ℕ → Bool)
       → keys_where passes (paired (values tables entry column) joined) ≡ joined_rows (λ row. passes (number_at tables entry column row))
   pairs_where column passes =
-      ap (keys_where passes) (pairs_are tables entry joined long column)
-      ∙ of_rows (number_at tables entry column) (listed_number joined) (rows tables entry)
+      ap (keys_where passes) (pairs_are tables entry joined joined_length column)
+      ∙ passing_of_rows (number_at tables entry column) (listed_number joined) (rows tables entry)
       (λ row. passes (number_at tables entry column row)) passes (λ row has. refl)
 
   abbrev has_number : ℕ → ℕ → ℕ → Bool
@@ -113,10 +113,10 @@ module _ (tables : Tables) (accuracy entry : ℕ) (joined : List Value) (long : 
       let passes : List ℕ → ℕ → Bool = λ numbers number. in_node (node_size first last) first (leaf_of at_most numbers number) in
       subst (DominatesKeys (compressed_degrees accuracy (keys_where (passes (filter_values pairs)) pairs)))
       (pairs_where column (passes (filter_values pairs)) ∙ ap (λ (numbers : List ℕ). joined_rows (λ row. passes numbers (number_at tables entry column row)))
-      (filter_numbers tables entry joined long column))
+      (filter_numbers tables entry joined joined_length column))
       (compressed_dominates accuracy (keys_where (passes (filter_values pairs)) pairs))
 
-  -- ---- any keys of rows that are equal exactly if the numbers of the joined values are
+  -- ---- any keys that are equal exactly if the numbers of the joined values are equal
 
   module _ (key : ℕ → ℕ) (alike : (row other : ℕ) → row < row_count tables entry → other < row_count tables entry
       → (listed_number joined row ≡ listed_number joined other) ↔ (key row ≡ key other)) where
@@ -161,9 +161,9 @@ module _ (tables : Tables) (accuracy entry : ℕ) (joined : List Value) (long : 
 
 -- ---- keys that tell which values are equal
 
-keys_tell : (joined : List Value) (key : ℕ → ℕ) → SeparatesListed joined key
+keys_equal_alike : (joined : List Value) (key : ℕ → ℕ) → SeparatesListed joined key
     → (row other : ℕ) → row < length joined → other < length joined → (listed_number joined row ≡ listed_number joined other) ↔ (key row ≡ key other)
-keys_tell joined key tells row other low also = (
+keys_equal_alike joined key tells row other low also = (
   (λ same. (tells row other low also).1 (equal_firsts joined (value_of_row joined row) (value_of_row joined other) (listed_below joined row low) same)),
   (λ same. same_first joined (value_of_row joined row) (value_of_row joined other) ((tells row other low also).0 same)),
 )
@@ -172,7 +172,7 @@ pub listed_stand : (tables : Tables) (accuracy entry : ℕ) (joined : List Value
     → ListsStandFor (lists_over accuracy (column_values tables entry) joined) tables entry key
 listed_stand tables accuracy entry joined key long tells =
     let alike : (row other : ℕ) → row < row_count tables entry → other < row_count tables entry → (listed_number joined row ≡ listed_number joined other) ↔ (key row ≡ key other) =
-    λ row other low also. keys_tell joined key tells row other (omega (arith, low, long)) (omega (arith, also, long)) in record {
+    λ row other low also. keys_equal_alike joined key tells row other (omega (arith, low, long)) (omega (arith, also, long)) in record {
       whole = whole_for_keys tables accuracy entry joined long key alike;
       equal = equal_for_keys tables accuracy entry joined long key alike;
       range = range_for_keys tables accuracy entry joined long key alike;
@@ -180,4 +180,4 @@ listed_stand tables accuracy entry joined key long tells =
 
 pub lists_stand : (tables : Tables) (accuracy entry column : ℕ) (key : ℕ → ℕ) → SeparatesValues tables entry column key → ListsStandFor (column_lists tables accuracy entry column) tables entry key
 lists_stand tables accuracy entry column key tells =
-    listed_stand tables accuracy entry (values tables entry column) key (height tables entry column) (listed_tell tables entry column key tells)
+    listed_stand tables accuracy entry (values tables entry column) key (values_length tables entry column) (values_are_separated tables entry column key tells)

@@ -35,11 +35,11 @@ pub alike_on_left : (a b : Value) → is_equal a b ≡ true → (c : Value) → 
 alike_on_left a b h c =
     value_cmp-reverse a c ∙ ap ordering_reverse (alike_on_right a b h c) ∙ sym (value_cmp-reverse b c)
 
-pub equal_back : (a b : Value) → is_equal a b ≡ true → is_equal b a ≡ true
-equal_back a b h = ap is_eq (sym (alike_on_left a b h a)) ∙ equal_itself a
+pub equal_symmetric : (a b : Value) → is_equal a b ≡ true → is_equal b a ≡ true
+equal_symmetric a b h = ap is_eq (sym (alike_on_left a b h a)) ∙ equal_itself a
 
-pub equal_chain : (a b c : Value) → is_equal a b ≡ true → is_equal b c ≡ true → is_equal a c ≡ true
-equal_chain a b c h k = ap is_eq (alike_on_left a b h c) ∙ k
+pub equal_transitive : (a b c : Value) → is_equal a b ≡ true → is_equal b c ≡ true → is_equal a c ≡ true
+equal_transitive a b c h k = ap is_eq (alike_on_left a b h c) ∙ k
 
 pub alike_le : (a b c d : Value) → is_equal a b ≡ true → is_equal c d ≡ true → value_le a c ≡ value_le b d
 alike_le a b c d h k = ap is_le (alike_on_left a b h c ∙ alike_on_right c d k b)

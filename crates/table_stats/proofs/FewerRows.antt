@@ -10,11 +10,11 @@ module _ (key : ℕ → ℕ) (p q : ℕ → Bool) where
   abbrev pub PassesBoth : ℕ → Type 0
   PassesBoth row = p row ≡ true → q row ≡ true
 
-  fewer : (counted : ℕ → Bool) (rows : List ℕ) → AllByRecursion PassesBoth rows
+  fewer_counted : (counted : ℕ → Bool) (rows : List ℕ) → AllByRecursion PassesBoth rows
       → count_by counted (map key (filter p rows)) ≤ count_by counted (map key (filter q rows))
-  fewer counted [] all = omega arith
-  fewer counted (row ∷ rows) all =
-      let rest : count_by counted (map key (filter p rows)) ≤ count_by counted (map key (filter q rows)) = fewer counted rows all.1 in
+  fewer_counted counted [] all = omega arith
+  fewer_counted counted (row ∷ rows) all =
+      let rest : count_by counted (map key (filter p rows)) ≤ count_by counted (map key (filter q rows)) = fewer_counted counted rows all.1 in
       let more : (kept : List ℕ) → count_by counted (key row ∷ kept) ≡ cond (counted (key row)) 1 0 + count_by counted kept =
       λ kept. sum_by-cons (λ k. cond (counted k) 1 0) (key row) kept in
       elim (cases_Bool (p row)) [
@@ -26,8 +26,8 @@ module _ (key : ℕ → ℕ) (p q : ℕ → Bool) where
       ]
 
   pub fewer_dominated : (s rows : List ℕ) → AllByRecursion PassesBoth rows → DominatesKeys s (map key (filter q rows)) → DominatesKeys s (map key (filter p rows))
-  fewer_dominated s rows all dominates picked apart = omega (arith, fewer (is_in picked) rows all, dominates picked apart)
+  fewer_dominated s rows all dominates picked apart = omega (arith, fewer_counted (is_in picked) rows all, dominates picked apart)
 
 pub all_in_range : (Q : ℕ → Type 0) (first count : ℕ) → ((x : ℕ) → x < first + count → Q x) → AllByRecursion Q (range_with_len first count)
 all_in_range Q first zero h = tt
-all_in_range Q first (suc count) h = (h first (omega arith), all_in_range Q (first + 1) count (λ x low. h x (omega arith)))
+all_in_range Q first (suc count) h = (h first (omega arith), all_in_range Q (first + 1) count (λ x is_below. h x (omega arith)))

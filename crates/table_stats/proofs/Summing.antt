@@ -13,7 +13,7 @@ use Rattle.cond_stats.proofs.Sums.{IsDescending-uncompressed_rest, sum-compresse
 use Rattle.degree_sequences.specs.Degrees.{degree, degree_list}
 use Rattle.degree_sequences.specs.Descending.{IsDescending}
 use Rattle.degree_sequences.proofs.CompressedLists.{IsDescending-compressed}
-use Rattle.degree_sequences.proofs.DegreeLists.{IsDescending-degree_list, places_fit}
+use Rattle.degree_sequences.proofs.DegreeLists.{IsDescending-degree_list, length_at_most_sum}
 use Rattle.degree_sequences.specs.Domination.{DominatesKeys}
 use Rattle.filtered_lists.specs.Lists.{ColumnLists}
 use Rattle.filtered_lists.specs.Ranges.{Range}
@@ -21,7 +21,7 @@ use Rattle.filtered_lists.specs.Standing.{CountsStandFor, ListsDescend, SumTo, h
 use Rattle.sql_meaning.specs.Tables.{Tables, row_counts}
 use Rattle.table_stats.specs.Columns.{first_row, as_first_rows, paired, row_le}
 use Rattle.table_stats.specs.Statistics.{column_lists, count_with, entry_counts, lists_over}
-use Rattle.table_stats.proofs.ColumnRows.{filter_numbers, height, listed_number, values}
+use Rattle.table_stats.proofs.ColumnRows.{filter_numbers, values_length, listed_number, values}
 use Rattle.table_stats.proofs.Dominating.{equal_for_keys, first_leaf, last_leaf, range_for_keys}
 
 -- ---- lists are in descending order
@@ -48,8 +48,8 @@ module _ (tables : Tables) (accuracy entry : ℕ) (joined : List Value) where
   abbrev pairs : ℕ → List (ℕ × ℕ)
   pairs column = paired (values tables entry column) joined
 
-  pub listed_fall : ListsDescend (lists_over accuracy (values tables entry) joined)
-  listed_fall = record {
+  pub listed_descend : ListsDescend (lists_over accuracy (values tables entry) joined)
+  listed_descend = record {
     whole = compressed-falls accuracy (as_first_rows joined);
     equal = λ column value. value-falls accuracy (pairs column) (first_row (values tables entry column) value);
     range = λ range. node-falls (row_le (values tables entry range.column)) accuracy (pairs range.column)
@@ -65,13 +65,13 @@ module _ (tables : Tables) (accuracy entry : ℕ) (joined : List Value) where
   abbrev count_of : List ℕ → ℕ → ℕ
   count_of numbers number = cond (list_any (λ other. eqb other number) (frequent numbers)) (degree numbers number) (remaining_count numbers)
 
-  module _ (long : length joined ≡ row_counts tables entry) where
+  module _ (joined_length : length joined ≡ row_counts tables entry) where
     equal_sum : (column : ℕ) (value : Value) → sum ((lists_over accuracy (values tables entry) joined).equal column value) ≡ count_with (values tables entry column) value
     equal_sum column value =
         let number : ℕ = first_row (values tables entry column) value in
         sum-list_of_value accuracy (pairs column) number
         ∙ ap (λ (n : ℕ). cond (is_frequent (pairs column) number) (degree (filter_values (pairs column)) number) n) (sum-rest accuracy (pairs column))
-        ∙ ap (λ (numbers : List ℕ). count_of numbers number) (filter_numbers tables entry joined long column)
+        ∙ ap (λ (numbers : List ℕ). count_of numbers number) (filter_numbers tables entry joined joined_length column)
 
     range_sum : (range : Range) → sum ((lists_over accuracy (values tables entry) joined).range range) ≡ (entry_counts tables entry).range range
     range_sum range =
@@ -79,12 +79,12 @@ module _ (tables : Tables) (accuracy entry : ℕ) (joined : List Value) where
         let first : ℕ = first_leaf (values tables entry range.column) range.low in
         let size : ℕ = node_size first (last_leaf (values tables entry range.column) range.high) in
         sum-list_of_node at_most accuracy (pairs range.column) size first
-        ∙ ap (λ (numbers : List ℕ). count_by (λ number. in_node size first (leaf_of at_most numbers number)) numbers) (filter_numbers tables entry joined long range.column)
+        ∙ ap (λ (numbers : List ℕ). count_by (λ number. in_node size first (leaf_of at_most numbers number)) numbers) (filter_numbers tables entry joined joined_length range.column)
 
     pub listed_sum : SumTo (lists_over accuracy (values tables entry) joined) (entry_counts tables entry)
     listed_sum = record {
       whole = sum-compressed_degrees accuracy (as_first_rows joined)
-          ∙ length-map joined (first_row joined) ∙ long;
+          ∙ length-map joined (first_row joined) ∙ joined_length;
       equal = equal_sum;
       range = range_sum;
     }
@@ -92,10 +92,10 @@ module _ (tables : Tables) (accuracy entry : ℕ) (joined : List Value) where
 -- ---- the lists of an entry's columns
 
 pub lists_descend : (tables : Tables) (accuracy entry joined : ℕ) → ListsDescend (column_lists tables accuracy entry joined)
-lists_descend tables accuracy entry joined = listed_fall tables accuracy entry (values tables entry joined)
+lists_descend tables accuracy entry joined = listed_descend tables accuracy entry (values tables entry joined)
 
 pub lists_sum : (tables : Tables) (accuracy entry joined : ℕ) → SumTo (column_lists tables accuracy entry joined) (entry_counts tables entry)
-lists_sum tables accuracy entry joined = listed_sum tables accuracy entry (values tables entry joined) (height tables entry joined)
+lists_sum tables accuracy entry joined = listed_sum tables accuracy entry (values tables entry joined) (values_length tables entry joined)
 
 -- ---- the counts are at least the numbers of rows that pass
 
@@ -107,11 +107,11 @@ module _ (tables : Tables) (entry : ℕ) where
   abbrev first_lists : ColumnLists
   first_lists = lists_over 1 (values tables entry) first_column
 
-  fits : (s : List ℕ) (test : ℕ → Bool) → DominatesKeys s (map (listed_number first_column) (rows_where tables entry test)) → length (rows_where tables entry test) ≤ sum s
-  fits s test dominates =
+  rows_at_most_sum : (s : List ℕ) (test : ℕ → Bool) → DominatesKeys s (map (listed_number first_column) (rows_where tables entry test)) → length (rows_where tables entry test) ≤ sum s
+  rows_at_most_sum s test dominates =
       omega (
         arith,
-        places_fit s (map (listed_number first_column) (rows_where tables entry test)) dominates,
+        length_at_most_sum s (map (listed_number first_column) (rows_where tables entry test)) dominates,
         length-map (rows_where tables entry test) (listed_number first_column),
       )
 
@@ -121,15 +121,15 @@ module _ (tables : Tables) (entry : ℕ) where
     equal = λ column value.
         omega (
           arith,
-          fits (first_lists.equal column value) (has_value tables entry column value)
-              (equal_for_keys tables 1 entry first_column (height tables entry 0) (listed_number first_column) (λ row other low also. ((λ same. same), (λ same. same))) column value),
-          equal_sum tables 1 entry first_column (height tables entry 0) column value,
+          rows_at_most_sum (first_lists.equal column value) (has_value tables entry column value)
+              (equal_for_keys tables 1 entry first_column (values_length tables entry 0) (listed_number first_column) (λ row other low also. ((λ same. same), (λ same. same))) column value),
+          equal_sum tables 1 entry first_column (values_length tables entry 0) column value,
         );
     range = λ range.
         omega (
           arith,
-          fits (first_lists.range range) (is_in_range tables entry range)
-              (range_for_keys tables 1 entry first_column (height tables entry 0) (listed_number first_column) (λ row other low also. ((λ same. same), (λ same. same))) range),
-          range_sum tables 1 entry first_column (height tables entry 0) range,
+          rows_at_most_sum (first_lists.range range) (is_in_range tables entry range)
+              (range_for_keys tables 1 entry first_column (values_length tables entry 0) (listed_number first_column) (λ row other low also. ((λ same. same), (λ same. same))) range),
+          range_sum tables 1 entry first_column (values_length tables entry 0) range,
         );
   }

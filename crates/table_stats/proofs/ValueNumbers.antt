@@ -87,9 +87,9 @@ module _ (tables : Tables) where
   value_key : Keys
   value_key entry column row = number_of_value (value_at tables entry column row)
 
-  tells : (entry column : ℕ) → SeparatesValues tables entry column (value_key entry column)
+  separates_values : (entry column : ℕ) → SeparatesValues tables entry column (value_key entry column)
   unfolding value_key
-  tells entry column row other low also = (
+  separates_values entry column row other is_below also = (
     one_number_equal_values (value_at tables entry column row) (value_at tables entry column other),
     equal_values_one_number (value_at tables entry column row) (value_at tables entry column other),
   )
@@ -98,10 +98,10 @@ module _ (tables : Tables) where
   unfolding value_key
   are_keys [] = tt
   are_keys (e ∷ es) = (
-    (λ left right low also h.
+    (λ left right is_below also h.
         equal_values_one_number (value_at tables e.left.entry e.left.column left) (value_at tables e.right.entry e.right.column right) h),
     are_keys es,
   )
 
   pub have_keys : (key : Keys) × ((entry column : ℕ) → SeparatesValues tables entry column (key entry column)) × ((es : List Edge) → AreKeys tables key es)
-  have_keys = (value_key, tells, are_keys)
+  have_keys = (value_key, separates_values, are_keys)

@@ -24,7 +24,7 @@ as_first_rows values = map (first_row values) values
 abbrev pub value_of_row : List Value → ℕ → Value
 value_of_row values row = slice_index_or values row (Int (pos 0))
 
--- the value of one row is at most that of another
+-- the value of one row is at most the value of another row
 abbrev pub row_le : List Value → ℕ → ℕ → Bool
 row_le values row other = value_le (value_of_row values row) (value_of_row values other)
 

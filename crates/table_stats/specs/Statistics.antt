@@ -20,8 +20,8 @@ end_leaf values end = option_map (leaf_of_value values) end
 abbrev pub list_with : ℕ → List Value → List Value → Value → List ℕ
 list_with accuracy filter joined value = list_of_value accuracy (paired filter joined) (Some (first_row filter value))
 
--- the list of a joined column for a range of a filter column, either of whose ends may be missing. It is the list of the rows in the least node that
--- has the leaves of both ends. The low end may be above the high end.
+-- The list of a joined column for a range of a filter column; either end of the range may be missing. It is the list of the rows in the least node
+-- that has the leaves of both ends. The low end may be above the high end
 abbrev pub list_between : ℕ → List Value → List Value → Option Value → Option Value → List ℕ
 list_between accuracy filter joined low high =
     list_of_range (row_le filter) accuracy (paired filter joined) (end_leaf filter low) (end_leaf filter high)
@@ -40,7 +40,8 @@ column_lists tables accuracy entry joined = lists_over accuracy (column_values t
 
 -- ---- row counts
 
--- The number of rows with this value, if the value is frequent. Otherwise the number of rows of the most frequent value among those that aren't
+-- The number of rows with this value, if the value is frequent. Otherwise the number of rows of the most frequent among the
+-- other values
 abbrev pub count_with : List Value → Value → ℕ
 count_with filter value =
     if list_any (λ other. other == first_row filter value) (frequent (as_first_rows filter))
@@ -56,7 +57,7 @@ count_in_node filter first last =
 abbrev pub count_between : List Value → Option Value → Option Value → ℕ
 count_between filter low high = count_in_node filter (unwrap_or (end_leaf filter low) 0) (unwrap_or (end_leaf filter high) 31)
 
--- the row counts of an entry: for all rows, for a value of a column, and for a range of a column
+-- the row counts of an entry: of all rows, of the rows with a value in a column, and of the rows in a range of a column
 abbrev pub entry_counts : Tables → ℕ → RowCounts
 entry_counts tables entry = record {
   whole = row_counts tables entry;

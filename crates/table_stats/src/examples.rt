@@ -22,7 +22,7 @@ pub fn lists()
     ensures ranges { map (column_lists table_of_six 1 0 0).range
         (range_x None (Some (value 1)) ∷ range_x (Some (value 3)) None ∷ range_x None (Some (value 2)) ∷ [])
         ≡ (3 ∷ []) ∷ (1 ∷ []) ∷ (3 ∷ 3 ∷ []) ∷ [] }
-    // the range from 3 to 1: only the node of all leaves has both leaves, 31 and 15
+    // the range from 3 to 1: only the node of all leaves holds both leaves, 31 and 15
     ensures ends_swapped { (column_lists table_of_six 1 0 0).range (range_x (Some (value 3)) (Some (value 1))) ≡ 3 ∷ 3 ∷ [] }
     ensures no_rows { let none = column_lists table_without_rows 1 0 0 in
         none.whole ∷ none.equal 0 (value 1) ∷ none.range (range_x (Some (value 1)) None) ∷ [] ≡ [] ∷ [] ∷ [] ∷ [] }

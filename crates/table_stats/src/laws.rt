@@ -22,7 +22,7 @@ pub fn statistics_stand_for_tables()
         → ListsStandFor (column_lists tables accuracy entry column) tables entry key }
     ensures counts { (tables : Tables) (entry : ℕ) → CountsStandFor (entry_counts tables entry) tables entry }
     // the joined values needn't be a column of the table: any list with one value for each row of the table is possible
-    ensures beside { (tables : Tables) (accuracy entry : ℕ) (joined : List Value) (key : ℕ → ℕ)
+    ensures any_joined_list { (tables : Tables) (accuracy entry : ℕ) (joined : List Value) (key : ℕ → ℕ)
         → length joined ≡ row_counts tables entry → SeparatesListed joined key
         → ListsStandFor (lists_over accuracy (column_values tables entry) joined) tables entry key }
 {}

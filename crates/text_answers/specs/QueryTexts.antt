@@ -1,5 +1,5 @@
--- The result for a query text over a schema, as a function of the text. It is computed from the text's tokens, the depth of their nesting and the
--- syntax tree that they spell.
+-- The result for a query text over a schema, as a function of the text. It is computed from the text's tokens, from how deep
+-- their parentheses are nested, and from the syntax tree that they spell.
 use Rattle.std.specs.Prelude.{ℕ, nat_lt, if◌then◌else◌, List, length, Result, Ok, Err}
 use Rattle.ll_grammars.specs.declared.lexeme.Lexeme.{Lexeme}
 use Rattle.query_grammar.specs.declared.tree.QueryNode.{QueryNode}
@@ -23,8 +23,8 @@ unfoldable pub syntax_tree_of : ℕ → List Lexeme → Result QueryNode ℕ
 syntax_tree_of text_len tokens = parsed (read_query read_condition) text_len tokens
 
 module _ (schema : Schema) (text : List ℕ) where
-  -- the result for tokens that spell a tree or have a syntax error at some byte. A number outside the range is a syntax error too. The first of these
-  -- errors is refused
+  -- the result for tokens that spell a tree or have a syntax error at some byte. A number outside the range is a syntax error too. The text is
+  -- refused at the first of these errors
   abbrev pub spelled_answer : List Lexeme → Result QueryNode ℕ → Result Query QueryError
   spelled_answer tokens (Ok tree) = unless_number (number_offences text tokens) (query_or_refusal schema text tree)
   spelled_answer tokens (Err at) = Err (error.Syntax (earlier_offset at (number_offences text tokens)))

@@ -10,7 +10,7 @@ use Rattle.sql_tokens.specs.declared.token.Token.{Token}
 use Rattle.sql_tokens.specs.Lexing.{mark_len}
 use Rattle.sql_tokens.specs.Pieces.{tokens_at}
 
--- if a stage gives a value, the rest goes on with it; if it gives a byte offset, the text is refused there
+-- if a stage gives a value, `rest` goes on with this value. If the stage gives a byte offset, the text is refused at this offset
 abbrev pub or_refused_at : {A B E : Type 0} → (ℕ → E) → Result A ℕ → (A → Result B E) → Result B E
 or_refused_at wrong (Ok value) rest = rest value
 or_refused_at wrong (Err at) rest = Err (wrong at)

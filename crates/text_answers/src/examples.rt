@@ -20,7 +20,7 @@ pub fn small_schemas()
 {}
 
 /// Results for small query texts over a schema with one column. A number outside the range is refused if the syntax error comes after it. FROM is
-/// tested before the outputs. A column name without a table must be that of exactly one entry.
+/// tested before the outputs. A column name without a table must be the name of a column of exactly one entry.
 pub fn small_queries()
     ensures whole { query_answer one_column (codes "SELECT X FROM R WHERE X = 1") ≡ Ok where_x_is_one }
     ensures other_kind { query_answer one_column (codes "SELECT X FROM R WHERE X = 'a'") ≡ Err (query_error.Kind 26) }

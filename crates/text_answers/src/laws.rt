@@ -7,7 +7,7 @@ ghost use Rattle.schema_types.specs.declared.types.Schema.{Schema};
 ghost use Rattle.schema_types.specs.Texts.{IsSchemaOf};
 ghost use Rattle.schema_types.specs.Validity.{IsValid};
 ghost use Rattle.query_types.specs.declared.types.Query.{Query};
-ghost use Rattle.query_types.specs.Validity.{IsOf};
+ghost use Rattle.query_types.specs.Validity.{IsQueryOf};
 ghost use Rattle.query_names.specs.declared.errors.QueryError.{QueryError};
 ghost use Rattle.query_names.specs.declared.errors.QueryError.TheVariants as query_error;
 ghost use Rattle.sql_parse.specs.Reading.{IsAnswer};
@@ -19,7 +19,7 @@ pub fn schema_texts()
     ensures allowed { (text : List ℕ) → IsSchemaOf text (schema_answer text) }
     ensures only { (text : List ℕ) (answer : Result Schema SchemaError) → IsSchemaOf text answer
         → (answer ≡ Err schema_error.NoMemory) ⊎ (answer ≡ schema_answer text) }
-    ensures never_memory { (text : List ℕ) → schema_answer text ≢ Err schema_error.NoMemory }
+    ensures never_out_of_memory { (text : List ℕ) → schema_answer text ≢ Err schema_error.NoMemory }
     ensures valid { (text : List ℕ) (schema : Schema) → schema_answer text ≡ Ok schema → IsValid schema }
 {}
 
@@ -28,8 +28,8 @@ pub fn query_texts()
     ensures allowed { (schema : Schema) (text : List ℕ) → IsAnswer schema text (query_answer schema text) }
     ensures only { (schema : Schema) (text : List ℕ) (answer : Result Query QueryError) → IsAnswer schema text answer
         → (answer ≡ Err query_error.NoMemory) ⊎ (answer ≡ query_answer schema text) }
-    ensures never_memory { (schema : Schema) (text : List ℕ) → query_answer schema text ≢ Err query_error.NoMemory }
-    ensures of_schema { (schema : Schema) (text : List ℕ) (query : Query) → query_answer schema text ≡ Ok query → IsOf schema query }
+    ensures never_out_of_memory { (schema : Schema) (text : List ℕ) → query_answer schema text ≢ Err query_error.NoMemory }
+    ensures of_schema { (schema : Schema) (text : List ℕ) (query : Query) → query_answer schema text ≡ Ok query → IsQueryOf schema query }
 {}
 
 /// A query that `query_answer` gives has at most 256 conjuncts and 1,024 outputs. So has each query that the contract of `read_query` allows.

@@ -2,7 +2,7 @@
 //!
 //! The contracts of `read_schema` and `read_query` are relations between a text and its result. They leave open only whether a call runs out of
 //! memory. If it doesn't, the results are `schema_answer` (in `specs/SchemaTexts.antt`) and `query_answer` (in `specs/QueryTexts.antt`). Callers use
-//! them if they need a value. The laws say that the relations allow these results and no others.
+//! these definitions if they need a value. The laws say that the relations allow these results and no others.
 #![tactic(auto)]
 
 mod examples;

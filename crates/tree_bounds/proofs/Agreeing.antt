@@ -1,5 +1,5 @@
--- A choice that satisfies all equalities of a set agrees in each tree of the kept equalities. A property of each column that the equalities name is a
--- property of each column of these trees.
+-- A choice that satisfies all equalities of a set agrees in each tree of the kept equalities. If each column that the equalities name has a property,
+-- each column of these trees has it.
 use Rattle.std.proofs.Common.{◌≡◌, ℕ, zero, suc, ◌<◌, ◌≤◌, eqb, List, [], ◌∷◌, ◌++◌, length, take, drop, refl, sym, subst, inl, inr}
 use Rattle.std.specs.List.{AllByRecursion, Contains}
 use Rattle.std.proofs.lemmas.Bool.{cases_Bool}
@@ -10,11 +10,11 @@ use Rattle.berge_tree.specs.Rooted.{class_columns, member_places, FollowsBelow, 
 use Rattle.entry_sets.specs.Sets.{entries_of_set}
 use Rattle.berge_tree.specs.Testing.{merged_components}
 use Rattle.berge_tree.specs.Trees.{Classes, no_class, and_class, Members, one_member, and_member, BergeTree, entries_below, entries_within, entries, entries_of_all}
-use Rattle.berge_tree.proofs.Joining.{joined}
+use Rattle.berge_tree.proofs.Joining.{same_class_same_keys}
 use Rattle.berge_tree.proofs.Separate.{all_map}
 use Rattle.join_graph.specs.Kept.{equalities_within, order_of_turn, kept_by_names, kept_of}
 use Rattle.join_graph.proofs.Turning.{append_all}
-use Rattle.entry_sets.proofs.Listing.{in_rest, in_front, in_none, each, one_in}
+use Rattle.entry_sets.proofs.Listing.{in_rest, in_front, not_in_empty, at_member, in_front_or_rest}
 use Rattle.tree_bounds.specs.Columns.{EachColumnBelow, EachColumnWithin, EachColumn, EachNamedColumn}
 use Rattle.tree_bounds.specs.TreeBounds.{EntryBounds, HasList, TreeHasLists, bound_of_trees}
 use Rattle.tree_bounds.specs.SetBounds.{SetHasLists}
@@ -57,10 +57,10 @@ module _ (Q : ℕ → ℕ → Type 0) where
   by_edges (e ∷ es) h = ((h.0, h.1.0), by_edges es h.1.1)
 
   by_places : (es : List Edge) → AllByRecursion AtBoth es → (p : Place) → Contains (places_of es) p → Q p.entry p.column
-  by_places [] h p k = absurd (in_none p k)
-  by_places (e ∷ es) h p k = elim (one_in e.left (e.right ∷ places_of es) p k) [
+  by_places [] h p k = absurd (not_in_empty p k)
+  by_places (e ∷ es) h p k = elim (in_front_or_rest e.left (e.right ∷ places_of es) p k) [
     | inr is ↦ subst (λ (q : Place). Q q.entry q.column) (sym is) h.0.0
-    | inl old ↦ elim (one_in e.right (places_of es) p old) [
+    | inl old ↦ elim (in_front_or_rest e.right (places_of es) p old) [
       | inr is ↦ subst (λ (q : Place). Q q.entry q.column) (sym is) h.0.1
       | inl older ↦ by_places es h.1 p older
     ]
@@ -111,7 +111,7 @@ module _ (tables : KeyedTables) (choice : ℕ → ℕ) (es : List Edge)
   HasRow entry = choice entry < tables.rows entry
 
   same_key : (p q : Place) → class_of es p ≡ class_of es q → key_of tables choice q.entry q.column ≡ key_of tables choice p.entry p.column
-  same_key p q same = sym (joined es p q same (key_of tables choice) equal)
+  same_key p q same = sym (same_class_same_keys es p q same (key_of tables choice) equal)
 
   mutual
     agrees_below : (entry : ℕ) (cs : Classes) → FollowsBelow es entry cs → AllByRecursion HasRow (entries_below cs) → AgreesBelow tables choice entry cs
@@ -151,7 +151,7 @@ at_roots Q (t ∷ ts) h = (h.0, at_roots Q ts (all_right Q (entries t) (entries_
 
 module _ (es : List Edge) (subset turn : ℕ) (ts : List BergeTree) (all : AreAllTreesOf (kept_of subset turn es) (entries_of_set subset) ts) where
   pub in_trees : (Q : ℕ → Type 0) → AllByRecursion Q (entries_of_set subset) → AllByRecursion Q (entries_of_all ts)
-  in_trees Q h = all_map (Contains (entries_of_set subset)) Q (λ e k. each Q (entries_of_set subset) h e k) (entries_of_all ts) all.within
+  in_trees Q h = all_map (Contains (entries_of_set subset)) Q (λ e k. at_member Q (entries_of_set subset) h e k) (entries_of_all ts) all.within
 
   pub have_lists : (b : EntryBounds) → SetHasLists b es subset → AllByRecursion (TreeHasLists b) ts
   have_lists b h = for_trees (IsTreeOf (kept_of subset turn es)) (TreeHasLists b)

@@ -1,4 +1,4 @@
--- The list of all choices of a tree is as long as their number, which is computed as a sum of products.
+-- The length of the list of all choices of a tree is `number_of_choices`, which is computed as a sum of products.
 use Rattle.std.proofs.Common.{◌≡◌, ℕ, ◌*◌, Bool, true, false, cond, eqb, List, [], ◌∷◌, ◌++◌, length, get_or, map, refl, sym, ◌∙◌, arith, length-append}
 use Rattle.std.specs.List.{range_with_len}
 use Rattle.std.proofs.Math.Nat.{suc-mul, zero-mul}
@@ -33,8 +33,8 @@ length-rows_with_key keys below children same key =
     ∙ sum_by-same (λ row. length (cond (has row) (with_row row (below row)) [])) (λ row. cond (has row) (weight_of_row children row) 0)
     (λ row. length-where (has row) row (below row) (weight_of_row children row) (same row)) (range_with_len 0 (length keys))
 
-times : (a b c d : ℕ) → a ≡ b → c ≡ d → a * c ≡ b * d
-times a b c d e f = rw (e, f) refl
+equal_products : (a b c d : ℕ) → a ≡ b → c ≡ d → a * c ≡ b * d
+equal_products a b c d e f = rw (e, f) refl
 
 module _ (tables : KeyedTables) where
   mutual
@@ -42,13 +42,13 @@ module _ (tables : KeyedTables) where
     length-below entry no_class row = refl
     length-below entry (and_class column members rest) row =
         length-each_followed_by_each (chosen_within tables members (get_or (tables.keys entry column) row 0)) (chosen_below tables entry rest row)
-        ∙ times _ _ _ _ (length-within members (get_or (tables.keys entry column) row 0)) (length-below entry rest row)
+        ∙ equal_products _ _ _ _ (length-within members (get_or (tables.keys entry column) row 0)) (length-below entry rest row)
 
     length-within : (ms : Members) (key : ℕ) → length (chosen_within tables ms key) ≡ choices_for tables ms key
     length-within (one_member entry column below) key = length-rows_with_key (tables.keys entry column) (chosen_below tables entry below) (child_keys tables entry below) (length-below entry below) key
     length-within (and_member entry column below rest) key =
         length-each_followed_by_each (rows_with_key (tables.keys entry column) (chosen_below tables entry below) key) (chosen_within tables rest key)
-        ∙ times _ _ _ _ (length-rows_with_key (tables.keys entry column) (chosen_below tables entry below) (child_keys tables entry below) (length-below entry below) key) (length-within rest key)
+        ∙ equal_products _ _ _ _ (length-rows_with_key (tables.keys entry column) (chosen_below tables entry below) (child_keys tables entry below) (length-below entry below) key) (length-within rest key)
 
   pub length-chosen_rows : (t : BergeTree) → length (tree_choices tables t) ≡ number_of_choices tables t
   length-chosen_rows t =

@@ -1,5 +1,4 @@
--- Different choices that agree in a tree are different members of the list of all its choices. So there are at most as many of them as the list is
--- long.
+-- Different choices that agree in a tree are different members of the list of all its choices. So their number is at most the length of the list.
 use Rattle.std.proofs.Common.{◌≡◌, ◌≢◌, ℕ, zero, suc, ◌+◌, ◌<◌, ◌≤◌, true, false, cond, eqb, List, [], ◌∷◌, ◌++◌, length, get_or, map, refl, ap, sym, ◌∙◌, subst, arith, ◌⊎◌, inl, inr, nat_eq}
 use Rattle.std.specs.List.{AllByRecursion, Contains, IsDistinct, flat_map, range_with_len, list_any}
 use Rattle.std.specs.Set.{is_member}
@@ -24,75 +23,75 @@ abbrev IsMember : List ℕ → List (List ℕ) → Type 0
 IsMember q [] = ⊥
 IsMember q (x ∷ xs) = (q ≡ x) ⊎ IsMember q xs
 
-stands_left : (q : List ℕ) (xs ys : List (List ℕ)) → IsMember q xs → IsMember q (xs ++ ys)
-stands_left q [] ys h = absurd h
-stands_left q (x ∷ xs) ys h = elim h [ inl now ↦ inl now | inr later ↦ inr (stands_left q xs ys later) ]
+member_left : (q : List ℕ) (xs ys : List (List ℕ)) → IsMember q xs → IsMember q (xs ++ ys)
+member_left q [] ys h = absurd h
+member_left q (x ∷ xs) ys h = elim h [ inl now ↦ inl now | inr later ↦ inr (member_left q xs ys later) ]
 
-stands_right : (q : List ℕ) (xs ys : List (List ℕ)) → IsMember q ys → IsMember q (xs ++ ys)
-stands_right q [] ys h = h
-stands_right q (x ∷ xs) ys h = inr (stands_right q xs ys h)
+member_right : (q : List ℕ) (xs ys : List (List ℕ)) → IsMember q ys → IsMember q (xs ++ ys)
+member_right q [] ys h = h
+member_right q (x ∷ xs) ys h = inr (member_right q xs ys h)
 
-stands_mapped : (f : List ℕ → List ℕ) (q : List ℕ) (xs : List (List ℕ)) → IsMember q xs → IsMember (f q) (map f xs)
-stands_mapped f q [] h = absurd h
-stands_mapped f q (x ∷ xs) h = elim h [ inl now ↦ inl (ap f now) | inr later ↦ inr (stands_mapped f q xs later) ]
+member_mapped : (f : List ℕ → List ℕ) (q : List ℕ) (xs : List (List ℕ)) → IsMember q xs → IsMember (f q) (map f xs)
+member_mapped f q [] h = absurd h
+member_mapped f q (x ∷ xs) h = elim h [ inl now ↦ inl (ap f now) | inr later ↦ inr (member_mapped f q xs later) ]
 
-stands_paired : (p q : List ℕ) (xs ys : List (List ℕ)) → IsMember p xs → IsMember q ys → IsMember (p ++ q) (each_followed_by_each xs ys)
-stands_paired p q [] ys h k = absurd h
-stands_paired p q (x ∷ xs) ys h k = elim h [
-  | inl now ↦ stands_left (p ++ q) (map (λ y. x ++ y) ys) (each_followed_by_each xs ys) (rw now (stands_mapped (λ y. x ++ y) q ys k))
-  | inr later ↦ stands_right (p ++ q) (map (λ y. x ++ y) ys) (each_followed_by_each xs ys) (stands_paired p q xs ys later k)
+member_paired : (p q : List ℕ) (xs ys : List (List ℕ)) → IsMember p xs → IsMember q ys → IsMember (p ++ q) (each_followed_by_each xs ys)
+member_paired p q [] ys h k = absurd h
+member_paired p q (x ∷ xs) ys h k = elim h [
+  | inl now ↦ member_left (p ++ q) (map (λ y. x ++ y) ys) (each_followed_by_each xs ys) (rw now (member_mapped (λ y. x ++ y) q ys k))
+  | inr later ↦ member_right (p ++ q) (map (λ y. x ++ y) ys) (each_followed_by_each xs ys) (member_paired p q xs ys later k)
 ]
 
-stands_for_row : (f : ℕ → List (List ℕ)) (q : List ℕ) (n first row : ℕ) → first ≤ row → row < first + n → IsMember q (f row) → IsMember q (flat_map f (range_with_len first n))
-stands_for_row f q zero first row from below h = absurd (omega arith)
-stands_for_row f q (suc n) first row from below h = elim (cases_lt first row) [
-  | inl later ↦ stands_right q (f first) (flat_map f (range_with_len (first + 1) n)) (stands_for_row f q n (first + 1) row (omega arith) (omega arith) h)
-  | inr now ↦ (let same : row ≡ first = omega arith in stands_left q (f first) (flat_map f (range_with_len (first + 1) n)) (subst (λ j. IsMember q (f j)) same h))
+member_for_row : (f : ℕ → List (List ℕ)) (q : List ℕ) (n first row : ℕ) → first ≤ row → row < first + n → IsMember q (f row) → IsMember q (flat_map f (range_with_len first n))
+member_for_row f q zero first row from below h = absurd (omega arith)
+member_for_row f q (suc n) first row from below h = elim (cases_lt first row) [
+  | inl later ↦ member_right q (f first) (flat_map f (range_with_len (first + 1) n)) (member_for_row f q n (first + 1) row (omega arith) (omega arith) h)
+  | inr now ↦ (let same : row ≡ first = omega arith in member_left q (f first) (flat_map f (range_with_len (first + 1) n)) (subst (λ j. IsMember q (f j)) same h))
 ]
 
-stands_with_key : (n : ℕ) (keys : List ℕ) (below : ℕ → List (List ℕ)) (key row : ℕ) (rows : List ℕ) → length keys ≡ n → row < n → get_or keys row 0 ≡ key → IsMember rows (below row)
+member_with_key : (n : ℕ) (keys : List ℕ) (below : ℕ → List (List ℕ)) (key row : ℕ) (rows : List ℕ) → length keys ≡ n → row < n → get_or keys row 0 ≡ key → IsMember rows (below row)
     → IsMember (row ∷ rows) (rows_with_key keys below key)
-stands_with_key n keys below key row rows per_row h is k =
-    stands_for_row (λ row. cond (eqb (get_or keys row 0) key) (with_row row (below row)) []) (row ∷ rows) (length keys) 0 row (omega arith) (omega arith)
-    (rw (eq-eqb (get_or keys row 0) key is) (stands_mapped (λ (rows : List ℕ). row ∷ rows) rows (below row) k))
+member_with_key n keys below key row rows per_row h is k =
+    member_for_row (λ row. cond (eqb (get_or keys row 0) key) (with_row row (below row)) []) (row ∷ rows) (length keys) 0 row (omega arith) (omega arith)
+    (rw (eq-eqb (get_or keys row 0) key is) (member_mapped (λ (rows : List ℕ). row ∷ rows) rows (below row) k))
 
 -- ---- a choice that agrees in the tree is in the list
 
 module _ (b : EntryBounds) (tables : KeyedTables) (choice : ℕ → ℕ) where
   mutual
-    listed_below : (entry : ℕ) (cs : Classes) → EachColumnBelow (Dominates b tables) entry cs → AgreesBelow tables choice entry cs
+    choice_in_list_below : (entry : ℕ) (cs : Classes) → EachColumnBelow (Dominates b tables) entry cs → AgreesBelow tables choice entry cs
         → IsMember (map choice (entries_below cs)) (chosen_below tables entry cs (choice entry))
-    listed_below entry no_class d a = inl refl
-    listed_below entry (and_class column members rest) d a =
+    choice_in_list_below entry no_class d a = inl refl
+    choice_in_list_below entry (and_class column members rest) d a =
         rw (map-append choice (entries_within members) (entries_below rest))
-        (stands_paired (map choice (entries_within members)) (map choice (entries_below rest))
+        (member_paired (map choice (entries_within members)) (map choice (entries_below rest))
         (chosen_within tables members (key_of tables choice entry column)) (chosen_below tables entry rest (choice entry))
-        (listed_within (key_of tables choice entry column) members d.1 a.0) (listed_below entry rest d.2 a.1))
+        (choice_in_list_within (key_of tables choice entry column) members d.1 a.0) (choice_in_list_below entry rest d.2 a.1))
 
-    listed_within : (key : ℕ) (ms : Members) → EachColumnWithin (Dominates b tables) ms → AgreesWithin tables choice key ms
+    choice_in_list_within : (key : ℕ) (ms : Members) → EachColumnWithin (Dominates b tables) ms → AgreesWithin tables choice key ms
         → IsMember (map choice (entries_within ms)) (chosen_within tables ms key)
-    listed_within key (one_member entry column below) d a =
-        stands_with_key (tables.rows entry) (tables.keys entry column) (chosen_below tables entry below) key (choice entry) (map choice (entries_below below))
-        d.0.key_per_row a.0 a.1 (listed_below entry below d.1 a.2)
-    listed_within key (and_member entry column below rest) d a =
+    choice_in_list_within key (one_member entry column below) d a =
+        member_with_key (tables.rows entry) (tables.keys entry column) (chosen_below tables entry below) key (choice entry) (map choice (entries_below below))
+        d.0.key_per_row a.0 a.1 (choice_in_list_below entry below d.1 a.2)
+    choice_in_list_within key (and_member entry column below rest) d a =
         rw (map-append choice (entries_below below) (entries_within rest))
-        (stands_paired (choice entry ∷ map choice (entries_below below)) (map choice (entries_within rest))
+        (member_paired (choice entry ∷ map choice (entries_below below)) (map choice (entries_within rest))
         (rows_with_key (tables.keys entry column) (chosen_below tables entry below) key) (chosen_within tables rest key)
-        (stands_with_key (tables.rows entry) (tables.keys entry column) (chosen_below tables entry below) key (choice entry) (map choice (entries_below below))
-        d.0.key_per_row a.0 a.1 (listed_below entry below d.1 a.2))
-        (listed_within key rest d.2 a.3))
+        (member_with_key (tables.rows entry) (tables.keys entry column) (chosen_below tables entry below) key (choice entry) (map choice (entries_below below))
+        d.0.key_per_row a.0 a.1 (choice_in_list_below entry below d.1 a.2))
+        (choice_in_list_within key rest d.2 a.3))
 
-  listed : (t : BergeTree) → TreeDominates b tables t → Agrees tables t choice → IsMember (map choice (entries t)) (tree_choices tables t)
-  listed t d a =
-      stands_for_row (λ row. with_row row (chosen_below tables t.root t.below row)) (map choice (entries t)) (tables.rows t.root) 0 (choice t.root) (omega arith) (omega (arith, a.0))
-      (stands_mapped (λ (rows : List ℕ). choice t.root ∷ rows) (map choice (entries_below t.below)) (chosen_below tables t.root t.below (choice t.root)) (listed_below t.root t.below d.columns a.1))
+  choice_in_tree_list : (t : BergeTree) → TreeDominates b tables t → Agrees tables t choice → IsMember (map choice (entries t)) (tree_choices tables t)
+  choice_in_tree_list t d a =
+      member_for_row (λ row. with_row row (chosen_below tables t.root t.below row)) (map choice (entries t)) (tables.rows t.root) 0 (choice t.root) (omega arith) (omega (arith, a.0))
+      (member_mapped (λ (rows : List ℕ). choice t.root ∷ rows) (map choice (entries_below t.below)) (chosen_below tables t.root t.below (choice t.root)) (choice_in_list_below t.root t.below d.columns a.1))
 
-  listed_all : (ts : List BergeTree) → AllByRecursion (TreeDominates b tables) ts → AllByRecursion (λ t. Agrees tables t choice) ts
+  choice_in_forest_list : (ts : List BergeTree) → AllByRecursion (TreeDominates b tables) ts → AllByRecursion (λ t. Agrees tables t choice) ts
       → IsMember (map choice (entries_of_all ts)) (chosen_rows_of_all tables ts)
-  listed_all [] d a = inl refl
-  listed_all (t ∷ ts) d a =
+  choice_in_forest_list [] d a = inl refl
+  choice_in_forest_list (t ∷ ts) d a =
       rw (map-append choice (entries t) (entries_of_all ts))
-      (stands_paired (map choice (entries t)) (map choice (entries_of_all ts)) (tree_choices tables t) (chosen_rows_of_all tables ts) (listed t d.0 a.0) (listed_all ts d.1 a.1))
+      (member_paired (map choice (entries t)) (map choice (entries_of_all ts)) (tree_choices tables t) (chosen_rows_of_all tables ts) (choice_in_tree_list t d.0 a.0) (choice_in_forest_list ts d.1 a.1))
 
 contains_from : (q : List ℕ) (xs : List (List ℕ)) → IsMember q xs → Contains xs q
 contains_from q [] h = absurd h
@@ -103,7 +102,7 @@ contains_from q (x ∷ xs) h = elim h [
 
 pub choice_listed : (b : EntryBounds) (tables : KeyedTables) (t : BergeTree) → TreeDominates b tables t → (choice : ℕ → ℕ) → Agrees tables t choice
     → Contains (tree_choices tables t) (map choice (entries t))
-choice_listed b tables t d choice a = contains_from (map choice (entries t)) (tree_choices tables t) (listed b tables choice t d a)
+choice_listed b tables t d choice a = contains_from (map choice (entries t)) (tree_choices tables t) (choice_in_tree_list b tables choice t d a)
 
 -- ---- different choices are different members
 
@@ -124,17 +123,17 @@ not_alike xs ys differ = elim (cases_Bool (pointwise nat_eq xs ys)) [
   | inr other ↦ other
 ]
 
-unlike_first : (set : List ℕ) (x : ℕ → ℕ) (cs : List (ℕ → ℕ)) → ((j : ℕ) → j < length cs → map x set ≢ map (get_or cs j x) set)
+first_is_different : (set : List ℕ) (x : ℕ → ℕ) (cs : List (ℕ → ℕ)) → ((j : ℕ) → j < length cs → map x set ≢ map (get_or cs j x) set)
     → AllByRecursion (λ q. pointwise nat_eq (map x set) q ≡ false) (map (λ c. map c set) cs)
-unlike_first set x [] h = tt
-unlike_first set x (c ∷ cs) h = (not_alike (map x set) (map c set) (h 0 (omega arith)), unlike_first set x cs (λ j k. h (suc j) (omega arith)))
+first_is_different set x [] h = tt
+first_is_different set x (c ∷ cs) h = (not_alike (map x set) (map c set) (h 0 (omega arith)), first_is_different set x cs (λ j k. h (suc j) (omega arith)))
 
-all_unlike : (set : List ℕ) (cs : List (ℕ → ℕ)) → ChoicesAreDifferent set cs → IsDistinct (pointwise nat_eq) (map (λ c. map c set) cs)
-all_unlike set [] h = none_alike
-all_unlike set (c ∷ cs) h =
+all_are_different : (set : List ℕ) (cs : List (ℕ → ℕ)) → ChoicesAreDifferent set cs → IsDistinct (pointwise nat_eq) (map (λ c. map c set) cs)
+all_are_different set [] h = none_alike
+all_are_different set (c ∷ cs) h =
     IsDistinct-cons (pointwise nat_eq) (map c set) (map (λ c. map c set) cs)
-    (unlike_first set c cs (λ j k. h 0 (suc j) c (omega arith) (omega arith)))
-    (all_unlike set cs (λ i j d k l. h (suc i) (suc j) d (omega arith) (omega arith)))
+    (first_is_different set c cs (λ j k. h 0 (suc j) c (omega arith) (omega arith)))
+    (all_are_different set cs (λ i j d k l. h (suc i) (suc j) d (omega arith) (omega arith)))
 
 all_members : (set : List ℕ) (cs : List (ℕ → ℕ)) (xs : List (List ℕ)) → AllByRecursion (λ c. IsMember (map c set) xs) cs
     → (q : List ℕ) → is_member (pointwise nat_eq) (map (λ c. map c set) cs) q ≡ true → is_member (pointwise nat_eq) xs q ≡ true
@@ -144,9 +143,9 @@ all_members set (c ∷ cs) xs h q e = elim (cases_Bool (pointwise nat_eq q (map 
   | inr other ↦ all_members set cs xs h.1 q (rw other at e)
 ]
 
-no_more : (set : List ℕ) (cs : List (ℕ → ℕ)) (xs : List (List ℕ)) → ChoicesAreDifferent set cs → AllByRecursion (λ c. IsMember (map c set) xs) cs → length cs ≤ length xs
-no_more set cs xs differ all =
-    omega (arith, length-map cs (λ c. map c set), length-le_from_is_member nat_list_eq_equiv (map (λ c. map c set) cs) xs (all_unlike set cs differ) (all_members set cs xs all))
+at_most_list_length : (set : List ℕ) (cs : List (ℕ → ℕ)) (xs : List (List ℕ)) → ChoicesAreDifferent set cs → AllByRecursion (λ c. IsMember (map c set) xs) cs → length cs ≤ length xs
+at_most_list_length set cs xs differ all =
+    omega (arith, length-map cs (λ c. map c set), length-le_from_is_member nat_list_eq_equiv (map (λ c. map c set) cs) xs (all_are_different set cs differ) (all_members set cs xs all))
 
 -- ---- the bound of one tree, and of several trees
 
@@ -160,8 +159,8 @@ module _ (b : EntryBounds) (tables : KeyedTables) where
   choices_within t h d cs agree differ =
       omega (
         arith,
-        no_more (entries t) cs (tree_choices tables t) differ
-            (for_each (Agrees tables t) (λ c. IsMember (map c (entries t)) (tree_choices tables t)) (λ c a. listed b tables c t d a) cs agree),
+        at_most_list_length (entries t) cs (tree_choices tables t) differ
+            (for_each (Agrees tables t) (λ c. IsMember (map c (entries t)) (tree_choices tables t)) (λ c a. choice_in_tree_list b tables c t d a) cs agree),
         length-chosen_rows tables t,
         number_within b tables t h d,
       )
@@ -185,8 +184,8 @@ module _ (b : EntryBounds) (tables : KeyedTables) where
   choices_within_all ts h d set inside cs agree differ =
       omega (
         arith,
-        no_more (entries_of_all ts) cs (chosen_rows_of_all tables ts)
+        at_most_list_length (entries_of_all ts) cs (chosen_rows_of_all tables ts)
             (λ i j e k l same. differ i j e k l (same_on (entries_of_all ts) set inside (get_or cs i e) (get_or cs j e) same))
-            (for_each (λ c. AllByRecursion (λ t. Agrees tables t c) ts) (λ c. IsMember (map c (entries_of_all ts)) (chosen_rows_of_all tables ts)) (λ c a. listed_all b tables c ts d a) cs agree),
+            (for_each (λ c. AllByRecursion (λ t. Agrees tables t c) ts) (λ c. IsMember (map c (entries_of_all ts)) (chosen_rows_of_all tables ts)) (λ c a. choice_in_forest_list b tables c ts d a) cs agree),
         length-all ts h d,
       )

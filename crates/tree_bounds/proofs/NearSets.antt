@@ -12,49 +12,49 @@ use Rattle.berge_tree.specs.declared.edges.Edge.{Edge}
 use Rattle.berge_tree.specs.Rooted.{IsTreeOf, AreAllTreesOf}
 use Rattle.entry_sets.specs.Sets.{entries_of_set}
 use Rattle.berge_tree.specs.Trees.{BergeTree, entries_of_all}
-use Rattle.entry_sets.proofs.Listing.{set_increases, in_none, one_in}
+use Rattle.entry_sets.proofs.Listing.{set_increases, not_in_empty, in_front_or_rest}
 use Rattle.join_graph.specs.Kept.{kept_of, turn_count}
 use Rattle.tree_bounds.specs.TreeBounds.{EntryBounds, bound_of_trees}
 use Rattle.tree_bounds.specs.SetBounds.{SetHasLists, trees_of, bound_of_turn, bound_of_set}
 use Rattle.tree_bounds.specs.Nearness.{RowsAreNear, ListIsNear, TreeIsNear, SetIsNear}
 use Rattle.tree_bounds.proofs.Agreeing.{at_roots, have_lists, in_trees, named_in_turn, tree_columns}
 use Rattle.tree_bounds.proofs.Nearing.{trees_near}
-use Rattle.tree_bounds.proofs.Turns.{least_to-le, least_to-some, trees_there}
+use Rattle.tree_bounds.proofs.Turns.{least_to-le, least_to-some, trees_exist}
 
 -- ---- the trees of a set have as many entries as the set has
 
 not_eqb : (a b : ℕ) → a ≢ b → eqb a b ≡ false
 not_eqb a b differ = elim (cases_Bool (eqb a b)) [ inl same ↦ absurd (differ (eqb-true a b same)) | inr other ↦ other ]
 
-pub none_twice : IsDistinct nat_eq []
+pub empty_is_distinct : IsDistinct nat_eq []
 unfolding IsDistinct
-none_twice = tt
+empty_is_distinct = tt
 
 unlike : (x : ℕ) (xs : List ℕ) → ((j : ℕ) → j < length xs → x ≢ get_or xs j x) → AllByRecursion (λ y. nat_eq x y ≡ false) xs
 unlike x [] h = tt
 unlike x (y ∷ ys) h = (not_eqb x y (h 0 (omega arith)), unlike x ys (λ j k. h (suc j) (omega arith)))
 
 all_apart : (xs : List ℕ) → AllPairs (λ e f. e ≢ f) xs → IsDistinct nat_eq xs
-all_apart [] h = none_twice
+all_apart [] h = empty_is_distinct
 all_apart (x ∷ xs) h =
     IsDistinct-cons nat_eq x xs (unlike x xs (λ j k. h 0 (suc j) x (omega arith) (omega arith))) (all_apart xs (λ i j d k l. h (suc i) (suc j) d (omega arith) (omega arith)))
 
-is_there : (xs : List ℕ) (x : ℕ) → Contains xs x → is_member nat_eq xs x ≡ true
-is_there [] x k = absurd (in_none x k)
-is_there (y ∷ ys) x k = elim (one_in y ys x k) [
+member_if_contained : (xs : List ℕ) (x : ℕ) → Contains xs x → is_member nat_eq xs x ≡ true
+member_if_contained [] x k = absurd (not_in_empty x k)
+member_if_contained (y ∷ ys) x k = elim (in_front_or_rest y ys x k) [
   | inr is ↦ rw (eq-eqb x y is) refl
-  | inl later ↦ or_right (nat_eq x y) (list_any (nat_eq x) ys) (is_there ys x later)
+  | inl later ↦ or_right (nat_eq x y) (list_any (nat_eq x) ys) (member_if_contained ys x later)
 ]
 
-all_there : (xs ys : List ℕ) → AllByRecursion (Contains ys) xs → (q : ℕ) → is_member nat_eq xs q ≡ true → is_member nat_eq ys q ≡ true
-all_there [] ys h q e = absurd (false≢true e)
-all_there (x ∷ xs) ys h q e = elim (cases_Bool (nat_eq q x)) [
-  | inl same ↦ is_there ys q (subst (Contains ys) (sym (eqb-true q x same)) h.0)
-  | inr other ↦ all_there xs ys h.1 q (rw other at e)
+members_if_contained : (xs ys : List ℕ) → AllByRecursion (Contains ys) xs → (q : ℕ) → is_member nat_eq xs q ≡ true → is_member nat_eq ys q ≡ true
+members_if_contained [] ys h q e = absurd (false≢true e)
+members_if_contained (x ∷ xs) ys h q e = elim (cases_Bool (nat_eq q x)) [
+  | inl same ↦ member_if_contained ys q (subst (Contains ys) (sym (eqb-true q x same)) h.0)
+  | inr other ↦ members_if_contained xs ys h.1 q (rw other at e)
 ]
 
-no_longer : (xs ys : List ℕ) → AllPairs (λ e f. e ≢ f) xs → AllByRecursion (Contains ys) xs → length xs ≤ length ys
-no_longer xs ys apart h = length-le_from_is_member nat_eq_equiv xs ys (all_apart xs apart) (all_there xs ys h)
+length_at_most : (xs ys : List ℕ) → AllPairs (λ e f. e ≢ f) xs → AllByRecursion (Contains ys) xs → length xs ≤ length ys
+length_at_most xs ys apart h = length-le_from_is_member nat_eq_equiv xs ys (all_apart xs apart) (members_if_contained xs ys h)
 
 below_apart : (xs : List ℕ) → AllPairs (λ a b. a < b) xs → AllPairs (λ e f. e ≢ f) xs
 below_apart xs h i j d k l same = differ (get_or xs i d) (get_or xs j d) (h i j d k l) same
@@ -62,11 +62,11 @@ below_apart xs h i j d k l same = differ (get_or xs i d) (get_or xs j d) (h i j 
     differ : (a b : ℕ) → a < b → a ≡ b → ⊥
     differ a b h e = omega arith
 
-as_many : (es : List Edge) (subset : ℕ) (ts : List BergeTree) → AreAllTreesOf es (entries_of_set subset) ts → length (entries_of_all ts) ≡ length (entries_of_set subset)
-as_many es subset ts all =
+same_number_of_entries : (es : List Edge) (subset : ℕ) (ts : List BergeTree) → AreAllTreesOf es (entries_of_set subset) ts → length (entries_of_all ts) ≡ length (entries_of_set subset)
+same_number_of_entries es subset ts all =
     let set : List ℕ = entries_of_set subset in
-    let some : length (entries_of_all ts) ≤ length set = no_longer (entries_of_all ts) set all.once all.within in
-    let back : length set ≤ length (entries_of_all ts) = no_longer set (entries_of_all ts) (below_apart set (AllPairs-from_increasing set (set_increases subset))) all.covers in
+    let some : length (entries_of_all ts) ≤ length set = length_at_most (entries_of_all ts) set all.once all.within in
+    let back : length set ≤ length (entries_of_all ts) = length_at_most set (entries_of_all ts) (below_apart set (AllPairs-from_increasing set (set_increases subset))) all.covers in
     omega arith
 
 -- ---- nearness of the bound of a set
@@ -82,8 +82,8 @@ module _ (accuracy : ℕ) (b exact : EntryBounds) (es : List Edge) (subset : ℕ
   pub turn_near : (turn : ℕ) → accuracy ^ length (entries_of_set subset) * bound_of_turn b es subset turn ≤ (accuracy + 1) ^ length (entries_of_set subset) * bound_of_turn exact es subset turn
   turn_near turn =
       let ts : List BergeTree = trees_of (kept_of subset turn es) subset in
-      let all : AreAllTreesOf (kept_of subset turn es) (entries_of_set subset) ts = trees_there es subset turn in
-      subst (λ (n : ℕ). accuracy ^ n * bound_of_trees b ts ≤ (accuracy + 1) ^ n * bound_of_trees exact ts) (as_many (kept_of subset turn es) subset ts all)
+      let all : AreAllTreesOf (kept_of subset turn es) (entries_of_set subset) ts = trees_exist es subset turn in
+      subst (λ (n : ℕ). accuracy ^ n * bound_of_trees b ts ≤ (accuracy + 1) ^ n * bound_of_trees exact ts) (same_number_of_entries (kept_of subset turn es) subset ts all)
       (trees_near accuracy b exact ts (have_lists es subset turn ts all b h) (have_lists es subset turn ts all exact k)
       (all_near turn ts (at_roots (RowsAreNear accuracy b exact) ts (in_trees es subset turn ts all (RowsAreNear accuracy b exact) near.rows)) all.trees))
 

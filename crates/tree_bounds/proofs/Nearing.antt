@@ -102,7 +102,7 @@ module _ (accuracy : ℕ) (b exact : EntryBounds) where
 
   -- ---- nearness of the bound of a tree
 
-  -- the root's total is the first element of the list composed from one element n: n rows with a single key
+  -- the root's total is the first element of the composition of the one-element list [n]: n rows with one key
   root_is : (children : List ChildLists) (n : ℕ) → root_total children n ≡ running_sum (composed (n ∷ []) children) 1
   root_is children n =
       let whole : sum (n ∷ []) ≡ n = omega arith in

@@ -14,7 +14,7 @@ use Rattle.berge_tree.proofs.Closed.{closed_tree}
 use Rattle.berge_tree.proofs.Forest.{among, is_in, IsClosed, closed_side}
 use Rattle.berge_tree.proofs.NoCycle.{has_no_cycle}
 use Rattle.berge_tree.proofs.Separate.{later_above, pairs_tail, entry_in, one_side}
-use Rattle.entry_sets.proofs.Listing.{in_rest, in_front, in_none, each, one_in}
+use Rattle.entry_sets.proofs.Listing.{in_rest, in_front, not_in_empty, at_member, in_front_or_rest}
 
 -- ---- lists that ascend and have the same members are equal
 
@@ -27,13 +27,13 @@ apart a b h k = omega arith
 
 module _ {A : Type 0} (key : A → ℕ) where
   same_first : (x : A) (xs : List A) (y : A) (ys : List A) → Ascends key (x ∷ xs) → Ascends key (y ∷ ys) → Contains (y ∷ ys) x → Contains (x ∷ xs) y → x ≡ y
-  same_first x xs y ys a b k l = elim (one_in y ys x k) [
+  same_first x xs y ys a b k l = elim (in_front_or_rest y ys x k) [
     | inr is ↦ is
-    | inl later ↦ elim (one_in x xs y l) [ inr is ↦ sym is | inl after ↦ absurd (apart (key y) (key x) (b.0 x later) (a.0 y after)) ]
+    | inl later ↦ elim (in_front_or_rest x xs y l) [ inr is ↦ sym is | inl after ↦ absurd (apart (key y) (key x) (b.0 x later) (a.0 y after)) ]
   ]
 
   in_tail : (x : A) (xs : List A) (y : A) (ys : List A) → x ≡ y → Ascends key (x ∷ xs) → (z : A) → Contains xs z → Contains (y ∷ ys) z → Contains ys z
-  in_tail x xs y ys same a z k l = elim (one_in y ys z l) [
+  in_tail x xs y ys same a z k l = elim (in_front_or_rest y ys z l) [
     | inl later ↦ later
     | inr is ↦ absurd (not_before (key x) (key z) (ap key (is ∙ sym same)) (a.0 z k))
   ]
@@ -43,8 +43,8 @@ module _ {A : Type 0} (key : A → ℕ) where
 
   same_list : (xs ys : List A) → Ascends key xs → Ascends key ys → ((x : A) → Contains xs x → Contains ys x) → ((y : A) → Contains ys y → Contains xs y) → xs ≡ ys
   same_list [] [] a b f g = refl
-  same_list [] (y ∷ ys) a b f g = absurd (in_none y (g y (in_front y ys y refl)))
-  same_list (x ∷ xs) [] a b f g = absurd (in_none x (f x (in_front x xs x refl)))
+  same_list [] (y ∷ ys) a b f g = absurd (not_in_empty y (g y (in_front y ys y refl)))
+  same_list (x ∷ xs) [] a b f g = absurd (not_in_empty x (f x (in_front x xs x refl)))
   same_list (x ∷ xs) (y ∷ ys) a b f g =
       let same : x ≡ y = same_first x xs y ys a b (f x (in_front x xs x refl)) (g y (in_front y ys y refl)) in
       let rest : xs ≡ ys = same_list xs ys a.1 b.1
@@ -57,7 +57,7 @@ ascend_numbers [] h = tt
 ascend_numbers (x ∷ xs) h = (λ y k. later_above x xs h y k, ascend_numbers xs (pairs_tail x xs h))
 
 ascend_members : (ms : Members) → AllPairs (λ a b. a < b) (member_entries ms) → Ascends (λ (p : Place). p.entry) (member_places ms)
-ascend_members (one_member entry column below) h = (λ y k. absurd (in_none y k), tt)
+ascend_members (one_member entry column below) h = (λ y k. absurd (not_in_empty y k), tt)
 ascend_members (and_member entry column below rest) h =
     (λ y k. later_above entry (member_entries rest) h y.entry (entry_in rest y k), ascend_members rest (pairs_tail entry (member_entries rest) h))
 
@@ -146,36 +146,36 @@ module _ (es : List Edge) where
 
   -- ---- two lists of trees over the same entries have the same roots
 
-  record Rooted (ts : List BergeTree) (r : ℕ) : Type 0 where
+  record TreeOfRoot (ts : List BergeTree) (r : ℕ) : Type 0 where
     tree : BergeTree
     root : tree.root ≡ r
     is : IsTreeOf es tree
     within : Contains (entries_of_all ts) r
 
-  rooted : (ts : List BergeTree) → AllByRecursion (IsTreeOf es) ts → (r : ℕ) → Contains (roots ts) r → Rooted ts r
-  rooted [] h r k = absurd (in_none r k)
-  rooted (t ∷ ts) h r k = elim (one_in t.root (roots ts) r k) [
+  tree_of_root : (ts : List BergeTree) → AllByRecursion (IsTreeOf es) ts → (r : ℕ) → Contains (roots ts) r → TreeOfRoot ts r
+  tree_of_root [] h r k = absurd (not_in_empty r k)
+  tree_of_root (t ∷ ts) h r k = elim (in_front_or_rest t.root (roots ts) r k) [
     | inr is ↦ record {
       tree = t;
       root = sym is;
       is = h.0;
       within = Contains-append_left (entries t) (entries_of_all ts) r (in_front t.root (entries_below t.below) r is);
     }
-    | inl later ↦ (let found : Rooted ts r = rooted ts h.1 r later in
+    | inl later ↦ (let found : TreeOfRoot ts r = tree_of_root ts h.1 r later in
         record { tree = found.tree; root = found.root; is = found.is; within = Contains-append_right (entries t) (entries_of_all ts) r found.within })
   ]
 
-  record Standing (ts : List BergeTree) (x : ℕ) : Type 0 where
+  record TreeOfEntry (ts : List BergeTree) (x : ℕ) : Type 0 where
     tree : BergeTree
     is : IsTreeOf es tree
     has : Contains (entries tree) x
     root : Contains (roots ts) tree.root
 
-  standing : (ts : List BergeTree) → AllByRecursion (IsTreeOf es) ts → (x : ℕ) → Contains (entries_of_all ts) x → Standing ts x
-  standing [] h x k = absurd (in_none x k)
-  standing (t ∷ ts) h x k = elim (Contains-append_cases (entries t) (entries_of_all ts) x k) [
+  tree_of_entry : (ts : List BergeTree) → AllByRecursion (IsTreeOf es) ts → (x : ℕ) → Contains (entries_of_all ts) x → TreeOfEntry ts x
+  tree_of_entry [] h x k = absurd (not_in_empty x k)
+  tree_of_entry (t ∷ ts) h x k = elim (Contains-append_cases (entries t) (entries_of_all ts) x k) [
     | inl own ↦ record { tree = t; is = h.0; has = own; root = in_front t.root (roots ts) t.root refl }
-    | inr later ↦ (let found : Standing ts x = standing ts h.1 x later in
+    | inr later ↦ (let found : TreeOfEntry ts x = tree_of_entry ts h.1 x later in
         record { tree = found.tree; is = found.is; has = found.has; root = in_rest t.root (roots ts) found.tree.root found.root })
   ]
 
@@ -185,17 +185,17 @@ module _ (es : List Edge) where
         let closed : IsClosed es (entries t) = λ p q e m. closed_tree es t f.columns f.follows p q m e in
         let side : ℕ → Bool = is_among (entries t) in
         let alike : side t.root ≡ side u.root =
-        each (λ e. side e ≡ side u.root) (entries u) (one_side es (has_no_cycle es closes) u g.columns g.follows side (closed_side es (entries t) closed)) t.root k in
+        at_member (λ e. side e ≡ side u.root) (entries u) (one_side es (has_no_cycle es closes) u g.columns g.follows side (closed_side es (entries t) closed)) t.root k in
         let inside : Contains (entries t) u.root = among (entries t) u.root (sym alike ∙ is_in (entries t) t.root (in_front t.root (entries_below t.below) t.root refl)) in
-        let above : t.root ≤ u.root = each (λ e. t.root ≤ e) (entries t) f.least u.root inside in
-        let below : u.root ≤ t.root = each (λ e. u.root ≤ e) (entries u) g.least t.root k in
+        let above : t.root ≤ u.root = at_member (λ e. t.root ≤ e) (entries t) f.least u.root inside in
+        let below : u.root ≤ t.root = at_member (λ e. u.root ≤ e) (entries u) g.least t.root k in
         omega arith
 
     root_there : (set : List ℕ) (ts us : List BergeTree) → AreAllTreesOf es set ts → AreAllTreesOf es set us → (r : ℕ) → Contains (roots ts) r → Contains (roots us) r
     root_there set ts us f g r k =
-        let mine : Rooted ts r = rooted ts f.trees r k in
-        let in_set : Contains set r = each (Contains set) (entries_of_all ts) f.within r mine.within in
-        let theirs : Standing us r = standing us g.trees r (each (Contains (entries_of_all us)) set g.covers r in_set) in
+        let mine : TreeOfRoot ts r = tree_of_root ts f.trees r k in
+        let in_set : Contains set r = at_member (Contains set) (entries_of_all ts) f.within r mine.within in
+        let theirs : TreeOfEntry us r = tree_of_entry us g.trees r (at_member (Contains (entries_of_all us)) set g.covers r in_set) in
         let same : mine.tree.root ≡ theirs.tree.root = one_root mine.tree theirs.tree mine.is theirs.is (subst (Contains (entries theirs.tree)) (sym mine.root) theirs.has) in
         subst (Contains (roots us)) (sym same ∙ mine.root) theirs.root
 

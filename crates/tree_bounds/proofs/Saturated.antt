@@ -1,4 +1,4 @@
--- If bounds are saturated (cut off at 2^128 - 1) at each step, the result is the saturated bound.
+-- If bounds are saturated (capped at 2^128 - 1) at each step, the result is the saturated bound.
 use Rattle.std.proofs.Common.{◌≡◌, ℕ, zero, suc, ◌-◌, ◌*◌, ◌^◌, ◌<◌, ◌≤◌, min, List, [], ◌∷◌, ◌++◌, length, map, sum, get_or, refl, ap, sym, ◌∙◌, arith, ◌⊎◌, inl, inr}
 use Rattle.std.specs.List.{range_with_len}
 use Rattle.std.proofs.Math.Nat.{mul_assoc, mul-one, one-mul}
@@ -24,14 +24,14 @@ saturated-get_or [] i = refl
 saturated-get_or (x ∷ s) zero = refl
 saturated-get_or (x ∷ s) (suc i) = saturated-get_or s i
 
-alike : (a b c d : ℕ) → saturated a ≡ saturated c → saturated b ≡ saturated d → saturated (a * b) ≡ saturated (c * d)
-alike a b c d e f = sym (saturated-mul a b) ∙ rw (e, f) (saturated-mul c d)
+same_saturated_product : (a b c d : ℕ) → saturated a ≡ saturated c → saturated b ≡ saturated d → saturated (a * b) ≡ saturated (c * d)
+same_saturated_product a b c d e f = sym (saturated-mul a b) ∙ rw (e, f) (saturated-mul c d)
 
 saturated-weight : (children : List ChildLists) (t : ℕ) → saturated (weight_by_rank (map saturated_class children) t) ≡ saturated (weight_by_rank children t)
 saturated-weight [] t = refl
 saturated-weight (child ∷ children) t =
     let i : ℕ = rank child.column t - 1 in
-    alike (get_or (map saturated child.class) i 0) (weight_by_rank (map saturated_class children) t) (get_or child.class i 0) (weight_by_rank children t)
+    same_saturated_product (get_or (map saturated child.class) i 0) (weight_by_rank (map saturated_class children) t) (get_or child.class i 0) (weight_by_rank children t)
     (ap saturated (saturated-get_or child.class i) ∙ saturated-twice (get_or child.class i 0))
     (saturated-weight children t)
 

@@ -7,7 +7,7 @@ use Rattle.berge_tree.specs.declared.edges.Edge.{Edge}
 use Rattle.berge_tree.specs.Equalities.{AreWithin}
 use Rattle.entry_sets.specs.Sets.{entries_of_set, has_entry}
 use Rattle.berge_tree.proofs.Forest.{all_in}
-use Rattle.entry_sets.proofs.Listing.{in_rest, in_front, in_none, set_entries_only, each, one_in}
+use Rattle.entry_sets.proofs.Listing.{in_rest, in_front, not_in_empty, set_entries_only, at_member, in_front_or_rest}
 use Rattle.join_graph.specs.Kept.{equalities_within, joins_within}
 use Rattle.tree_bounds.specs.TreeBounds.{EntryBounds}
 use Rattle.tree_bounds.specs.SetBounds.{SetHasLists, bound_of_set}
@@ -38,13 +38,13 @@ record IsAtIndex (rows : List ℕ) (row : ℕ) : Type 0 where
   within : index_in rows row < length rows
   there : get_or rows (index_in rows row) 0 ≡ row
 
-placed : (rows : List ℕ) (row : ℕ) → Contains rows row → IsAtIndex rows row
-placed [] row k = absurd (in_none row k)
-placed (x ∷ xs) row k = elim (cases_Bool (eqb x row)) [
+row_at_index : (rows : List ℕ) (row : ℕ) → Contains rows row → IsAtIndex rows row
+row_at_index [] row k = absurd (not_in_empty row k)
+row_at_index (x ∷ xs) row k = elim (cases_Bool (eqb x row)) [
   | inl t ↦ record { within = rw t (omega arith); there = rw t (eqb-true x row t) }
-  | inr n ↦ elim (one_in x xs row k) [
+  | inr n ↦ elim (in_front_or_rest x xs row k) [
     | inr is ↦ absurd (differ (sym n ∙ eq-eqb x row (sym is)))
-    | inl later ↦ (let p : IsAtIndex xs row = placed xs row later in record { within = rw n (omega (arith, p.within)); there = rw n p.there })
+    | inl later ↦ (let p : IsAtIndex xs row = row_at_index xs row later in record { within = rw n (omega (arith, p.within)); there = rw n p.there })
   ]
 ]
   where
@@ -59,7 +59,7 @@ module _ (scans : ℕ → List ℕ) (key : ℕ → ℕ → ℕ → ℕ) (set : L
   AreScanned choice = AllByRecursion (λ entry. Contains (scans entry) (choice entry)) set
 
   row_placed : (choice : ℕ → ℕ) → AreScanned choice → (entry : ℕ) → Contains set entry → IsAtIndex (scans entry) (choice entry)
-  row_placed choice h entry k = placed (scans entry) (choice entry) (each (λ entry. Contains (scans entry) (choice entry)) set h entry k)
+  row_placed choice h entry k = row_at_index (scans entry) (choice entry) (at_member (λ entry. Contains (scans entry) (choice entry)) set h entry k)
 
   key_placed : (choice : ℕ → ℕ) → AreScanned choice → (entry column : ℕ) → Contains set entry → key_of (scanned scans key) (indexes choice) entry column ≡ key entry column (choice entry)
   key_placed choice h entry column k =
@@ -89,8 +89,8 @@ module _ (scans : ℕ → List ℕ) (key : ℕ → ℕ → ℕ → ℕ) (set : L
   -- ---- different choices of rows give different choices of indexes
 
   same_place_at : (x y : ℕ → ℕ) (set' : List ℕ) → map (indexes x) set' ≡ map (indexes y) set' → (entry : ℕ) → Contains set' entry → indexes x entry ≡ indexes y entry
-  same_place_at x y [] same entry k = absurd (in_none entry k)
-  same_place_at x y (e ∷ es) same entry k = elim (one_in e es entry k) [
+  same_place_at x y [] same entry k = absurd (not_in_empty entry k)
+  same_place_at x y (e ∷ es) same entry k = elim (in_front_or_rest e es entry k) [
     | inr is ↦ (let first : indexes x e ≡ indexes y e = cc in rw is first)
     | inl later ↦ (let rest : map (indexes x) es ≡ map (indexes y) es = cc in same_place_at x y es rest entry later)
   ]

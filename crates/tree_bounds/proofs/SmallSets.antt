@@ -12,7 +12,7 @@ use Rattle.entry_sets.specs.Sets.{entries_of_set}
 use Rattle.berge_tree.specs.Walk.{columns_of, forest}
 use Rattle.join_graph.specs.Kept.{kept_of, turn_count}
 use Rattle.join_graph.proofs.Turning.{kept_within}
-use Rattle.entry_sets.proofs.Listing.{in_none, one_in}
+use Rattle.entry_sets.proofs.Listing.{not_in_empty, in_front_or_rest}
 use Rattle.tree_bounds.specs.TreeBounds.{EntryBounds, bound_of_trees}
 use Rattle.tree_bounds.specs.SetBounds.{bound_of_turn, bound_of_set, least_to, trees_of}
 use Rattle.tree_bounds.proofs.Turns.{closes, least_to-some}
@@ -29,18 +29,18 @@ empty_is b es = all_turns (bound_of_turn b es 0) (turn_count 0 es - 1) 1 (λ tur
 
 -- ---- the bound of a set with one entry
 
-only : (entry x : ℕ) → Contains (entry ∷ []) x → x ≡ entry
-only entry x k = elim (one_in entry [] x k) [ inr is ↦ is | inl none ↦ absurd (in_none x none) ]
+only_member : (entry x : ℕ) → Contains (entry ∷ []) x → x ≡ entry
+only_member entry x k = elim (in_front_or_rest entry [] x k) [ inr is ↦ is | inl none ↦ absurd (not_in_empty x none) ]
 
 -- an equality between columns of one entry closes a cycle
 none_kept : (entry : ℕ) (kept : List Edge) → AreWithin (entry ∷ []) kept → ClosesNoCycle kept → kept ≡ []
 none_kept entry [] inside closed = refl
 none_kept entry (e ∷ es) inside closed =
-    absurd (closed.0.across (ap closed.0.side (only entry e.left.entry inside.0.0 ∙ sym (only entry e.right.entry inside.0.1))))
+    absurd (closed.0.across (ap closed.0.side (only_member entry e.left.entry inside.0.0 ∙ sym (only_member entry e.right.entry inside.0.1))))
 
-ones : (ts : List ℕ) → sum (map (weight_by_rank []) ts) ≡ length ts
-ones [] = refl
-ones (t ∷ ts) = omega (arith, ones ts, sum_by-cons (λ y. y) 1 (map (weight_by_rank []) ts))
+unit_weights : (ts : List ℕ) → sum (map (weight_by_rank []) ts) ≡ length ts
+unit_weights [] = refl
+unit_weights (t ∷ ts) = omega (arith, unit_weights ts, sum_by-cons (λ y. y) 1 (map (weight_by_rank []) ts))
 
 pub single_is : (b : EntryBounds) (es : List Edge) (subset entry : ℕ) → entries_of_set subset ≡ entry ∷ [] → bound_of_set b es subset ≡ b.rows entry
 single_is b es subset entry one = all_turns (bound_of_turn b es subset) (turn_count subset es - 1) (b.rows entry) each_turn
@@ -52,4 +52,4 @@ single_is b es subset entry one = all_turns (bound_of_turn b es subset) (turn_co
         ap (λ kept. bound_of_trees b (trees_of kept subset)) none
         ∙ ap (λ set. bound_of_trees b (forest greatest_entries (columns_of []) [] set)) one
         ∙ mul-one (root_total [] (b.rows entry))
-        ∙ ones (range_with_len 1 (b.rows entry)) ∙ length-range_with_len 1 (b.rows entry)
+        ∙ unit_weights (range_with_len 1 (b.rows entry)) ∙ length-range_with_len 1 (b.rows entry)

@@ -1,4 +1,4 @@
--- A set has a bound in each turn. The bound of the set is the least of these, and none of them is less than the number of choices.
+-- A set has a bound in each turn. The bound of the set is the least of these bounds, and each of them is at least the number of choices.
 use Rattle.std.proofs.Common.{◌≡◌, ℕ, zero, suc, ◌-◌, ◌<◌, ◌≤◌, List, length, refl, ap, sym, ◌∙◌, subst, arith, inl, inr}
 use Rattle.std.specs.List.{AllByRecursion}
 use Rattle.std.proofs.lemmas.Bool.{cases_lt}
@@ -11,7 +11,7 @@ use Rattle.berge_tree.specs.Trees.{BergeTree}
 use Rattle.berge_tree.specs.Walk.{columns_of}
 use Rattle.berge_tree.proofs.Forest.{all_trees}
 use Rattle.berge_tree.proofs.Listing.{columns_are}
-use Rattle.entry_sets.proofs.Listing.{set_increases, set_low}
+use Rattle.entry_sets.proofs.Listing.{set_increases, set_entries_below_limit}
 use Rattle.berge_tree.proofs.Tested.{joins_no_cycle}
 use Rattle.join_graph.specs.Kept.{equalities_within, kept_of, order_of_turn, turn_count}
 use Rattle.join_graph.proofs.Connecting.{kept_joins}
@@ -49,22 +49,22 @@ module _ (es : List Edge) (subset turn : ℕ) where
   pub closes : ClosesNoCycle (kept_of subset turn es)
   closes = joins_no_cycle (kept_of subset turn es) (kept_joins (λ x. x) (order_of_turn subset turn es))
 
-  pub trees_there : AreAllTreesOf (kept_of subset turn es) (entries_of_set subset) (trees_of (kept_of subset turn es) subset)
-  trees_there =
+  pub trees_exist : AreAllTreesOf (kept_of subset turn es) (entries_of_set subset) (trees_of (kept_of subset turn es) subset)
+  trees_exist =
       all_trees (kept_of subset turn es) closes (columns_of (kept_of subset turn es)) (columns_are (kept_of subset turn es)) (entries_of_set subset) greatest_entries
-      (kept_within subset turn es) (set_low subset) (set_increases subset)
+      (kept_within subset turn es) (set_entries_below_limit subset) (set_increases subset)
 
   pub trees_are : (ts : List BergeTree) → AreAllTreesOf (kept_of subset turn es) (entries_of_set subset) ts → ts ≡ trees_of (kept_of subset turn es) subset
-  trees_are ts all = one_forest (kept_of subset turn es) closes (entries_of_set subset) ts (trees_of (kept_of subset turn es) subset) all trees_there
+  trees_are ts all = one_forest (kept_of subset turn es) closes (entries_of_set subset) ts (trees_of (kept_of subset turn es) subset) all trees_exist
 
 -- ---- the function computes the bound that the relation defines
 
 module _ (b : EntryBounds) (es : List Edge) (subset : ℕ) where
-  pub turn_there : (turn : ℕ) → IsBoundOfTurn b es subset turn (bound_of_turn b es subset turn)
-  turn_there turn = record { trees = trees_of (kept_of subset turn es) subset; are_all = trees_there es subset turn; product = refl }
+  pub turn_bound_exists : (turn : ℕ) → IsBoundOfTurn b es subset turn (bound_of_turn b es subset turn)
+  turn_bound_exists turn = record { trees = trees_of (kept_of subset turn es) subset; are_all = trees_exist es subset turn; product = refl }
 
-  pub turn_is : (turn n : ℕ) → IsBoundOfTurn b es subset turn n → n ≡ bound_of_turn b es subset turn
-  turn_is turn n h = h.product ∙ ap (bound_of_trees b) (trees_are es subset turn h.trees h.are_all)
+  pub turn_bound_is_unique : (turn n : ℕ) → IsBoundOfTurn b es subset turn n → n ≡ bound_of_turn b es subset turn
+  turn_bound_is_unique turn n h = h.product ∙ ap (bound_of_trees b) (trees_are es subset turn h.trees h.are_all)
 
   last_turn : (k : ℕ) → k ≤ turn_count subset es - 1 → k < turn_count subset es
   last_turn k h = omega arith
@@ -72,17 +72,17 @@ module _ (b : EntryBounds) (es : List Edge) (subset : ℕ) where
   before_last : (k : ℕ) → k < turn_count subset es → k ≤ turn_count subset es - 1
   before_last k h = omega arith
 
-  pub set_there : IsBoundOfSet b es subset (bound_of_set b es subset)
-  set_there =
+  pub set_bound_exists : IsBoundOfSet b es subset (bound_of_set b es subset)
+  set_bound_exists =
       let some : (k : ℕ) × (k ≤ turn_count subset es - 1) × (bound_of_set b es subset ≡ bound_of_turn b es subset k) = least_to-some (bound_of_turn b es subset) (turn_count subset es - 1) in
       record {
-        some_turn = (some.0, last_turn some.0 some.1, subst (IsBoundOfTurn b es subset some.0) (sym some.2) (turn_there some.0));
-        least = λ turn m h is. rw (turn_is turn m is) (least_to-le (bound_of_turn b es subset) (turn_count subset es - 1) turn (before_last turn h));
+        some_turn = (some.0, last_turn some.0 some.1, subst (IsBoundOfTurn b es subset some.0) (sym some.2) (turn_bound_exists some.0));
+        least = λ turn m h is. rw (turn_bound_is_unique turn m is) (least_to-le (bound_of_turn b es subset) (turn_count subset es - 1) turn (before_last turn h));
       }
 
-  pub set_is : (n : ℕ) → IsBoundOfSet b es subset n → n ≡ bound_of_set b es subset
-  set_is n h =
-      let there : IsBoundOfSet b es subset (bound_of_set b es subset) = set_there in
+  pub set_bound_is_unique : (n : ℕ) → IsBoundOfSet b es subset n → n ≡ bound_of_set b es subset
+  set_bound_is_unique n h =
+      let there : IsBoundOfSet b es subset (bound_of_set b es subset) = set_bound_exists in
       both n (bound_of_set b es subset)
       (h.least there.some_turn.0 (bound_of_set b es subset) there.some_turn.1 there.some_turn.2)
       (there.least h.some_turn.0 n h.some_turn.1 h.some_turn.2)
@@ -95,7 +95,7 @@ module _ (b : EntryBounds) (es : List Edge) (subset : ℕ) where
 module _ (b : EntryBounds) (tables : KeyedTables) (es : List Edge) (subset : ℕ) (h : SetHasLists b es subset) (d : SetDominates b tables es subset)
     (cs : List (ℕ → ℕ)) (satisfy : AllByRecursion (Satisfies tables (entries_of_set subset) (equalities_within subset es)) cs) (differ : ChoicesAreDifferent (entries_of_set subset) cs) where
   pub within_turn : (turn : ℕ) → length cs ≤ bound_of_turn b es subset turn
-  within_turn turn = satisfying_within b tables es subset turn (trees_of (kept_of subset turn es) subset) (trees_there es subset turn) h d cs satisfy differ
+  within_turn turn = satisfying_within b tables es subset turn (trees_of (kept_of subset turn es) subset) (trees_exist es subset turn) h d cs satisfy differ
 
   pub within_set : length cs ≤ bound_of_set b es subset
   within_set = least_to-least (bound_of_turn b es subset) (turn_count subset es - 1) (length cs) (λ k l. within_turn k)

@@ -32,7 +32,7 @@ with_row row below = map (λ (rows : List ℕ). row ∷ rows) below
 abbrev pub each_followed_by_each : List (List ℕ) → List (List ℕ) → List (List ℕ)
 each_followed_by_each xs ys = flat_map (λ x. map (λ y. x ++ y) ys) xs
 
--- the list of each row that has this key, followed by each choice below the row
+-- for each row that has this key, and each choice below the row: a list of the row and the rows of this choice
 abbrev pub rows_with_key : List ℕ → (ℕ → List (List ℕ)) → ℕ → List (List ℕ)
 rows_with_key keys below key = flat_map (λ row. if slice_index keys row == key then with_row row (below row)
     else []) (range_with_len 0 (length keys))

@@ -61,11 +61,11 @@ compressed_bounds = record { rows = two_rows; list = compressed_list }
 
 -- ---- bounds for sets
 
--- three rows for each entry, and for each column the list 2, 1
+-- three rows for each entry, and the list [2, 1] for each column
 abbrev pub triangle_bounds : EntryBounds
 triangle_bounds = record { rows = λ entry. 3; list = λ entry column. 2 ∷ 1 ∷ [] }
 
--- lists of columns with three rows. In column 0 all rows have the same key; in each other column they have three different keys
+-- lists of columns with three rows. In column 0 all rows have the same key. In every other column the rows have three different keys
 abbrev pub alike_or_different : ℕ → List ℕ
 alike_or_different zero = 3 ∷ []
 alike_or_different (suc column) = 1 ∷ 1 ∷ 1 ∷ []
@@ -84,5 +84,5 @@ members_from first (suc n) = and_member first 0 no_class (members_from (suc firs
 abbrev pub one_class : ℕ → BergeTree
 one_class n = record { root = 0; below = and_class 0 (members_from 1 n) no_class }
 
-abbrev pub many_bounds : EntryBounds
-many_bounds = record { rows = λ entry. 1700; list = λ entry column. 1700 ∷ [] }
+abbrev pub bounds_of_1700_rows : EntryBounds
+bounds_of_1700_rows = record { rows = λ entry. 1700; list = λ entry column. 1700 ∷ [] }

@@ -17,12 +17,12 @@ RowsAreNear accuracy b exact entry = accuracy * b.rows entry ≤ (accuracy + 1) 
 abbrev pub ListIsNear : ℕ → EntryBounds → EntryBounds → ℕ → ℕ → Type 0
 ListIsNear accuracy b exact entry column = SumsAreWithin accuracy (accuracy + 1) (b.list entry column) (exact.list entry column)
 
--- the row bound of the root is near the exact one. The list of each column of the tree is near the exact list
+-- the row bound of the root is near its exact row bound. The list of each column of the tree is near the exact list
 pub record TreeIsNear (accuracy : ℕ) (b exact : EntryBounds) (t : BergeTree) : Type 0 where
   pub root : RowsAreNear accuracy b exact t.root
   pub columns : EachColumn (ListIsNear accuracy b exact) t
 
--- the row bound of each entry of a set is near the exact one. The list of each column that equalities of the set name is near the exact list
+-- the row bound of each entry of a set is near its exact row bound. The list of each column that the set's equalities name is near the exact list
 pub record SetIsNear (accuracy : ℕ) (b exact : EntryBounds) (es : List Edge) (subset : ℕ) : Type 0 where
   pub rows : AllByRecursion (RowsAreNear accuracy b exact) (entries_of_set subset)
   pub columns : EachNamedColumn (ListIsNear accuracy b exact) (equalities_within subset es)

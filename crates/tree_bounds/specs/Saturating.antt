@@ -1,4 +1,4 @@
--- Lists whose elements are saturated, that is, cut off at 2^128 - 1.
+-- Lists whose elements are saturated, that is, capped at 2^128 - 1.
 use Rattle.std.specs.Prelude.{map}
 use Rattle.degree_sequences.specs.Composition.{ChildLists}
 use Rattle.degree_sequences.specs.Saturation.{saturated}

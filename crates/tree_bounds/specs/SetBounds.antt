@@ -20,7 +20,7 @@ pub record IsBoundOfTurn (b : EntryBounds) (es : List Edge) (subset turn n : ℕ
   pub are_all : AreAllTreesOf (kept_of subset turn es) (entries_of_set subset) trees
   pub product : n ≡ bound_of_trees b trees
 
--- n is the least of the bounds in all turns
+-- n is the least bound of all turns
 pub record IsBoundOfSet (b : EntryBounds) (es : List Edge) (subset n : ℕ) : Type 0 where
   pub some_turn : (turn : ℕ) × (turn < turn_count subset es) × IsBoundOfTurn b es subset turn n
   pub least : (turn m : ℕ) → turn < turn_count subset es → IsBoundOfTurn b es subset turn m → n ≤ m

@@ -13,7 +13,7 @@ ghost use Rattle.tree_bounds.specs.Nearness.{SetIsNear, TreeIsNear};
 ghost use Rattle.tree_bounds.specs.Tables.{Agrees, ChoicesAreDifferent, Satisfies, SetDominates, TreeDominates};
 ghost use Rattle.tree_bounds.specs.SetBounds.{SetHasLists, bound_of_set, bound_of_turn};
 ghost use Rattle.tree_bounds.specs.Counting.{tree_choices};
-ghost use Rattle.tree_bounds.specs.Examples.{path, path_bounds, r_and_s, two_choices, two_keys, two_tables, exact_list, exact_bounds, compressed_bounds, triangle_bounds, pair_bounds, one_class, many_bounds};
+ghost use Rattle.tree_bounds.specs.Examples.{path, path_bounds, r_and_s, two_choices, two_keys, two_tables, exact_list, exact_bounds, compressed_bounds, triangle_bounds, pair_bounds, one_class, bounds_of_1700_rows};
 
 /// The bounds of trees over two and three entries, and of two trees together.
 pub fn trees()
@@ -48,12 +48,12 @@ pub fn sets()
 
 /// The bounds of eleven and of twelve entries in one class.
 pub fn one_class()
-    ensures eleven { bound_of_tree many_bounds (one_class 9) ≡ 1700 ^ 11 }
-    ensures twelve { saturated (bound_of_tree many_bounds (one_class 10)) ≡ 2 ^ 128 - 1 }
+    ensures eleven { bound_of_tree bounds_of_1700_rows (one_class 9) ≡ 1700 ^ 11 }
+    ensures twelve { saturated (bound_of_tree bounds_of_1700_rows (one_class 10)) ≡ 2 ^ 128 - 1 }
 {}
 
-/// The premises of the laws can all be met. The exact lists of two tables dominate the tables, for the tree over both tables and for the set of both.
-/// Two different choices agree in the tree and satisfy the equality. The compressed lists are near the exact ones at accuracy 1.
+/// All premises of the laws can be satisfied. The exact lists of two tables dominate the tables, for the tree and for the set of both entries. Two
+/// different choices agree in the tree and satisfy the equality. The compressed lists are near the exact lists at accuracy 1.
 pub fn instances()
     ensures lists { TreeHasLists exact_bounds r_and_s }
     ensures dominates { TreeDominates exact_bounds two_tables r_and_s }

@@ -18,9 +18,9 @@ ghost use Rattle.tree_bounds.specs.SetBounds.{IsBoundOfSet, IsBoundOfTurn, SetHa
 ghost use Rattle.tree_bounds.specs.Tables.{KeyedTables, Agrees, ChoicesAreDifferent, Satisfies, SetDominates, TreeDominates};
 ghost use Rattle.tree_bounds.specs.TreeBounds.{EntryBounds, TreeHasLists, bound_of_tree, bound_of_trees};
 
-/// The bound of a tree is never less than the number of choices: if the lists dominate the tables, there are at most as many different choices as the
-/// bound says. A choice takes one row of each entry, and the keys of the rows agree in each class (Degree Sequence Bound, ICDT 2023; SafeBound,
-/// SIGMOD 2023).
+/// The bound of a tree is never less than the number of choices: if the lists dominate the tables, the number of different choices is at most the
+/// bound. A choice takes one row of each entry, and the keys of the rows agree in each class (Degree Sequence Bound, ICDT 2023; SafeBound, SIGMOD
+/// 2023).
 pub fn trees_are_never_under()
     ensures one { (b : EntryBounds) (tables : KeyedTables) (t : BergeTree) → TreeHasLists b t → TreeDominates b tables t
         → (choices : List (ℕ → ℕ)) → AllByRecursion (Agrees tables t) choices → ChoicesAreDifferent (entries t) choices
@@ -34,23 +34,23 @@ pub fn trees_are_never_under()
 
 /// The choices that agree in a tree can be counted, and listed by their row numbers. The bound is at least their number.
 pub fn choices_are_counted()
-    ensures stand { (b : EntryBounds) (tables : KeyedTables) (t : BergeTree) → TreeDominates b tables t
+    ensures choice_is_in_list { (b : EntryBounds) (tables : KeyedTables) (t : BergeTree) → TreeDominates b tables t
         → (choice : ℕ → ℕ) → Agrees tables t choice → Contains (tree_choices tables t) (map choice (entries t)) }
-    ensures listed { (tables : KeyedTables) (t : BergeTree) → length (tree_choices tables t) ≡ number_of_choices tables t }
+    ensures list_length { (tables : KeyedTables) (t : BergeTree) → length (tree_choices tables t) ≡ number_of_choices tables t }
     ensures within { (b : EntryBounds) (tables : KeyedTables) (t : BergeTree) → TreeHasLists b t → TreeDominates b tables t
         → number_of_choices tables t ≤ bound_of_tree b t }
 {}
 
 /// If equalities close no cycle, they have exactly one list of trees over a set of entries. For the kept equalities of a turn this list can be
 /// computed.
-pub fn trees_are_one()
+pub fn trees_are_unique()
     ensures one { (es : List Edge) → ClosesNoCycle es → (set : List ℕ) (trees others : List BergeTree)
         → AreAllTreesOf es set trees → AreAllTreesOf es set others → trees ≡ others }
     ensures computed { (es : List Edge) (subset turn : ℕ) (trees : List BergeTree)
         → AreAllTreesOf (kept_of subset turn es) (entries_of_set subset) trees ↔ (trees ≡ trees_of (kept_of subset turn es) subset) }
 {}
 
-/// If each column that equalities of a set name has its list, each column of the trees has its list, in every turn.
+/// If every column in a set's equalities has a descending list that sums to the row bound, so has every tree's column.
 pub fn trees_have_the_lists_of_their_set()
     ensures { (b : EntryBounds) (es : List Edge) (subset turn : ℕ) (trees : List BergeTree)
         → AreAllTreesOf (kept_of subset turn es) (entries_of_set subset) trees → SetHasLists b es subset
@@ -58,16 +58,16 @@ pub fn trees_have_the_lists_of_their_set()
 {}
 
 /// A set of entries has exactly one bound in each turn, and exactly one bound over all turns. All these bounds can be computed.
-pub fn bounds_are_one()
+pub fn bounds_are_unique()
     ensures turn { (b : EntryBounds) (es : List Edge) (subset turn n : ℕ)
         → IsBoundOfTurn b es subset turn n ↔ (n ≡ bound_of_turn b es subset turn) }
     ensures set { (b : EntryBounds) (es : List Edge) (subset n : ℕ)
         → IsBoundOfSet b es subset n ↔ (n ≡ bound_of_set b es subset) }
 {}
 
-/// The bound of a set is never less than the number of choices. In each turn there are at most as many different choices as the turn's bound says.
-/// The set's bound is the least bound of all turns. A choice takes one row of each entry of the set and satisfies all equalities of the set. A turn
-/// leaves out some equalities, which can only exclude choices.
+/// The bound of a set is never less than the number of choices. In each turn, the number of different choices is at most the turn's bound. The set's
+/// bound is the least bound of all turns. A choice takes one row of each entry of the set and satisfies all equalities of the set. A turn leaves some
+/// equalities out, but an equality can only exclude choices. So this makes no bound too low.
 pub fn sets_are_never_under()
     ensures each_turn { (b : EntryBounds) (tables : KeyedTables) (es : List Edge) (subset : ℕ)
         → SetHasLists b es subset → SetDominates b tables es subset → (choices : List (ℕ → ℕ))
@@ -94,8 +94,8 @@ pub fn small_sets_have_plain_bounds()
         → bound_of_set b es subset ≡ b.rows entry }
 {}
 
-/// Bounds from near lists are near the exact bounds. Suppose that each row bound and each running sum, times K, is at most the exact one times K + 1.
-/// Then the bound times K^n is at most the exact bound times (K + 1)^n. Here n is the number of entries.
+/// Bounds from near lists are near the exact bounds. Suppose that each row bound and each running sum, times K, is at most the exact number times
+/// K + 1. Then the bound times K^n is at most the exact bound times (K + 1)^n. Here n is the number of entries.
 pub fn bounds_are_near()
     ensures tree { (accuracy : ℕ) (b exact : EntryBounds) (t : BergeTree) → TreeHasLists b t → TreeHasLists exact t → TreeIsNear accuracy b exact t
         → accuracy ^ length (entries t) * bound_of_tree b t ≤ (accuracy + 1) ^ length (entries t) * bound_of_tree exact t }
@@ -113,8 +113,8 @@ pub fn bounds_are_near()
         ≤ (accuracy + 1) ^ length (entries_of_set subset) * bound_of_set exact es subset }
 {}
 
-/// If a bound is saturated (cut off at 2^128 - 1) at each step, the result is the saturated bound. If a bound is never less than a number, the
-/// saturated bound isn't less than the number either, or it is 2^128 - 1.
+/// If a bound is saturated (capped at 2^128 - 1) at each step, the result is the saturated bound. If a bound is at least some number, the saturated
+/// bound is at least this number too, or it is 2^128 - 1.
 pub fn bounds_saturate()
     ensures entry { (parent : List ℕ) (children : List ChildLists)
         → map saturated (composed parent (map saturated_class children)) ≡ map saturated (composed parent children) }

@@ -3,7 +3,7 @@
 -- - `NodeFacts`: nodes are made from lists and from inner nodes, and a row of an inner node consists of one row of each of its two children.
 -- - `Once`: each entry is at most once among the leaves below a node.
 -- - `AllEntries`: the root has all entries, since a join's node has as many as its two children together, and each node is joined once.
--- - `RoomFacts`: the bounds of nodes are small.
+-- - `RoomFacts`: limits on the bounds of nodes.
 -- - `FewLeaves`: no node has more than `most_entries` entries.
 -- - `OrderNodes`: in the tree of an order, the node of a level has the entries and the bound of the level.
 -- - `Bytes`: the bytes of a tree are the sum of the bytes of its buffers.

@@ -3,9 +3,9 @@ ghost use Rattle.std.specs.Prelude.{◌≡◌, ℕ, ◌-◌, ◌<◌, ◌≤◌,
 ghost use Rattle.std.specs.List.{AllByRecursion, IsDistinct};
 ghost use Rattle.plans.specs.declared.left_deep.Plan.{Plan};
 ghost use Rattle.plans.specs.LeftDeep.{IsPlan};
-ghost use Rattle.tree_plans.specs.declared.bushy.BushyPlan.{BushyPlan};
-ghost use Rattle.tree_plans.specs.Orders.{level_node, tree_of_order};
-ghost use Rattle.tree_plans.specs.TreePlans.{IsTreePlan};
+ghost use Rattle.plans.specs.declared.bushy.BushyPlan.{BushyPlan};
+ghost use Rattle.plans.specs.Orders.{level_node, tree_of_order};
+ghost use Rattle.plans.specs.TreePlans.{IsTreePlan};
 ghost use Rattle.tree_rows.specs.Rooms.{bound_at};
 ghost use Rattle.tree_rows.specs.Trees.{entries_at, node_count};
 

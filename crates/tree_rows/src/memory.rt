@@ -3,19 +3,19 @@ ghost use Rattle.std.specs.Prelude.{◌≡◌, ℕ, ◌+◌, ◌*◌, ◌^◌, �
 ghost use Rattle.std.specs.List.{AllByRecursion};
 ghost use Rattle.limits.specs.Profile.{most_entries, most_memory};
 ghost use Rattle.reserve_plan.specs.Memory.{row_chain_bytes};
-ghost use Rattle.tree_plans.specs.declared.bushy.BushyPlan.{BushyPlan};
-ghost use Rattle.tree_plans.specs.Orders.{joins_of_order};
-ghost use Rattle.tree_plans.specs.TreePlans.{IsTreePlan};
+ghost use Rattle.plans.specs.declared.bushy.BushyPlan.{BushyPlan};
+ghost use Rattle.plans.specs.Orders.{joins_of_order};
+ghost use Rattle.plans.specs.TreePlans.{IsTreePlan};
 ghost use Rattle.tree_rows.specs.Memory.{joins_bytes, tree_bytes};
 ghost use Rattle.tree_rows.specs.Rooms.{right_bounds_in, BoundsFitBuffers};
 
 use crate::inner::{INNER_NODE_BYTES, PAIR_BYTES};
 use crate::leaves::LEAVES_BYTES;
-use crate::reserving::{bound_at, most_keys};
+use crate::reserving::{bound_at, greatest_right_bound};
 use limits::MOST_ENTRIES;
+use plans::{BushyPlan, Join, NO_JOIN, write_joins};
 use reserve_plan::{CHAINS_BYTES, lists_memory, row_chain_bytes};
 use row_buf::{KEY_BYTES, ROW_NUMBER_BYTES};
-use tree_plans::{BushyPlan, Join, NO_JOIN, write_joins};
 
 // The sum of the bounds of all joins.
 fn pairs_total(joins: &[Join]) -> u128
@@ -56,7 +56,7 @@ pub fn joins_memory(scans: &[u64], joins: &[Join]) -> u128
         + PAIR_BYTES as u128 * pairs_total(joins);
     let chains = CHAINS_BYTES as u128 * joins.len() as u128 + chains_total(scans, joins);
     let row = ROW_NUMBER_BYTES as u128 * scans.len() as u128;
-    let keys = KEY_BYTES as u128 * u128::from(most_keys(scans, joins));
+    let keys = KEY_BYTES as u128 * u128::from(greatest_right_bound(scans, joins));
     let leaves = LEAVES_BYTES as u128 * (scans.len() as u128 + joins.len() as u128);
     lists_memory(scans) + inners + chains + row + keys + leaves
 }
@@ -87,6 +87,6 @@ pub fn order_memory(order: &[u8], scans: &[u64], levels: &[u64]) -> u128
 }
 
 /// A plan whose bounds fit its buffers takes fewer bytes than `most_memory`. The function does nothing.
-pub fn trees_take_few_bytes()
+pub fn trees_fit_memory()
     ensures { (n : ℕ) (plan : BushyPlan) → IsTreePlan n plan → BoundsFitBuffers plan → tree_bytes plan < most_memory }
 {}

@@ -8,13 +8,13 @@ use Rattle.csv.specs.Reading.{strip_bom}
 use Rattle.csv.proofs.OnLiterals.{csv_on_literals}
 use Rattle.csv_tables.specs.Files.{rows_in_records, rows_of_file, rows_under_header}
 use Rattle.csv_tables.specs.Rows.{Row}
-use Rattle.filtered_lists.proofs.Parts.{of_compare}
+use Rattle.filtered_lists.proofs.Parts.{conjunction_of_compare}
 use Rattle.filtered_lists.specs.Lists.{count_answers}
 use Rattle.gathered_stats.specs.Statistics.{statistics_of}
 use Rattle.join_graph.specs.Conjuncts.{column_operand, equalities_of}
 use Rattle.key_bounds.proofs.SmallBounds.{manager_keyed}
 use Rattle.key_bounds.specs.Bounds.{bounds_by_keys}
-use Rattle.key_bounds.specs.Examples.{by_manager, worker_schema, worker_tables, workers}
+use Rattle.key_bounds.specs.Examples.{manager_query, worker_schema, worker_tables, workers}
 use Rattle.order_search.specs.declared.refusal.PlanError.{PlanError}
 use Rattle.outcomes.specs.Errors.{plan_refusal, query_refusal, schema_refusal, table_refusal}
 use Rattle.outcomes.specs.Reads.{◌>>=◌, mapped, with_refusal}
@@ -46,16 +46,17 @@ use Rattle.safebound_words.specs.declared.command.ListSource.TheVariants as sour
 use Rattle.safebound_words.specs.declared.command.OutText.TheVariants as out_text
 use Rattle.safebound_words.specs.declared.command.PlanWork.{PlanWork}
 use Rattle.safebound_words.specs.declared.command.Shape.TheVariants as shapes
-use Rattle.safebound_words.specs.declared.command.QueryTask.TheVariants as works
+use Rattle.safebound_words.specs.declared.command.QueryTask.TheVariants as query_tasks
 use Rattle.prepared_runs.specs.AcceptedQuery.{AcceptedQuery}
 use Rattle.prepared_runs.specs.Limits.{within_limit}
 use Rattle.prepared_runs.specs.RunOutcome.{Planned}
-use Rattle.prepared_runs.specs.Shapes.{answer_of, planned_by, shape_bytes}
+use Rattle.prepared_runs.specs.Shapes.{answer_of, planned_by}
 use Rattle.prepared_runs.specs.Sources.{sets_by, scans_by, bounds_and_lists_by}
 use Rattle.prepared_runs.specs.Verdict.{aim_run, command_run, command_stage, plan_stage, query_stage, run_asked, schema_stage, verdict, work_run}
-use Rattle.prepared_runs.specs.declared.shapes.AnyPlan.{AnyPlan}
-use Rattle.prepared_runs.specs.declared.shapes.AnyPlan.TheVariants as shaped
-use Rattle.safebound_laws.specs.Printed.{printed}
+use Rattle.plans.specs.Orders.{tree_of_order}
+use Rattle.plans.specs.declared.bushy.BushyPlan.{BushyPlan}
+use Rattle.tree_rows.specs.Memory.{tree_bytes}
+use Rattle.safebound_laws.specs.Printed.{both_texts}
 use Rattle.worked_run.specs.OneTable.{keyed_words, workers_files, workers_query, workers_schema, workers_text}
 use Rattle.worked_run.proofs.Queries.{workers_query_read}
 use Rattle.worked_run.proofs.Schemas.{workers_read}
@@ -64,7 +65,7 @@ abbrev task : PlanWork
 task = record { terms = record { budget = 1000000; shape = shapes.Order; memory = None }; accuracy = 1; source = sources.Keyed; out = out_text.Nothing }
 
 abbrev command : Command
-command = over_query None (codes "schema.sql") (codes "query.sql") (works.Plan task)
+command = over_query None (codes "schema.sql") (codes "query.sql") (query_tasks.Plan task)
 
 -- ---- the words and the files are read
 
@@ -76,7 +77,7 @@ schema_found : schema_stage (codes "schema.sql") workers_files ≡ Ok worker_sch
 unfolding schema_stage workers_schema
 schema_found = ap (with_refusal schema_refusal) workers_read
 
-query_found : query_stage (codes "query.sql") worker_schema workers_files ≡ Ok by_manager
+query_found : query_stage (codes "query.sql") worker_schema workers_files ≡ Ok manager_query
 unfolding query_stage workers_query
 query_found = ap (with_refusal query_refusal) workers_query_read
 
@@ -91,7 +92,7 @@ rows_found : file_rows 0 workers workers_files ≡ Ok rows
 unfolding file_rows workers_text
 rows_found = ap (with_refusal (table_refusal 0)) rows_read
 
-tables_found : tables_stage worker_schema by_manager.from workers_files ≡ Ok (rows ∷ rows ∷ [])
+tables_found : tables_stage worker_schema manager_query.from workers_files ≡ Ok (rows ∷ rows ∷ [])
 unfolding tables_stage
 tables_found = rw (rows_found) refl
 
@@ -103,67 +104,67 @@ one_table (suc (suc n)) = refl
 
 -- ---- the plan
 
-boss_scan : scan_row_bound by_manager (statistics_of worker_tables 1) 1 ≡ 1
+boss_scan : scan_row_bound manager_query (statistics_of worker_tables 1) 1 ≡ 1
 boss_scan = rw (
   entries_compare op.Eq (column_operand 0 1) (column_operand 1 0),
   entries_compare op.Eq (column_operand 1 2) (operand.Int (pos 3)),
-  of_compare (count_answers (entry_counts worker_tables 1)) op.Eq (column_operand 1 2) (operand.Int (pos 3)) true,
+  conjunction_of_compare (count_answers (entry_counts worker_tables 1)) op.Eq (column_operand 1 2) (operand.Int (pos 3)) true,
 ) refl
 
-worker_scan : scan_row_bound by_manager (statistics_of worker_tables 1) 0 ≡ 5
+worker_scan : scan_row_bound manager_query (statistics_of worker_tables 1) 0 ≡ 5
 worker_scan = rw (
   entries_compare op.Eq (column_operand 0 1) (column_operand 1 0),
   entries_compare op.Eq (column_operand 1 2) (operand.Int (pos 3)),
 ) refl
 
-scans : scan_bounds_of by_manager worker_tables 1 ≡ 5 ∷ 1 ∷ []
-scans = ap (λ (n : ℕ). n ∷ scan_row_bound by_manager (statistics_of worker_tables 1) 1 ∷ []) worker_scan ∙ ap (λ (n : ℕ). 5 ∷ n ∷ []) boss_scan
+scan_bounds_are : scan_bounds_of manager_query worker_tables 1 ≡ 5 ∷ 1 ∷ []
+scan_bounds_are = ap (λ (n : ℕ). n ∷ scan_row_bound manager_query (statistics_of worker_tables 1) 1 ∷ []) worker_scan ∙ ap (λ (n : ℕ). 5 ∷ n ∷ []) boss_scan
 
-chosen : plan_answer (1 ∷ 5 ∷ 1 ∷ 2 ∷ []) (5 ∷ 1 ∷ []) 1000000 ≡ Ok (plan_of (1 ∷ 0 ∷ []) (5 ∷ 1 ∷ []) (1 ∷ 2 ∷ []))
+best_order_is : plan_answer (1 ∷ 5 ∷ 1 ∷ 2 ∷ []) (5 ∷ 1 ∷ []) 1000000 ≡ Ok (plan_of (1 ∷ 0 ∷ []) (5 ∷ 1 ∷ []) (1 ∷ 2 ∷ []))
 unfolding plan_answer best_order
-chosen = refl
+best_order_is = refl
 
-abbrev as_order : Result Plan PlanError → Result AnyPlan PlanError
-as_order answer = mapped (λ plan. shaped.OrderPlan plan) answer
+abbrev as_order : Result Plan PlanError → Result BushyPlan PlanError
+as_order answer = mapped (λ plan. tree_of_order plan) answer
 
-abbrev plan : AnyPlan
-plan = shaped.OrderPlan (plan_of (1 ∷ 0 ∷ []) (5 ∷ 1 ∷ []) (1 ∷ 2 ∷ []))
+abbrev plan : BushyPlan
+plan = tree_of_order (plan_of (1 ∷ 0 ∷ []) (5 ∷ 1 ∷ []) (1 ∷ 2 ∷ []))
 
-plan_found : planned_by shapes.Order (bounds_and_lists_by sources.Keyed worker_schema by_manager (tables_in (rows ∷ rows ∷ []))) 1 1000000 ≡ Ok plan
+plan_found : planned_by shapes.Order (bounds_and_lists_by sources.Keyed worker_schema manager_query (tables_in (rows ∷ rows ∷ []))) 1 1000000 ≡ Ok plan
 unfolding planned_by sets_by scans_by
 plan_found =
-    ap (λ (ts : Tables). answer_of shapes.Order (bounds_in_sets (bounds_by_keys worker_schema by_manager ts 1) (equalities_of by_manager) 2) (scan_bounds_of by_manager ts 1) 1000000)
+    ap (λ (ts : Tables). answer_of shapes.Order (bounds_in_sets (bounds_by_keys worker_schema manager_query ts 1) (equalities_of manager_query) 2) (scan_bounds_of manager_query ts 1) 1000000)
     (fun_ext one_table)
-    ∙ ap (λ (bounds : List ℕ). answer_of shapes.Order bounds (scan_bounds_of by_manager worker_tables 1) 1000000) manager_keyed
-    ∙ ap (λ (bounds : List ℕ). answer_of shapes.Order (1 ∷ 5 ∷ 1 ∷ 2 ∷ []) bounds 1000000) scans
-    ∙ ap as_order chosen
+    ∙ ap (λ (bounds : List ℕ). answer_of shapes.Order bounds (scan_bounds_of manager_query worker_tables 1) 1000000) manager_keyed
+    ∙ ap (λ (bounds : List ℕ). answer_of shapes.Order (1 ∷ 5 ∷ 1 ∷ 2 ∷ []) bounds 1000000) scan_bounds_are
+    ∙ ap as_order best_order_is
 
 abbrev run : AcceptedQuery
-run = run_asked task by_manager (rows ∷ rows ∷ []) plan
+run = run_asked task manager_query (rows ∷ rows ∷ []) plan
 
-plan_made : plan_stage task worker_schema by_manager (rows ∷ rows ∷ []) ≡ Ok (Planned run)
+plan_made : plan_stage task worker_schema manager_query (rows ∷ rows ∷ []) ≡ Ok (Planned run)
 unfolding plan_stage
 plan_made =
-    ap (λ (answer : Result AnyPlan PlanError). with_refusal plan_refusal answer
-    >>= λ plan. within_limit None (shape_bytes plan) (Planned (run_asked task by_manager (rows ∷ rows ∷ []) plan))) plan_found
+    ap (λ (answer : Result BushyPlan PlanError). with_refusal plan_refusal answer
+    >>= λ plan. within_limit None (tree_bytes plan) (Planned (run_asked task manager_query (rows ∷ rows ∷ []) plan))) plan_found
 
 -- ---- the verdict
 
 of_files : command_run command workers_files ≡ Ok (Planned run)
 unfolding command_run
 of_files =
-    ap (λ (schema : Result Schema Refusal). schema >>= λ s. aim_run (aims.Query (codes "query.sql") (works.Plan task)) s workers_files) schema_found
-    ∙ ap (λ (query : Result Query Refusal). query >>= λ q. work_run (works.Plan task) worker_schema q workers_files) query_found
-    ∙ ap (λ (found : Result (List (List Row)) Refusal). found >>= plan_stage task worker_schema by_manager) tables_found
+    ap (λ (schema : Result Schema Refusal). schema >>= λ s. aim_run (aims.Query (codes "query.sql") (query_tasks.Plan task)) s workers_files) schema_found
+    ∙ ap (λ (query : Result Query Refusal). query >>= λ q. work_run (query_tasks.Plan task) worker_schema q workers_files) query_found
+    ∙ ap (λ (found : Result (List (List Row)) Refusal). found >>= plan_stage task worker_schema manager_query) tables_found
     ∙ plan_made
 
 keyed_verdict : verdict keyed_words workers_files ≡ Ok (Planned run)
 unfolding verdict
 keyed_verdict = ap (λ (a : Result Command Refusal). a >>= λ a. command_run a workers_files) asked ∙ of_files
 
-texts : printed (Planned run) ≡ (Some (codes "scan E 5\nscan M 1\nlevel 1 M 1\nlevel 2 E 2\n"), None)
+texts : both_texts (Planned run) ≡ (Some (codes "scan E 5\nscan M 1\nlevel 1 M 1\nlevel 2 E 2\n"), None)
 unfolding digits
 texts = refl
 
-pub keyed_printed : mapped printed (verdict keyed_words workers_files) ≡ Ok (Some (codes "scan E 5\nscan M 1\nlevel 1 M 1\nlevel 2 E 2\n"), None)
-keyed_printed = ap (mapped printed) keyed_verdict ∙ ap (λ (t : Option (List ℕ) × Option (List ℕ)). Ok t) texts
+pub keyed_printed : mapped both_texts (verdict keyed_words workers_files) ≡ Ok (Some (codes "scan E 5\nscan M 1\nlevel 1 M 1\nlevel 2 E 2\n"), None)
+keyed_printed = ap (mapped both_texts) keyed_verdict ∙ ap (λ (t : Option (List ℕ) × Option (List ℕ)). Ok t) texts

@@ -1,4 +1,4 @@
--- The query texts are read as their joins, proved by computation.
+-- What the query texts are read as, proved by computation.
 use Rattle.std.proofs.Common.{◌≡◌, List, [], ◌∷◌, ◌++◌, Some, None, Ok, refl, ap, ◌∙◌}
 use Rattle.std.specs.Str.{chars, is_utf8}
 use Rattle.std.specs.Str.Lossy.{utf8_valid_len}
@@ -32,8 +32,8 @@ use Rattle.query_names.specs.Values.{Meaning, all_of, meaning, test_meaning}
 use Rattle.sql_parse.proofs.KindFacts.{means_and, means_test}
 use Rattle.query_names.proofs.TestFacts.{tests_and, tests_test}
 use Rattle.table_files.specs.Examples.{two_tables}
-use Rattle.query_bounds.specs.Examples.{pair}
-use Rattle.key_bounds.specs.Examples.{by_manager, worker_schema}
+use Rattle.query_bounds.specs.Examples.{two_table_query}
+use Rattle.key_bounds.specs.Examples.{manager_query, worker_schema}
 use Rattle.query_names.specs.declared.scope.Scope.{Scope}
 use Rattle.worked_run.specs.OneTable.{workers_query}
 use Rattle.worked_run.specs.TwoTables.{query_text}
@@ -52,20 +52,20 @@ tree = record {
   filter = Some (cond.Test is_joined);
 }
 
-spelled : query_answer two_tables query_text ≡ query_or_refusal two_tables query_text tree
+text_has_tree : query_answer two_tables query_text ≡ query_or_refusal two_tables query_text tree
 unfolding query_answer nested_answer syntax_tree_of tokens_of chars is_utf8 utf8_valid_len lib.Utf8.encode closing_length identifier literal symbol piece tokens_at terminal_of name_of literal_text_of number_of read_many read_tails nesting read_name read_other_name read_new_name read_dotted_name read_column read_number read_literal read_operand read_operator read_negation read_next_literal read_literals read_value_list read_predicate read_flat read_factor read_next_factor read_factors read_term read_next_term read_terms read_cond read_inside read_test read_within read_condition read_source read_join read_joins read_part read_next_part read_parts read_dotted_out read_out read_next_out read_listed_outs read_outs read_condition_after_where read_filter read_query number_offences query_text
-spelled = refl
+text_has_tree = refl
 
-conjoined : conjuncts two_tables query_text pair.from tree ≡ pair.conjuncts
+conjuncts_of_tree : conjuncts two_tables query_text two_table_query.from tree ≡ two_table_query.conjuncts
 unfolding query_answer nested_answer syntax_tree_of tokens_of chars is_utf8 utf8_valid_len lib.Utf8.encode closing_length identifier literal symbol piece tokens_at terminal_of name_of literal_text_of number_of read_many read_tails nesting read_name read_other_name read_new_name read_dotted_name read_column read_number read_literal read_operand read_operator read_negation read_next_literal read_literals read_value_list read_predicate read_flat read_factor read_next_factor read_factors read_term read_next_term read_terms read_cond read_inside read_test read_within read_condition read_source read_join read_joins read_part read_next_part read_parts read_dotted_out read_out read_next_out read_listed_outs read_outs read_condition_after_where read_filter read_query index_of_name column_in entries from_offences in_scope entry_named column_without_alias resolve conditions name_offences all_kind_offences number_value number_offences conjuncts outs_of_entry query_of long_lists refusals query_or_refusal query_text
-conjoined = ap (λ (m : Meaning). m.members ++ []) (means_test two_tables query_text pair.from (record { first = 0; end = 2 }) is_joined)
+conjuncts_of_tree = ap (λ (m : Meaning). m.members ++ []) (means_test two_tables query_text two_table_query.from (record { first = 0; end = 2 }) is_joined)
 
-meant : query_or_refusal two_tables query_text tree ≡ Ok pair
+tree_means_query : query_or_refusal two_tables query_text tree ≡ Ok two_table_query
 unfolding query_answer nested_answer syntax_tree_of tokens_of chars is_utf8 utf8_valid_len lib.Utf8.encode closing_length identifier literal symbol piece tokens_at terminal_of name_of literal_text_of number_of read_many read_tails nesting read_name read_other_name read_new_name read_dotted_name read_column read_number read_literal read_operand read_operator read_negation read_next_literal read_literals read_value_list read_predicate read_flat read_factor read_next_factor read_factors read_term read_next_term read_terms read_cond read_inside read_test read_within read_condition read_source read_join read_joins read_part read_next_part read_parts read_dotted_out read_out read_next_out read_listed_outs read_outs read_condition_after_where read_filter read_query index_of_name column_in entries from_offences in_scope entry_named column_without_alias resolve conditions name_offences all_kind_offences number_value number_offences outs_of_entry query_of long_lists refusals query_or_refusal query_text
-meant = rw (tests_test is_joined, conjoined) refl
+tree_means_query = rw (tests_test is_joined, conjuncts_of_tree) refl
 
-pub query_read : query_answer two_tables query_text ≡ Ok pair
-query_read = spelled ∙ meant
+pub query_read : query_answer two_tables query_text ≡ Ok two_table_query
+query_read = text_has_tree ∙ tree_means_query
 
 -- ---- the query on workers and their bosses
 
@@ -93,28 +93,28 @@ workers_spelled : query_answer worker_schema workers_query ≡ query_or_refusal 
 unfolding query_answer nested_answer syntax_tree_of tokens_of chars is_utf8 utf8_valid_len lib.Utf8.encode closing_length identifier literal symbol piece tokens_at terminal_of name_of literal_text_of number_of read_many read_tails nesting read_name read_other_name read_new_name read_dotted_name read_column read_number read_literal read_operand read_operator read_negation read_next_literal read_literals read_value_list read_predicate read_flat read_factor read_next_factor read_factors read_term read_next_term read_terms read_cond read_inside read_test read_within read_condition read_source read_join read_joins read_part read_next_part read_parts read_dotted_out read_out read_next_out read_listed_outs read_outs read_condition_after_where read_filter read_query number_offences workers_query
 workers_spelled = refl
 
-abbrev everywhere : Scope
-everywhere = record { first = 0; end = 2 }
+abbrev whole_scope : Scope
+whole_scope = record { first = 0; end = 2 }
 
-abbrev means : CondNode → Meaning
-means = meaning worker_schema workers_query by_manager.from everywhere
+abbrev meaning_of_cond : CondNode → Meaning
+meaning_of_cond = meaning worker_schema workers_query manager_query.from whole_scope
 
-abbrev says : TestNode → Meaning
-says = test_meaning worker_schema workers_query by_manager.from everywhere
+abbrev meaning_of_test : TestNode → Meaning
+meaning_of_test = test_meaning worker_schema workers_query manager_query.from whole_scope
 
-both_mean : means (cond.And both_tests) ≡ all_of (says is_boss ∷ says is_of_region ∷ [])
+both_mean : meaning_of_cond (cond.And both_tests) ≡ all_of (meaning_of_test is_boss ∷ meaning_of_test is_of_region ∷ [])
 both_mean =
-    means_and worker_schema workers_query by_manager.from everywhere both_tests
-    ∙ ap (λ (m : Meaning). all_of (m ∷ means (cond.Test is_of_region) ∷ [])) (means_test worker_schema workers_query by_manager.from everywhere is_boss)
-    ∙ ap (λ (m : Meaning). all_of (says is_boss ∷ m ∷ [])) (means_test worker_schema workers_query by_manager.from everywhere is_of_region)
+    means_and worker_schema workers_query manager_query.from whole_scope both_tests
+    ∙ ap (λ (m : Meaning). all_of (m ∷ meaning_of_cond (cond.Test is_of_region) ∷ [])) (means_test worker_schema workers_query manager_query.from whole_scope is_boss)
+    ∙ ap (λ (m : Meaning). all_of (meaning_of_test is_boss ∷ m ∷ [])) (means_test worker_schema workers_query manager_query.from whole_scope is_of_region)
 
-workers_conjoined : conjuncts worker_schema workers_query by_manager.from workers_tree ≡ by_manager.conjuncts
+workers_conjoined : conjuncts worker_schema workers_query manager_query.from workers_tree ≡ manager_query.conjuncts
 unfolding query_answer nested_answer syntax_tree_of tokens_of chars is_utf8 utf8_valid_len lib.Utf8.encode closing_length identifier literal symbol piece tokens_at terminal_of name_of literal_text_of number_of read_many read_tails nesting read_name read_other_name read_new_name read_dotted_name read_column read_number read_literal read_operand read_operator read_negation read_next_literal read_literals read_value_list read_predicate read_flat read_factor read_next_factor read_factors read_term read_next_term read_terms read_cond read_inside read_test read_within read_condition read_source read_join read_joins read_part read_next_part read_parts read_dotted_out read_out read_next_out read_listed_outs read_outs read_condition_after_where read_filter read_query index_of_name column_in entries from_offences in_scope entry_named column_without_alias resolve conditions name_offences all_kind_offences number_value number_offences conjuncts outs_of_entry query_of long_lists refusals query_or_refusal workers_query
 workers_conjoined = ap (λ (m : Meaning). m.members ++ []) both_mean
 
-workers_meant : query_or_refusal worker_schema workers_query workers_tree ≡ Ok by_manager
+workers_meant : query_or_refusal worker_schema workers_query workers_tree ≡ Ok manager_query
 unfolding query_answer nested_answer syntax_tree_of tokens_of chars is_utf8 utf8_valid_len lib.Utf8.encode closing_length identifier literal symbol piece tokens_at terminal_of name_of literal_text_of number_of read_many read_tails nesting read_name read_other_name read_new_name read_dotted_name read_column read_number read_literal read_operand read_operator read_negation read_next_literal read_literals read_value_list read_predicate read_flat read_factor read_next_factor read_factors read_term read_next_term read_terms read_cond read_inside read_test read_within read_condition read_source read_join read_joins read_part read_next_part read_parts read_dotted_out read_out read_next_out read_listed_outs read_outs read_condition_after_where read_filter read_query index_of_name column_in entries from_offences in_scope entry_named column_without_alias resolve conditions name_offences all_kind_offences number_value number_offences outs_of_entry query_of long_lists refusals query_or_refusal workers_query
 workers_meant = rw (tests_and both_tests, tests_test is_boss, tests_test is_of_region, workers_conjoined) refl
 
-pub workers_query_read : query_answer worker_schema workers_query ≡ Ok by_manager
+pub workers_query_read : query_answer worker_schema workers_query ≡ Ok manager_query
 workers_query_read = workers_spelled ∙ workers_meant

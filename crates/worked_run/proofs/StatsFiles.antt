@@ -1,4 +1,4 @@
--- The statistics file of the small tables, a plan from it, and the file with new rows.
+-- The statistics file of the small tables, a plan from it, and the statistics file after rows are appended.
 use Rattle.std.proofs.Common.{◌≡◌, ℕ, false, List, [], ◌∷◌, None, Some, Result, Ok, refl, ap, sym, ◌∙◌, subst, arith}
 use Rattle.std.specs.Fmt.{digits}
 use Rattle.std.specs.Prelude.{codes}
@@ -18,7 +18,7 @@ use Rattle.outcomes.specs.Errors.{stats_refusal, table_refusal}
 use Rattle.outcomes.specs.Reads.{◌>>=◌, mapped, with_refusal}
 use Rattle.outcomes.specs.declared.names.FileId.TheVariants as file_id
 use Rattle.outcomes.specs.declared.refusal.Refusal.{Refusal}
-use Rattle.query_bounds.specs.Examples.{pair}
+use Rattle.query_bounds.specs.Examples.{two_table_query}
 use Rattle.query_grammar.specs.declared.tree.Op.TheVariants as op
 use Rattle.query_types.proofs.CondFacts.{entries_compare}
 use Rattle.query_types.specs.declared.types.Query.{Query}
@@ -27,7 +27,7 @@ use Rattle.schema_types.specs.Validity.{IsValid}
 use Rattle.schema_types.specs.declared.types.Schema.{Schema}
 use Rattle.sql_meaning.specs.Tables.{Tables, tables_of}
 use Rattle.stats_answers.proofs.ByteNames.{declared_bytes}
-use Rattle.stats_answers.proofs.StatsAnswers.{written}
+use Rattle.stats_answers.proofs.StatsAnswers.{written_file_is_read}
 use Rattle.stats_answers.specs.StatsTexts.{stats_answer}
 use Rattle.stats_file.specs.FileText.{file_lines, file_text, pair_lines, table_lines}
 use Rattle.stats_file.specs.Rules.{KeepsRules}
@@ -44,32 +44,32 @@ use Rattle.safebound_words.specs.Table.{over_files}
 use Rattle.safebound_words.specs.declared.command.SchemaTask.TheVariants as aims
 use Rattle.safebound_words.specs.declared.command.NewRows.{NewRows}
 use Rattle.safebound_words.specs.declared.command.OutText.TheVariants as out_texts
-use Rattle.safebound_words.specs.declared.command.QueryTask.TheVariants as works
+use Rattle.safebound_words.specs.declared.command.QueryTask.TheVariants as query_tasks
 use Rattle.prepared_runs.specs.Appending.{append_run, grown_stage, rows_run, section_stage, stats_run}
 use Rattle.prepared_runs.specs.StatsFiles.{stats_stage, stats_file_of_tables}
 use Rattle.prepared_runs.specs.RunOutcome.{StatsMade}
 use Rattle.prepared_runs.specs.Verdict.{aim_run, command_run, command_stage, verdict, work_run}
 use Rattle.safebound_laws.proofs.Alike.{files_alike}
 use Rattle.safebound_laws.proofs.Databases.{DatabaseFound, database_found}
-use Rattle.safebound_laws.specs.Printed.{printed}
+use Rattle.safebound_laws.specs.Printed.{both_texts}
 use Rattle.safebound_top.proofs.Promises.{declares, query_of_schema}
 use Rattle.safebound_top.specs.OutcomeTexts.{out_text}
 use Rattle.safebound_top.specs.Promise.{DeclaresSchema}
 use Rattle.worked_run.specs.Meaning.{rows_of, section, small_appended, small_stats_file, small_rows, small_stats}
 use Rattle.worked_run.specs.TwoTables.{append_words, from_file_words, grown_r_stats, grown_text, new_text, r_cuts, r_stats, s_stats, small_files, stats_text, stats_words}
 use Rattle.worked_run.proofs.Levels.{notes_text}
-use Rattle.worked_run.proofs.Verdicts.{asked_run, plan_alone, query_found, schema_found, tables_found}
+use Rattle.worked_run.proofs.Verdicts.{verdict_is_command_run, plan_of_tables_verdict, query_found, schema_found, tables_found}
 
 abbrev new_rows : NewRows
 new_rows = record { stats_file = codes "rs.stats"; table = codes "R"; rows_file = codes "new.csv" }
 
 -- ---- the words are read
 
-stats_asked : command_stage stats_words ≡ Ok (over_query None (codes "schema.sql") (codes "query.sql") (works.WriteStats 1))
+stats_asked : command_stage stats_words ≡ Ok (over_query None (codes "schema.sql") (codes "query.sql") (query_tasks.WriteStats 1))
 unfolding command_of reading_of over_files parts_from kind_of_word number_of
 stats_asked = refl
 
-from_file_asked : command_stage from_file_words ≡ Ok (over_query None (codes "schema.sql") (codes "query.sql") (works.PlanFromStats (codes "rs.stats") (terms_by 1000000 false None)))
+from_file_asked : command_stage from_file_words ≡ Ok (over_query None (codes "schema.sql") (codes "query.sql") (query_tasks.PlanFromStats (codes "rs.stats") (terms_by 1000000 false None)))
 unfolding command_of reading_of over_files parts_from kind_of_word number_of
 from_file_asked = refl
 
@@ -79,81 +79,81 @@ append_asked = refl
 
 -- ---- the statistics file of both tables
 
-file_found : file_of_query two_tables pair (tables_in small_rows) 1 ≡ small_stats
+file_found : file_of_query two_tables two_table_query (tables_in small_rows) 1 ≡ small_stats
 file_found = rw (entries_compare op.Eq (column_operand 0 0) (column_operand 1 0), equality_two 0 0 1 0 (λ e. absurd (omega (arith, e)))) refl
 
-file_made : command_run (over_query None (codes "schema.sql") (codes "query.sql") (works.WriteStats 1)) small_files ≡ Ok small_stats_file
+file_made : command_run (over_query None (codes "schema.sql") (codes "query.sql") (query_tasks.WriteStats 1)) small_files ≡ Ok small_stats_file
 unfolding command_run
 file_made =
-    ap (λ (schema : Result Schema Refusal). schema >>= λ s. aim_run (aims.Query (codes "query.sql") (works.WriteStats 1)) s small_files) schema_found
-    ∙ ap (λ (query : Result Query Refusal). query >>= λ q. work_run (works.WriteStats 1) two_tables q small_files) query_found
-    ∙ ap (λ (rows : Result (List (List Row)) Refusal). rows >>= λ rows. Ok (stats_file_of_tables two_tables pair rows 1)) tables_found
-    ∙ ap (λ (f : StatsFile). Ok (StatsMade (record { schema = two_tables; query = pair; rows = small_rows; file = f }))) file_found
+    ap (λ (schema : Result Schema Refusal). schema >>= λ s. aim_run (aims.Query (codes "query.sql") (query_tasks.WriteStats 1)) s small_files) schema_found
+    ∙ ap (λ (query : Result Query Refusal). query >>= λ q. work_run (query_tasks.WriteStats 1) two_tables q small_files) query_found
+    ∙ ap (λ (rows : Result (List (List Row)) Refusal). rows >>= λ rows. Ok (stats_file_of_tables two_tables two_table_query rows 1)) tables_found
+    ∙ ap (λ (f : StatsFile). Ok (StatsMade (record { schema = two_tables; query = two_table_query; rows = small_rows; file = f }))) file_found
 
 pub stats_verdict : verdict stats_words small_files ≡ Ok small_stats_file
-stats_verdict = asked_run stats_words (over_query None (codes "schema.sql") (codes "query.sql") (works.WriteStats 1)) stats_asked ∙ file_made
+stats_verdict = verdict_is_command_run stats_words (over_query None (codes "schema.sql") (codes "query.sql") (query_tasks.WriteStats 1)) stats_asked ∙ file_made
 
-text_is : file_text two_tables small_stats ≡ stats_text
+text_of_stats_is : file_text two_tables small_stats ≡ stats_text
 unfolding file_lines table_lines pair_lines runs_of digits cuts list_of_node rest r_cuts r_stats s_stats stats_text
-text_is = refl
+text_of_stats_is = refl
 
 pub stats_printed : out_text small_stats_file ≡ Some stats_text
-stats_printed = ap (λ (t : List ℕ). Some t) text_is
+stats_printed = ap (λ (t : List ℕ). Some t) text_of_stats_is
 
 -- ---- a plan from the statistics file
 
-there : read file_id.Stats most_file (codes "rs.stats") small_files ≡ Ok stats_text
+stats_file_is_there : read file_id.Stats most_file (codes "rs.stats") small_files ≡ Ok stats_text
 unfolding stats_text r_stats r_cuts s_stats
-there = refl
+stats_file_is_there = refl
 
-alike : mapped printed (command_run (over_query None (codes "schema.sql") (codes "query.sql") (works.PlanFromStats (codes "rs.stats") (terms_by 1000000 false None))) small_files)
+from_file_prints_as_from_tables : mapped both_texts (command_run (over_query None (codes "schema.sql") (codes "query.sql") (query_tasks.PlanFromStats (codes "rs.stats") (terms_by 1000000 false None))) small_files)
     ≡ Ok (Some (codes "scan R 6\nscan S 5\nlevel 1 S 5\nlevel 2 R 12\n"), None)
-alike =
-    files_alike (codes "schema.sql") (codes "query.sql") (codes "rs.stats") 1 (terms_by 1000000 false None) small_files small_stats_file stats_text (omega arith) (omega arith) file_made stats_printed there
-    ∙ ap (mapped printed) plan_alone ∙ ap (λ (t : List ℕ). Ok (Some t, None)) (notes_text out_texts.Nothing)
+from_file_prints_as_from_tables =
+    files_alike (codes "schema.sql") (codes "query.sql") (codes "rs.stats") 1 (terms_by 1000000 false None) small_files small_stats_file stats_text (omega arith) (omega arith) file_made stats_printed stats_file_is_there
+    ∙ ap (mapped both_texts) plan_of_tables_verdict ∙ ap (λ (t : List ℕ). Ok (Some t, None)) (notes_text out_texts.Nothing)
 
-pub plan_printed : mapped printed (verdict from_file_words small_files) ≡ Ok (Some (codes "scan R 6\nscan S 5\nlevel 1 S 5\nlevel 2 R 12\n"), None)
+pub plan_printed : mapped both_texts (verdict from_file_words small_files) ≡ Ok (Some (codes "scan R 6\nscan S 5\nlevel 1 S 5\nlevel 2 R 12\n"), None)
 plan_printed =
-    ap (mapped printed) (asked_run from_file_words (over_query None (codes "schema.sql") (codes "query.sql") (works.PlanFromStats (codes "rs.stats") (terms_by 1000000 false None))) from_file_asked) ∙ alike
+    ap (mapped both_texts) (verdict_is_command_run from_file_words (over_query None (codes "schema.sql") (codes "query.sql") (query_tasks.PlanFromStats (codes "rs.stats") (terms_by 1000000 false None))) from_file_asked) ∙ from_file_prints_as_from_tables
 
 -- ---- the statistics file after new rows are appended
 
 schema_declared : DeclaresSchema small_files (codes "schema.sql") two_tables
 schema_declared = declares (codes "schema.sql") small_files two_tables schema_found
 
-valid : IsValid two_tables
-valid = declares_valid schema_declared.text two_tables schema_declared.declares.is
+schema_is_valid : IsValid two_tables
+schema_is_valid = declares_valid schema_declared.text two_tables schema_declared.declares.is
 
-keeps : KeepsRules two_tables small_stats
-keeps =
-    let found : DatabaseFound two_tables pair small_rows =
-    database_found two_tables pair small_files small_rows valid (query_of_schema (codes "query.sql") small_files two_tables pair query_found) tables_found in
+stats_keep_rules : KeepsRules two_tables small_stats
+stats_keep_rules =
+    let found : DatabaseFound two_tables two_table_query small_rows =
+    database_found two_tables two_table_query small_files small_rows schema_is_valid (query_of_schema (codes "query.sql") small_files two_tables two_table_query query_found) tables_found in
     let tables : tables_of found.database ≡ tables_in small_rows = sym (ap tables_in found.rows_are ∙ found.tables_are) in
-    subst (KeepsRules two_tables) (ap (λ (t : Tables). file_of_query two_tables pair t 1) tables ∙ file_found)
-    (file_keeps two_tables pair found.database found.over 1 (omega arith) (omega arith))
+    subst (KeepsRules two_tables) (ap (λ (t : Tables). file_of_query two_tables two_table_query t 1) tables ∙ file_found)
+    (file_keeps two_tables two_table_query found.database found.over 1 (omega arith) (omega arith))
 
 file_read : stats_stage (codes "rs.stats") two_tables small_files ≡ Ok small_stats
 unfolding stats_stage
 file_read =
-    ap (λ (text : Result (List ℕ) Refusal). text >>= λ t. with_refusal stats_refusal (stats_answer two_tables t)) there
-    ∙ ap (λ (t : List ℕ). with_refusal stats_refusal (stats_answer two_tables t)) (sym text_is)
-    ∙ ap (with_refusal stats_refusal) (written two_tables small_stats valid (declared_bytes schema_declared.text two_tables schema_declared.declares.is) keeps)
+    ap (λ (text : Result (List ℕ) Refusal). text >>= λ t. with_refusal stats_refusal (stats_answer two_tables t)) stats_file_is_there
+    ∙ ap (λ (t : List ℕ). with_refusal stats_refusal (stats_answer two_tables t)) (sym text_of_stats_is)
+    ∙ ap (with_refusal stats_refusal) (written_file_is_read two_tables small_stats schema_is_valid (declared_bytes schema_declared.text two_tables schema_declared.declares.is) stats_keep_rules)
 
 section_found : section_stage (codes "R") two_tables small_stats ≡ Ok (section 0 6)
 unfolding section_stage
 section_found = refl
 
-new_read : rows_of_file (numbers_table (codes "R")) new_text ≡ Ok (rows_of (1 ∷ 4 ∷ []))
+new_rows_are_read : rows_of_file (numbers_table (codes "R")) new_text ≡ Ok (rows_of (1 ∷ 4 ∷ []))
 unfolding csv_on_literals strip_bom rows_of_file rows_in_records rows_under_header chars is_utf8 lib.Utf8.encode new_text
-new_read = refl
+new_rows_are_read = refl
 
 rows_found : rows_in 0 (numbers_table (codes "R")) (codes "new.csv") small_files ≡ Ok (rows_of (1 ∷ 4 ∷ []))
 unfolding new_text
-rows_found = ap (with_refusal (table_refusal 0)) new_read
+rows_found = ap (with_refusal (table_refusal 0)) new_rows_are_read
 
-few : grown_stage two_tables small_stats 0 6 (rows_of (1 ∷ 4 ∷ [])) ≡ Ok small_appended
+grown_within_limits : grown_stage two_tables small_stats 0 6 (rows_of (1 ∷ 4 ∷ [])) ≡ Ok small_appended
 unfolding grown_stage
-few = refl
+grown_within_limits = refl
 
 append_made : command_run (append_command (codes "schema.sql") new_rows) small_files ≡ Ok small_appended
 unfolding command_run append_run stats_run rows_run
@@ -162,10 +162,10 @@ append_made =
     ∙ ap (λ (stats : Result StatsFile Refusal). stats >>= λ f. stats_run new_rows two_tables f small_files) file_read
     ∙ ap (λ (found : Result TableStats Refusal). found >>= λ s. rows_run (codes "new.csv") two_tables small_stats s.table s.rows small_files) section_found
     ∙ ap (λ (rows : Result (List Row) Refusal). rows >>= grown_stage two_tables small_stats 0 6) rows_found
-    ∙ few
+    ∙ grown_within_limits
 
 pub append_verdict : verdict append_words small_files ≡ Ok small_appended
-append_verdict = asked_run append_words (append_command (codes "schema.sql") new_rows) append_asked ∙ append_made
+append_verdict = verdict_is_command_run append_words (append_command (codes "schema.sql") new_rows) append_asked ∙ append_made
 
 pub append_printed : out_text small_appended ≡ Some grown_text
 unfolding file_lines table_lines pair_lines runs_of digits cuts list_of_node rest r_cuts grown_r_stats s_stats grown_text

@@ -7,7 +7,7 @@ use Rattle.outcomes.specs.Errors.{plan_refusal, query_refusal, schema_refusal, t
 use Rattle.outcomes.specs.Reads.{◌>>=◌, with_refusal}
 use Rattle.outcomes.specs.declared.refusal.Refusal.{Refusal}
 use Rattle.outcomes.specs.declared.refusal.Refusal.TheVariants as refusal
-use Rattle.query_bounds.specs.Examples.{pair}
+use Rattle.query_bounds.specs.Examples.{two_table_query}
 use Rattle.query_types.specs.declared.types.Query.{Query}
 use Rattle.schema_types.specs.declared.types.Schema.{Schema}
 use Rattle.planning.specs.Examples.{r_column, s_column}
@@ -22,12 +22,12 @@ use Rattle.prepared_runs.specs.AcceptedQuery.{AcceptedQuery}
 use Rattle.safebound_words.specs.Commands.{over_query}
 use Rattle.safebound_words.specs.declared.command.Command.{Command}
 use Rattle.safebound_words.specs.declared.command.SchemaTask.TheVariants as aims
-use Rattle.safebound_words.specs.declared.command.QueryTask.TheVariants as works
+use Rattle.safebound_words.specs.declared.command.QueryTask.TheVariants as query_tasks
 use Rattle.prepared_runs.specs.Limits.{within_limit}
 use Rattle.prepared_runs.specs.RunOutcome.{Planned}
-use Rattle.prepared_runs.specs.Shapes.{shape_bytes}
 use Rattle.prepared_runs.specs.Verdict.{aim_run, command_run, command_stage, plan_asked, plan_stage, query_stage, run_asked, schema_stage, verdict, work_run}
-use Rattle.prepared_runs.specs.declared.shapes.AnyPlan.{AnyPlan}
+use Rattle.plans.specs.declared.bushy.BushyPlan.{BushyPlan}
+use Rattle.tree_rows.specs.Memory.{tree_bytes}
 use Rattle.safebound_words.specs.declared.command.ListSource.TheVariants as sources
 use Rattle.safebound_words.specs.declared.command.OutText.{OutText}
 use Rattle.safebound_words.specs.declared.command.OutText.TheVariants as out_text
@@ -47,7 +47,7 @@ abbrev task : OutText → Shape → ℕ → Option ℕ → PlanWork
 task out shape budget memory = record { terms = record { budget = budget; shape = shape; memory = memory }; accuracy = 1; source = sources.Columns; out = out }
 
 abbrev ask : OutText → Shape → ℕ → Option ℕ → Command
-ask out shape budget memory = over_query None (codes "schema.sql") (codes "query.sql") (works.Plan (task out shape budget memory))
+ask out shape budget memory = over_query None (codes "schema.sql") (codes "query.sql") (query_tasks.Plan (task out shape budget memory))
 
 -- ---- the words are read
 
@@ -63,17 +63,17 @@ tree_asked : command_stage tree_words ≡ Ok (ask out_text.Audit shapes.Tree 100
 unfolding command_of reading_of over_files parts_from kind_of_word number_of
 tree_asked = refl
 
-thrifty_asked : command_stage small_budget_words ≡ Ok (ask out_text.Rows shapes.Order 11 None)
+small_budget_asked : command_stage small_budget_words ≡ Ok (ask out_text.Rows shapes.Order 11 None)
 unfolding command_of reading_of over_files parts_from kind_of_word number_of
-thrifty_asked = refl
+small_budget_asked = refl
 
 limited_asked : command_stage limited_words ≡ Ok (ask out_text.Rows shapes.Order 1000000 (Some 531))
 unfolding command_of reading_of over_files parts_from kind_of_word number_of
 limited_asked = refl
 
-narrow_asked : command_stage small_memory_words ≡ Ok (ask out_text.Rows shapes.Order 1000000 (Some 530))
+small_memory_asked : command_stage small_memory_words ≡ Ok (ask out_text.Rows shapes.Order 1000000 (Some 530))
 unfolding command_of reading_of over_files parts_from kind_of_word number_of
-narrow_asked = refl
+small_memory_asked = refl
 
 -- ---- the files are read
 
@@ -81,7 +81,7 @@ pub schema_found : schema_stage (codes "schema.sql") small_files ≡ Ok two_tabl
 unfolding schema_stage schema_text
 schema_found = ap (with_refusal schema_refusal) schema_read
 
-pub query_found : query_stage (codes "query.sql") two_tables small_files ≡ Ok pair
+pub query_found : query_stage (codes "query.sql") two_tables small_files ≡ Ok two_table_query
 unfolding query_stage query_text
 query_found = ap (with_refusal query_refusal) query_read
 
@@ -93,25 +93,27 @@ s_found : file_rows 1 (numbers_table (codes "S")) small_files ≡ Ok (rows_of s_
 unfolding file_rows s_text
 s_found = ap (with_refusal (table_refusal 1)) s_read
 
-pub tables_found : tables_stage two_tables pair.from small_files ≡ Ok small_rows
+pub tables_found : tables_stage two_tables two_table_query.from small_files ≡ Ok small_rows
 unfolding tables_stage
 tables_found = rw (r_found, s_found) refl
 
 -- ---- the plan is made
 
 -- the run of a plan over the lists that were found
-found : (out : OutText) (shape : Shape) (memory : Option ℕ) (plan : AnyPlan) → run_asked (task out shape 1000000 memory) pair small_rows plan ≡ record {
-  query = pair;
+run_of_plan : (out : OutText) (shape : Shape) (memory : Option ℕ) (plan : BushyPlan) → run_asked (task out shape 1000000 memory) two_table_query small_rows plan ≡ record {
+  query = two_table_query;
   rows = small_rows;
+  shape = shape;
   plan = plan;
   source = sources.Columns;
   lists = small_lists;
   memory = memory;
   out = out;
 }
-found out shape memory plan = ap (λ (lists : List (List ℕ)). record {
-  query = pair;
+run_of_plan out shape memory plan = ap (λ (lists : List (List ℕ)). record {
+  query = two_table_query;
   rows = small_rows;
+  shape = shape;
   plan = plan;
   source = sources.Columns;
   lists = lists;
@@ -119,70 +121,70 @@ found out shape memory plan = ap (λ (lists : List (List ℕ)). record {
   out = out;
 }) lists_found
 
-made : (out : OutText) (shape : Shape) (memory : Option ℕ) (plan : AnyPlan) → plan_asked (task out shape 1000000 memory) two_tables pair (tables_in small_rows) ≡ Ok plan
-    → plan_stage (task out shape 1000000 memory) two_tables pair small_rows
-    ≡ within_limit memory (shape_bytes plan) (Planned (run_asked (task out shape 1000000 memory) pair small_rows plan))
+made : (out : OutText) (shape : Shape) (memory : Option ℕ) (plan : BushyPlan) → plan_asked (task out shape 1000000 memory) two_tables two_table_query (tables_in small_rows) ≡ Ok plan
+    → plan_stage (task out shape 1000000 memory) two_tables two_table_query small_rows
+    ≡ within_limit memory (tree_bytes plan) (Planned (run_asked (task out shape 1000000 memory) two_table_query small_rows plan))
 unfolding plan_stage
 made out shape memory plan is =
-    ap (λ (answer : Result AnyPlan PlanError). with_refusal plan_refusal answer
-    >>= λ plan. within_limit memory (shape_bytes plan) (Planned (run_asked (task out shape 1000000 memory) pair small_rows plan))) is
+    ap (λ (answer : Result BushyPlan PlanError). with_refusal plan_refusal answer
+    >>= λ plan. within_limit memory (tree_bytes plan) (Planned (run_asked (task out shape 1000000 memory) two_table_query small_rows plan))) is
 
 -- the plan as an order, tested against the limit of memory if there is one
 plan_within : (out : OutText) (memory : Option ℕ)
-    → plan_stage (task out shapes.Order 1000000 memory) two_tables pair small_rows ≡ within_limit memory 531 (Planned (two_tables_run out memory))
+    → plan_stage (task out shapes.Order 1000000 memory) two_tables two_table_query small_rows ≡ within_limit memory 531 (Planned (two_tables_run out memory))
 plan_within out memory =
-    let plan : AnyPlan = (two_tables_run out memory).plan in
-    made out shapes.Order memory plan plan_found ∙ ap (λ (run : AcceptedQuery). within_limit memory 531 (Planned run)) (found out shapes.Order memory plan)
+    let plan : BushyPlan = (two_tables_run out memory).plan in
+    made out shapes.Order memory plan plan_found ∙ ap (λ (run : AcceptedQuery). within_limit memory 531 (Planned run)) (run_of_plan out shapes.Order memory plan)
 
-plan_made : (out : OutText) → plan_stage (task out shapes.Order 1000000 None) two_tables pair small_rows ≡ Ok (Planned (two_tables_run out None))
+plan_made : (out : OutText) → plan_stage (task out shapes.Order 1000000 None) two_tables two_table_query small_rows ≡ Ok (Planned (two_tables_run out None))
 plan_made out = plan_within out None
 
-tree_made : (out : OutText) → plan_stage (task out shapes.Tree 1000000 None) two_tables pair small_rows ≡ Ok (Planned (two_tables_tree out None))
+tree_made : (out : OutText) → plan_stage (task out shapes.Tree 1000000 None) two_tables two_table_query small_rows ≡ Ok (Planned (two_tables_tree out None))
 tree_made out =
-    let plan : AnyPlan = (two_tables_tree out None).plan in
-    made out shapes.Tree None plan tree_found ∙ ap (λ (run : AcceptedQuery). Ok (Planned run)) (found out shapes.Tree None plan)
+    let plan : BushyPlan = (two_tables_tree out None).plan in
+    made out shapes.Tree None plan tree_found ∙ ap (λ (run : AcceptedQuery). Ok (Planned run)) (run_of_plan out shapes.Tree None plan)
 
-plan_too_dear : plan_stage (task out_text.Rows shapes.Order 11 None) two_tables pair small_rows ≡ Err (refusal.Budget 12)
+plan_too_dear : plan_stage (task out_text.Rows shapes.Order 11 None) two_tables two_table_query small_rows ≡ Err (refusal.Budget 12)
 unfolding plan_stage
-plan_too_dear = ap (λ (plan : Result AnyPlan PlanError). with_refusal plan_refusal plan
-    >>= λ plan. Ok (Planned (run_asked (task out_text.Rows shapes.Order 11 None) pair small_rows plan))) plan_refused
+plan_too_dear = ap (λ (plan : Result BushyPlan PlanError). with_refusal plan_refusal plan
+    >>= λ plan. Ok (Planned (run_asked (task out_text.Rows shapes.Order 11 None) two_table_query small_rows plan))) plan_refused
 
 -- ---- the stages are put together
 
-of_files : (work : PlanWork) → command_run (over_query None (codes "schema.sql") (codes "query.sql") (works.Plan work)) small_files ≡ plan_stage work two_tables pair small_rows
+of_files : (work : PlanWork) → command_run (over_query None (codes "schema.sql") (codes "query.sql") (query_tasks.Plan work)) small_files ≡ plan_stage work two_tables two_table_query small_rows
 unfolding command_run
 of_files work =
-    ap (λ (schema : Result Schema Refusal). schema >>= λ s. aim_run (aims.Query (codes "query.sql") (works.Plan work)) s small_files) schema_found
-    ∙ ap (λ (query : Result Query Refusal). query >>= λ q. work_run (works.Plan work) two_tables q small_files) query_found
-    ∙ ap (λ (rows : Result (List (List Row)) Refusal). rows >>= plan_stage work two_tables pair) tables_found
+    ap (λ (schema : Result Schema Refusal). schema >>= λ s. aim_run (aims.Query (codes "query.sql") (query_tasks.Plan work)) s small_files) schema_found
+    ∙ ap (λ (query : Result Query Refusal). query >>= λ q. work_run (query_tasks.Plan work) two_tables q small_files) query_found
+    ∙ ap (λ (rows : Result (List (List Row)) Refusal). rows >>= plan_stage work two_tables two_table_query) tables_found
 
 -- if the words are read as a command, their verdict is the run of this command
-pub asked_run : (words : List (List ℕ)) (command : Command) → command_stage words ≡ Ok command → verdict words small_files ≡ command_run command small_files
+pub verdict_is_command_run : (words : List (List ℕ)) (command : Command) → command_stage words ≡ Ok command → verdict words small_files ≡ command_run command small_files
 unfolding verdict
-asked_run words command asked = ap (λ (a : Result Command Refusal). a >>= λ a. command_run a small_files) asked
+verdict_is_command_run words command asked = ap (λ (a : Result Command Refusal). a >>= λ a. command_run a small_files) asked
 
-pub of_words : (words : List (List ℕ)) (work : PlanWork) → command_stage words ≡ Ok (over_query None (codes "schema.sql") (codes "query.sql") (works.Plan work))
-    → verdict words small_files ≡ plan_stage work two_tables pair small_rows
-of_words words work asked = asked_run words (over_query None (codes "schema.sql") (codes "query.sql") (works.Plan work)) asked ∙ of_files work
+pub verdict_is_plan_stage : (words : List (List ℕ)) (work : PlanWork) → command_stage words ≡ Ok (over_query None (codes "schema.sql") (codes "query.sql") (query_tasks.Plan work))
+    → verdict words small_files ≡ plan_stage work two_tables two_table_query small_rows
+verdict_is_plan_stage words work asked = verdict_is_command_run words (over_query None (codes "schema.sql") (codes "query.sql") (query_tasks.Plan work)) asked ∙ of_files work
 
--- the verdict on a plan from the tables; a plan from a statistics file is compared with it
-pub plan_alone : command_run (ask out_text.Nothing shapes.Order 1000000 None) small_files ≡ Ok (Planned (two_tables_run out_text.Nothing None))
-plan_alone = of_files (task out_text.Nothing shapes.Order 1000000 None) ∙ plan_made out_text.Nothing
+-- the verdict on a plan from the tables, with which a plan from a statistics file is compared
+pub plan_of_tables_verdict : command_run (ask out_text.Nothing shapes.Order 1000000 None) small_files ≡ Ok (Planned (two_tables_run out_text.Nothing None))
+plan_of_tables_verdict = of_files (task out_text.Nothing shapes.Order 1000000 None) ∙ plan_made out_text.Nothing
 
 pub run_verdict : verdict run_words small_files ≡ Ok (Planned (two_tables_run out_text.Rows None))
-run_verdict = of_words run_words (task out_text.Rows shapes.Order 1000000 None) run_is_asked ∙ plan_made out_text.Rows
+run_verdict = verdict_is_plan_stage run_words (task out_text.Rows shapes.Order 1000000 None) run_is_asked ∙ plan_made out_text.Rows
 
 pub audit_verdict : verdict audit_words small_files ≡ Ok (Planned (two_tables_run out_text.Audit None))
-audit_verdict = of_words audit_words (task out_text.Audit shapes.Order 1000000 None) audit_asked ∙ plan_made out_text.Audit
+audit_verdict = verdict_is_plan_stage audit_words (task out_text.Audit shapes.Order 1000000 None) audit_asked ∙ plan_made out_text.Audit
 
 pub tree_verdict : verdict tree_words small_files ≡ Ok (Planned (two_tables_tree out_text.Audit None))
-tree_verdict = of_words tree_words (task out_text.Audit shapes.Tree 1000000 None) tree_asked ∙ tree_made out_text.Audit
+tree_verdict = verdict_is_plan_stage tree_words (task out_text.Audit shapes.Tree 1000000 None) tree_asked ∙ tree_made out_text.Audit
 
-pub thrifty_verdict : verdict small_budget_words small_files ≡ Err (refusal.Budget 12)
-thrifty_verdict = of_words small_budget_words (task out_text.Rows shapes.Order 11 None) thrifty_asked ∙ plan_too_dear
+pub small_budget_verdict : verdict small_budget_words small_files ≡ Err (refusal.Budget 12)
+small_budget_verdict = verdict_is_plan_stage small_budget_words (task out_text.Rows shapes.Order 11 None) small_budget_asked ∙ plan_too_dear
 
 pub limited_verdict : verdict limited_words small_files ≡ Ok (Planned (two_tables_run out_text.Rows (Some 531)))
-limited_verdict = of_words limited_words (task out_text.Rows shapes.Order 1000000 (Some 531)) limited_asked ∙ plan_within out_text.Rows (Some 531)
+limited_verdict = verdict_is_plan_stage limited_words (task out_text.Rows shapes.Order 1000000 (Some 531)) limited_asked ∙ plan_within out_text.Rows (Some 531)
 
-pub narrow_verdict : verdict small_memory_words small_files ≡ Err (refusal.MemoryLimit 531)
-narrow_verdict = of_words small_memory_words (task out_text.Rows shapes.Order 1000000 (Some 530)) narrow_asked ∙ plan_within out_text.Rows (Some 530)
+pub small_memory_verdict : verdict small_memory_words small_files ≡ Err (refusal.MemoryLimit 531)
+small_memory_verdict = verdict_is_plan_stage small_memory_words (task out_text.Rows shapes.Order 1000000 (Some 530)) small_memory_asked ∙ plan_within out_text.Rows (Some 530)

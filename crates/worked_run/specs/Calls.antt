@@ -19,7 +19,7 @@ pub record Ended (call : Call) (s : Status) (note_text out_text : Option (List �
   pub notes : GrewWhole call.notes note_text
   pub out : GrewWhole call.out out_text
 
--- Take any call with these words, over a store that tells these files. Suppose that the headline theorem holds for it, and no device failed. Then it
+-- Take any call with these words, over a store that tells these files. If the headline theorem holds for the call and no device failed, the call
 -- ends with this status and these texts, or memory ran out
 abbrev pub EachCallEnds : Files → List (List ℕ) → Status → Option (List ℕ) → Option (List ℕ) → Type 0
 EachCallEnds files words s note_text out_text = (call : Call) → Headline call → call.words ≡ words → call.store.files ≡ Some files

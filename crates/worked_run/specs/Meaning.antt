@@ -5,8 +5,9 @@ use Rattle.csv_tables.specs.Rows.{Row}
 use Rattle.csv_tables.specs.Values.{Int}
 use Rattle.stats_file_of_query.specs.Pairs.{pair_in_table}
 use Rattle.plans.specs.Examples.{plan_of}
-use Rattle.tree_plans.specs.Examples.{join, plan_of as tree_of}
-use Rattle.query_bounds.specs.Examples.{pair}
+use Rattle.plans.specs.TreeExamples.{join, plan_of as tree_of}
+use Rattle.plans.specs.Orders.{tree_of_order}
+use Rattle.query_bounds.specs.Examples.{two_table_query}
 use Rattle.planning.specs.Examples.{r_column, s_column}
 use Rattle.stats_file.specs.declared.types.StatsFile.{StatsFile}
 use Rattle.stats_file.specs.declared.types.TableStats.{TableStats}
@@ -14,7 +15,7 @@ use Rattle.table_files.specs.EntryTables.{tables_in}
 use Rattle.table_files.specs.Examples.{two_tables}
 use Rattle.prepared_runs.specs.AcceptedQuery.{AcceptedQuery}
 use Rattle.prepared_runs.specs.RunOutcome.{Appended, StatsMade, RunOutcome}
-use Rattle.prepared_runs.specs.declared.shapes.AnyPlan.TheVariants as shaped
+use Rattle.safebound_words.specs.declared.command.Shape.TheVariants as shapes
 use Rattle.safebound_words.specs.declared.command.ListSource.{ListSource}
 use Rattle.safebound_words.specs.declared.command.ListSource.TheVariants as sources
 use Rattle.safebound_words.specs.declared.command.OutText.{OutText}
@@ -36,9 +37,10 @@ small_lists = (0 ∷ 1 ∷ 2 ∷ 3 ∷ 4 ∷ 5 ∷ []) ∷ (0 ∷ 1 ∷ 2 ∷ 3 
 -- one
 abbrev pub two_tables_run : OutText → Option ℕ → AcceptedQuery
 two_tables_run out memory = record {
-  query = pair;
+  query = two_table_query;
   rows = small_rows;
-  plan = shaped.OrderPlan (plan_of (1 ∷ 0 ∷ []) (6 ∷ 5 ∷ []) (5 ∷ 12 ∷ []));
+  shape = shapes.Order;
+  plan = tree_of_order (plan_of (1 ∷ 0 ∷ []) (6 ∷ 5 ∷ []) (5 ∷ 12 ∷ []));
   source = sources.Columns;
   lists = small_lists;
   memory = memory;
@@ -48,16 +50,17 @@ two_tables_run out memory = record {
 -- the accepted query with a plan as a tree: the node over R and S has bound 12
 abbrev pub two_tables_tree : OutText → Option ℕ → AcceptedQuery
 two_tables_tree out memory = record {
-  query = pair;
+  query = two_table_query;
   rows = small_rows;
-  plan = shaped.TreePlan (tree_of (join 0 1 12 ∷ []) (6 ∷ 5 ∷ []) 12);
+  shape = shapes.Tree;
+  plan = tree_of (join 0 1 12 ∷ []) (6 ∷ 5 ∷ []) 12;
   source = sources.Columns;
   lists = small_lists;
   memory = memory;
   out = out;
 }
 
--- the rows that remain after semi-joins: those with value 1
+-- the row numbers that remain after semi-joins: those of the rows with value 1
 abbrev pub reduced_lists : List (List ℕ)
 reduced_lists = (0 ∷ 1 ∷ 2 ∷ []) ∷ (0 ∷ 1 ∷ []) ∷ []
 
@@ -65,9 +68,10 @@ reduced_lists = (0 ∷ 1 ∷ 2 ∷ []) ∷ (0 ∷ 1 ∷ []) ∷ []
 -- and counting give the same bounds
 abbrev pub two_tables_reduced : ListSource → AcceptedQuery
 two_tables_reduced source = record {
-  query = pair;
+  query = two_table_query;
   rows = small_rows;
-  plan = shaped.OrderPlan (plan_of (1 ∷ 0 ∷ []) (3 ∷ 2 ∷ []) (2 ∷ 6 ∷ []));
+  shape = shapes.Order;
+  plan = tree_of_order (plan_of (1 ∷ 0 ∷ []) (3 ∷ 2 ∷ []) (2 ∷ 6 ∷ []));
   source = source;
   lists = reduced_lists;
   memory = None;
@@ -85,7 +89,7 @@ small_stats = record { accuracy = 1; tables = section 0 6 ∷ section 1 5 ∷ []
 
 -- the outcome of `stats`, and that of `append` after the rows 1 and 4 are appended to R
 abbrev pub small_stats_file : RunOutcome
-small_stats_file = StatsMade (record { schema = two_tables; query = pair; rows = small_rows; file = small_stats })
+small_stats_file = StatsMade (record { schema = two_tables; query = two_table_query; rows = small_rows; file = small_stats })
 
 abbrev pub small_appended : RunOutcome
 small_appended = Appended (record { schema = two_tables; table = 0; rows = rows_of (1 ∷ 4 ∷ []); file = file_after small_stats 0 (rows_of (1 ∷ 4 ∷ [])) })

@@ -23,29 +23,29 @@ new_text = codes "X\r\n1\r\n4\r\n"
 -- ---- a statistics file of both tables, as `stats` writes it at the usual accuracy
 
 -- the same line, `count` times
-abbrev pub times : ℕ → List ℕ → List ℕ
-times count line = concat (replicate count line)
+abbrev pub lines_repeated : ℕ → List ℕ → List ℕ
+lines_repeated count line = concat (replicate count line)
 
 -- The sections of R and S in the file. Each ends with 32 cuts and then the nodes. The nodes with 1 leaf come first, then those with 2 leaves, and so
 -- on up to the node with 32
 unfoldable pub r_cuts : List ℕ
-r_cuts = times 16 (codes "cut 1\n") ++ times 11 (codes "cut 2\n") ++ times 5 (codes "cut 3\n")
+r_cuts = lines_repeated 16 (codes "cut 1\n") ++ lines_repeated 11 (codes "cut 2\n") ++ lines_repeated 5 (codes "cut 3\n")
 
 unfoldable pub r_stats : List ℕ
 r_stats = codes "table x52 6\npair x58 x58\nwhole 3*2\nfrequent 1 3*1\nfrequent 2 2*1\nfrequent 3 1*1\nrest -\n" ++ r_cuts
-    ++ times 15 (codes "node -\n") ++ codes "node 3*1\n" ++ times 10 (codes "node -\n") ++ codes "node 2*1\n"
-    ++ times 4 (codes "node -\n") ++ codes "node 1*1\n"
-    ++ times 7 (codes "node -\n") ++ codes "node 3*1\n" ++ times 5 (codes "node -\n") ++ codes "node 2*1\nnode -\nnode 1*1\n"
-    ++ times 3 (codes "node -\n") ++ codes "node 3*1\nnode -\nnode -\nnode 2*1\nnode 1*1\n"
+    ++ lines_repeated 15 (codes "node -\n") ++ codes "node 3*1\n" ++ lines_repeated 10 (codes "node -\n") ++ codes "node 2*1\n"
+    ++ lines_repeated 4 (codes "node -\n") ++ codes "node 1*1\n"
+    ++ lines_repeated 7 (codes "node -\n") ++ codes "node 3*1\n" ++ lines_repeated 5 (codes "node -\n") ++ codes "node 2*1\nnode -\nnode 1*1\n"
+    ++ lines_repeated 3 (codes "node -\n") ++ codes "node 3*1\nnode -\nnode -\nnode 2*1\nnode 1*1\n"
     ++ codes "node -\nnode 3*1\nnode -\nnode 2*1 1*1\n" ++ codes "node 3*1\nnode 2*1 1*1\n" ++ codes "node 3*2\n"
 
 unfoldable pub s_stats : List ℕ
 s_stats = codes "table x53 5\npair x58 x58\nwhole 2*2 1*1\nfrequent 1 2*1\nfrequent 4 1*1\nfrequent 5 1*1\nfrequent 6 1*1\nrest -\n"
-    ++ times 13 (codes "cut 1\n") ++ times 7 (codes "cut 4\n") ++ times 6 (codes "cut 5\n") ++ times 6 (codes "cut 6\n")
-    ++ times 12 (codes "node -\n") ++ codes "node 2*1\n" ++ times 6 (codes "node -\n") ++ codes "node 1*1\n"
-    ++ times 5 (codes "node -\n") ++ codes "node 1*1\n" ++ times 5 (codes "node -\n") ++ codes "node 1*1\n"
-    ++ times 6 (codes "node -\n") ++ codes "node 2*1\nnode -\nnode -\nnode 1*1\nnode -\nnode -\nnode 1*1\nnode -\nnode -\nnode 1*1\n"
-    ++ times 3 (codes "node -\n") ++ codes "node 2*1\nnode 1*1\nnode -\nnode 1*1\nnode 1*1\n"
+    ++ lines_repeated 13 (codes "cut 1\n") ++ lines_repeated 7 (codes "cut 4\n") ++ lines_repeated 6 (codes "cut 5\n") ++ lines_repeated 6 (codes "cut 6\n")
+    ++ lines_repeated 12 (codes "node -\n") ++ codes "node 2*1\n" ++ lines_repeated 6 (codes "node -\n") ++ codes "node 1*1\n"
+    ++ lines_repeated 5 (codes "node -\n") ++ codes "node 1*1\n" ++ lines_repeated 5 (codes "node -\n") ++ codes "node 1*1\n"
+    ++ lines_repeated 6 (codes "node -\n") ++ codes "node 2*1\nnode -\nnode -\nnode 1*1\nnode -\nnode -\nnode 1*1\nnode -\nnode -\nnode 1*1\n"
+    ++ lines_repeated 3 (codes "node -\n") ++ codes "node 2*1\nnode 1*1\nnode -\nnode 1*1\nnode 1*1\n"
     ++ codes "node -\nnode 2*1\nnode 1*1\nnode 1*2\n" ++ codes "node 2*1\nnode 1*3\n" ++ codes "node 2*2 1*1\n"
 
 unfoldable pub stats_text : List ℕ
@@ -55,10 +55,10 @@ stats_text = codes "safebound-stats 1 1\n" ++ r_stats ++ s_stats ++ codes "end\n
 -- above the last cut, so it is counted in the last leaf
 unfoldable pub grown_r_stats : List ℕ
 grown_r_stats = codes "table x52 8\npair x58 x58\nwhole 4*2\nfrequent 1 4*1\nfrequent 2 2*1\nfrequent 3 1*1\nrest 1*1\n" ++ r_cuts
-    ++ times 15 (codes "node -\n") ++ codes "node 4*1\n" ++ times 10 (codes "node -\n") ++ codes "node 2*1\n"
-    ++ times 4 (codes "node -\n") ++ codes "node 2*1\n"
-    ++ times 7 (codes "node -\n") ++ codes "node 4*1\n" ++ times 5 (codes "node -\n") ++ codes "node 2*1\nnode -\nnode 2*1\n"
-    ++ times 3 (codes "node -\n") ++ codes "node 4*1\nnode -\nnode -\nnode 2*1\nnode 2*1\n"
+    ++ lines_repeated 15 (codes "node -\n") ++ codes "node 4*1\n" ++ lines_repeated 10 (codes "node -\n") ++ codes "node 2*1\n"
+    ++ lines_repeated 4 (codes "node -\n") ++ codes "node 2*1\n"
+    ++ lines_repeated 7 (codes "node -\n") ++ codes "node 4*1\n" ++ lines_repeated 5 (codes "node -\n") ++ codes "node 2*1\nnode -\nnode 2*1\n"
+    ++ lines_repeated 3 (codes "node -\n") ++ codes "node 4*1\nnode -\nnode -\nnode 2*1\nnode 2*1\n"
     ++ codes "node -\nnode 4*1\nnode -\nnode 3*1 1*1\n" ++ codes "node 4*1\nnode 3*1 1*1\n" ++ codes "node 4*2\n"
 
 unfoldable pub grown_text : List ℕ
@@ -83,7 +83,7 @@ audit_words = codes "audit" ∷ codes "schema.sql" ∷ codes "query.sql" ∷ []
 abbrev pub tree_words : List (List ℕ)
 tree_words = codes "audit" ∷ codes "schema.sql" ∷ codes "query.sql" ∷ codes "--bushy" ∷ []
 
--- `run` with a limit of memory that is just enough, and with one that is a byte too small
+-- `run` with a limit of memory that is just enough, and `run` with a limit that is one byte too small
 abbrev pub limited_words : List (List ℕ)
 limited_words = codes "run" ∷ codes "schema.sql" ∷ codes "query.sql" ∷ codes "--memory" ∷ codes "531" ∷ []
 
@@ -94,7 +94,7 @@ small_memory_words = codes "run" ∷ codes "schema.sql" ∷ codes "query.sql" �
 abbrev pub small_budget_words : List (List ℕ)
 small_budget_words = codes "run" ∷ codes "schema.sql" ∷ codes "query.sql" ∷ codes "--budget" ∷ codes "11" ∷ []
 
--- `run` over the rows that remain after semi-joins, and by counting over these rows
+-- `run` over reduced scans: with `--reduce`, and with `--count`
 abbrev pub reduced_words : List (List ℕ)
 reduced_words = codes "run" ∷ codes "schema.sql" ∷ codes "query.sql" ∷ codes "--reduce" ∷ []
 

@@ -21,7 +21,7 @@ pub fn joined()
         (Some (codes "X\r\n1\r\n1\r\n1\r\n1\r\n1\r\n1\r\n")) }
 {}
 
-/// `audit schema.sql query.sql`: level 1 has 5 rows, as many as its bound. Level 2 has 6 rows, half of its bound.
+/// `audit schema.sql query.sql`: level 1 has 5 rows, and its bound is 5. Level 2 has 6 rows, and its bound is 12.
 pub fn audited()
     ensures verdict { verdict audit_words small_files ≡ Ok (Planned (two_tables_run out_text.Audit None)) }
     ensures out { out_text_of (two_tables_run out_text.Audit None) ≡ Some (codes "level 1 S 5 5\nlevel 2 R 12 6\n") }

@@ -1,12 +1,12 @@
 //! How `stats`, `plan --stats` and `append` end over two small tables. Each contract is a theorem; the functions do nothing.
 ghost use Rattle.std.specs.Prelude.{◌≡◌, Ok, None, Some, codes};
 ghost use Rattle.base_io.specs.Files.{Files, file_of};
-ghost use Rattle.safebound_laws.specs.FileCalls.{Took};
+ghost use Rattle.safebound_laws.specs.FileCalls.{TookExactly};
 ghost use Rattle.safebound_laws.specs.FilePlans.{PlanHolds};
 ghost use Rattle.outcomes.specs.Reads.{mapped};
 ghost use Rattle.outcomes.specs.declared.status.Status.TheVariants as status;
 ghost use Rattle.prepared_runs.specs.Verdict.{verdict};
-ghost use Rattle.safebound_laws.specs.Printed.{printed};
+ghost use Rattle.safebound_laws.specs.Printed.{both_texts};
 ghost use Rattle.safebound_top.specs.Call.{Call};
 ghost use Rattle.safebound_top.specs.Headline.{Headline};
 ghost use Rattle.safebound_top.specs.OutcomeTexts.{out_text};
@@ -25,7 +25,7 @@ pub fn statistics_written()
 
 /// `plan schema.sql query.sql --stats rs.stats`: if the file has the bytes that `stats` writes, the plan is the plan over the tables.
 pub fn planned_from_a_file()
-    ensures printed { mapped printed (verdict from_file_words small_files)
+    ensures printed { mapped both_texts (verdict from_file_words small_files)
         ≡ Ok (Some (codes "scan R 6\nscan S 5\nlevel 1 S 5\nlevel 2 R 12\n"), None) }
     ensures call { EachCallEnds small_files from_file_words status.Done (Some (codes "scan R 6\nscan S 5\nlevel 1 S 5\nlevel 2 R 12\n")) None }
 {}
@@ -37,12 +37,12 @@ pub fn appended()
     ensures call { EachCallEnds small_files append_words status.Done None (Some grown_text) }
 {}
 
-/// The bytes alone connect two calls. Suppose that a call of `stats` over the small tables ends in Done, and its `out` took the bytes of the
+/// Only the bytes connect two calls. Suppose that a call of `stats` over the small tables ends in Done, and its `out` took the bytes of the
 /// statistics file. Suppose that a call of `plan --stats`, over any files, ends in Done. Suppose that these files have the same schema, and the
 /// statistics file among them has these bytes. Whatever query this call reads, its plan holds over the small tables.
 pub fn plans_from_these_bytes_hold()
     ensures { (made planned : Call) (files : Files) → Headline made → made.words ≡ stats_words → made.status ≡ status.Done
-        → made.store.files ≡ Some small_files → Took made.out stats_text
+        → made.store.files ≡ Some small_files → TookExactly made.out stats_text
         → Headline planned → planned.words ≡ from_file_words → planned.status ≡ status.Done → planned.store.files ≡ Some files
         → file_of files (codes "schema.sql") ≡ Some schema_text → file_of files (codes "rs.stats") ≡ Some stats_text
         → PlanHolds (stats_call made) (plan_call planned files) two_tables }

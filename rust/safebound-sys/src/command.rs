@@ -1,5 +1,5 @@
-//! The declarations of safebound_command.h, the whole program over files in memory. They are there with the feature `command`,
-//! which links libsafebound_command as well.
+//! The declarations of safebound_command.h, the whole program over files in memory. The feature `command` brings them, and
+//! links libsafebound_command as well.
 
 use core::ffi::c_char;
 
@@ -7,9 +7,9 @@ use core::ffi::c_char;
 #[repr(C)]
 #[derive(Clone, Copy, Debug)]
 pub struct safebound_text {
-    /// The first of them.
+    /// The first of these bytes.
     pub bytes: *const c_char,
-    /// How many.
+    /// How many bytes there are.
     pub length: usize,
 }
 
@@ -17,7 +17,7 @@ pub struct safebound_text {
 #[repr(C)]
 #[derive(Clone, Copy, Debug)]
 pub struct safebound_file {
-    /// The name by which the words of the command line ask for it, or a table's name in lower case and .csv.
+    /// The name that the words of the command line use, or a table's name in lower case and .csv.
     pub name: safebound_text,
     /// Its bytes.
     pub bytes: safebound_text,

@@ -1,5 +1,5 @@
-//! The declarations of SafeBound's header. What a call does, its ranges and its statuses stand there, in safebound.h; the
-//! crate `safebound` has the same calls without `unsafe`.
+//! The declarations of SafeBound's header. The header, safebound.h, says what each call does, and lists its ranges and
+//! statuses. The crate `safebound` has the same calls without `unsafe`.
 //!
 //! # Safety
 //!
@@ -19,11 +19,11 @@ pub use command::*;
 // Limits. tools/limits takes their numbers from the crate limits.
 /// The most entries of a query, for bounds and plans.
 pub const SAFEBOUND_MOST_ENTRIES: usize = 16;
-/// The most entries of a plan of which SafeBound's own engine tells the bytes.
+/// The most entries of a plan whose bytes in SafeBound's own engine can be computed.
 pub const SAFEBOUND_ENGINE_ENTRIES: usize = 12;
 /// The most equalities of a query.
 pub const SAFEBOUND_MOST_EQUALITIES: usize = 256;
-/// In how many turns a set is looked at, at most.
+/// In how many turns a set is bounded, at most.
 pub const SAFEBOUND_MOST_TURNS: usize = 16;
 /// The greatest accuracy.
 pub const SAFEBOUND_MOST_ACCURACY: u64 = 64;
@@ -33,10 +33,10 @@ pub const SAFEBOUND_MOST_ROWS: u64 = 1 << 48;
 pub const SAFEBOUND_MOST_BUDGET: u64 = 1 << 59;
 /// No bound is known. It also stands for every bound that 64 bits don't hold.
 pub const SAFEBOUND_NO_BOUND: u64 = u64::MAX;
-/// What the list of a column in which no row has a value has as `first`.
+/// The `first` of a column's list if no row has a value in the column.
 pub const SAFEBOUND_NO_VALUES: u64 = u64::MAX;
 
-/// What a call answers. It says what the number is that the call writes to `*detail`.
+/// The result of a call. It says what number the call writes to `*detail`.
 pub type safebound_status = u32;
 
 macro_rules! statuses {
@@ -86,7 +86,7 @@ pub const SAFEBOUND_SEMI_JOIN: u64 = 4;
 /// The rows of the left side that are not joined.
 pub const SAFEBOUND_ANTI_JOIN: u64 = 5;
 
-/// A number of keys, each of which stands in `degree` rows.
+/// `keys` different keys, each of which occurs in `degree` rows.
 #[repr(C)]
 #[derive(Clone, Copy, Debug, Default, PartialEq, Eq, Hash)]
 pub struct safebound_run {
@@ -146,7 +146,7 @@ pub struct safebound_join {
     pub bound: u64,
 }
 
-/// What a request for memory gives (safebound_memory.h): `at` is only looked at if `given` is true.
+/// The result of a request for memory (safebound_memory.h): `at` is only read if `given` is true.
 #[repr(C)]
 #[derive(Clone, Copy, Debug)]
 pub struct rattle_memory {

@@ -1,4 +1,4 @@
-//! The header's examples of calls over bounds. The crate `safebound` makes these calls over the bounds of a query alone.
+//! The header's examples of calls over bounds. The crate `safebound` makes these calls only over the bounds of a query.
 
 use safebound_sys::*;
 

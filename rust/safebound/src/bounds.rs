@@ -7,11 +7,11 @@ use safebound_sys as sys;
 use std::fmt;
 use std::sync::Arc;
 
-/// At most so many rows, or no bound, if 64 bits don't hold the number. No bound is the greatest, so that
+/// A bound of a number of rows. There is no bound if 64 bits don't hold the number. "No bound" is the greatest value, so
 /// `bound <= Bound::Rows(n)` is true only if at most n rows are promised.
 #[derive(Clone, Copy, Debug, PartialEq, Eq, Hash, PartialOrd, Ord)]
 pub enum Bound {
-    /// At most so many rows.
+    /// At most this many rows.
     Rows(u64),
     /// Nothing is known.
     NoBound,
@@ -49,12 +49,12 @@ impl fmt::Display for Bound {
 
 /// What `Bounds` are made of: the names of the entries, and a number for each set. Plans over these bounds share it.
 #[derive(Debug, PartialEq, Eq, Hash)]
-pub(crate) struct Known {
+pub(crate) struct SetBounds {
     entries: Vec<String>,
     numbers: Vec<u64>,
 }
 
-impl Known {
+impl SetBounds {
     /// The row bound of each entry.
     pub(crate) fn rows(&self) -> Vec<u64> {
         (0..self.entries.len()).map(|entry| self.numbers[1 << entry]).collect()
@@ -65,14 +65,14 @@ impl Known {
     }
 }
 
-/// The bounds of all sets of a query's entries: at most so many choices of one row of each entry of a set satisfy all
-/// equalities between them.
+/// The bounds of all sets of a query's entries. A choice has one row of each entry of a set. At most as many choices as the
+/// bound satisfy all equalities between these entries.
 #[derive(Clone, Debug, PartialEq, Eq, Hash)]
-pub struct Bounds(Arc<Known>);
+pub struct Bounds(Arc<SetBounds>);
 
 impl Bounds {
     pub(crate) fn new(entries: Vec<String>, numbers: Vec<u64>) -> Bounds {
-        Bounds(Arc::new(Known { entries, numbers }))
+        Bounds(Arc::new(SetBounds { entries, numbers }))
     }
 
     /// The names of the entries, in the query's order.
@@ -80,7 +80,7 @@ impl Bounds {
         &self.0.entries
     }
 
-    /// The bound of a set of entries by name; a name may come again.
+    /// The bound of a set of entries, which are given by name. A name may be repeated.
     ///
     /// ```
     /// # let query = safebound::Query::new().entry("film", 3).entry("person", 4);
@@ -102,7 +102,7 @@ impl Bounds {
 
     /// The bound of a set, given as the number whose bit i is 1 if entry i is in the set. The empty set has bound 1.
     ///
-    /// A search for a join order asks this for each set that it looks at. It reads a table and doesn't call the library.
+    /// A search for a join order calls this for each set that it looks at. The call only reads a stored number.
     ///
     /// ```
     /// # use safebound::{Bound, Query};
@@ -116,7 +116,7 @@ impl Bounds {
     ///
     /// # Panics
     ///
-    /// If a bit is of no entry.
+    /// If a bit is set that belongs to no entry.
     pub fn of_set(&self, set: usize) -> Bound {
         Bound::of_number(self.0.numbers[set])
     }
@@ -126,10 +126,10 @@ impl Bounds {
         self.0.numbers.iter().enumerate().map(|(set, &number)| (set, Bound::of_number(number)))
     }
 
-    /// The best left-deep order: the least greatest level, then the least sum of levels, then the first by the numbers of its
-    /// entries.
+    /// The best left-deep order: its greatest level is least. Among such orders it has the least sum of levels, and then it is
+    /// the first by the numbers of its entries.
     ///
-    /// `budget` is the most rows that the bound of a level may say, 0 to 2^59.
+    /// `budget` is the greatest bound that a level may have, from 0 to 2^59.
     ///
     /// # Errors
     ///
@@ -140,14 +140,14 @@ impl Bounds {
         Ok(Order {
             entries: levels.iter().map(|level| self.entries()[level.entry as usize].clone()).collect(),
             levels: levels.iter().map(|level| level.bound).collect(),
-            known: self.0.clone(),
+            bounds: self.0.clone(),
         })
     }
 
-    /// The best join tree of any shape: the least greatest bound of its joins, then their least sum. safebound.h says how ties
-    /// are decided.
+    /// The best join tree of any shape: the greatest bound of its joins is least, and among such trees the sum of their
+    /// bounds. safebound.h says how further ties are decided.
     ///
-    /// `budget` is the most rows that the bound of a join may say, 0 to 2^59.
+    /// `budget` is the greatest bound that a join may have, from 0 to 2^59.
     ///
     /// # Errors
     ///
@@ -160,11 +160,11 @@ impl Bounds {
             bound: node.bound,
         };
         let joins = joins.iter().map(join).collect();
-        Ok(Tree { entries: self.entries().to_vec(), joins, known: self.0.clone() })
+        Ok(Tree { entries: self.entries().to_vec(), joins, bounds: self.0.clone() })
     }
 
-    /// How many bytes the buffers of SafeBound's own engine take for an order of these entries. Each buffer counts with its
-    /// capacity times the size of an element, and each list of buffers with its own. The number is the same on every machine.
+    /// How many bytes the buffers of SafeBound's own engine take for an order of these entries. The number is the sum, over
+    /// all buffers and lists of buffers, of capacity times the size of an element. It is the same on every machine.
     ///
     /// ```
     /// # use safebound::Query;
@@ -184,7 +184,7 @@ impl Bounds {
         calls::memory(&self.0.rows(), &levels).map_err(Error::from_refusal)
     }
 
-    /// The same for a join tree of these entries.
+    /// How many bytes these buffers take for a join tree of these entries.
     ///
     /// # Errors
     ///
@@ -203,9 +203,10 @@ impl Bounds {
             set |= 1 << entry;
             (is_new && bound == self.0.numbers[set]).then_some(sys::safebound_level { entry: entry as u64, bound })
         };
-        let is_whole = order.known == self.0 && [order.entries.len(), order.levels.len()] == [self.entries().len(); 2];
+        let is_unchanged =
+            order.bounds == self.0 && [order.entries.len(), order.levels.len()] == [self.entries().len(); 2];
         let levels = order.entries.iter().zip(&order.levels).map(&mut level).collect::<Option<Vec<_>>>()?;
-        is_whole.then_some(levels)
+        is_unchanged.then_some(levels)
     }
 
     /// The joins of a tree, if these bounds made it and it wasn't changed.
@@ -214,12 +215,12 @@ impl Bounds {
         let mut node = |&Join { left, right, bound }: &Join| {
             let (one, other) = (*sets.get(left)?, *sets.get(right)?);
             sets.push(one | other);
-            let is_so = one & other == 0 && bound == self.0.numbers[one | other];
-            is_so.then_some(sys::safebound_join { left: left as u64, right: right as u64, bound })
+            let is_valid = one & other == 0 && bound == self.0.numbers[one | other];
+            is_valid.then_some(sys::safebound_join { left: left as u64, right: right as u64, bound })
         };
         let joins = tree.joins.iter().map(&mut node).collect::<Option<Vec<_>>>()?;
-        let is_whole =
-            tree.known == self.0 && tree.entries == self.entries() && sets.last() == Some(&(self.0.numbers.len() - 1));
-        is_whole.then_some(joins)
+        let is_unchanged =
+            tree.bounds == self.0 && tree.entries == self.entries() && sets.last() == Some(&(self.0.numbers.len() - 1));
+        is_unchanged.then_some(joins)
     }
 }

@@ -12,7 +12,7 @@ pub(crate) struct Refusal {
     pub(crate) detail: u64,
 }
 
-/// A type of which the library writes elements. It consists of plain numbers, so that any bytes are a right value.
+/// The type of elements that the library writes. It consists of plain numbers, so any bytes are a valid value.
 pub(crate) trait Element: Copy {}
 impl Element for u8 {}
 impl Element for u64 {}
@@ -20,12 +20,13 @@ impl Element for Run {}
 impl Element for sys::safebound_level {}
 impl Element for sys::safebound_join {}
 
-/// The elements that a call writes, with room for `room` elements, and for more if the library asks for more.
+/// Makes a call, and returns the elements that it writes. There is room for `room` elements, and for more if the library asks
+/// for more.
 ///
 /// # Safety
 ///
 /// The call gets pointers to the elements and to the detail, and the room. It has to hand them to a function of the library,
-/// with the pointers and lengths of slices that live.
+/// with pointers and lengths of slices that outlive the call.
 unsafe fn answer<E: Element>(
     mut room: usize,
     call: impl Fn(*mut E, usize, *mut u64) -> sys::safebound_status,
@@ -243,7 +244,7 @@ fn text(bytes: &[u8]) -> sys::safebound_text {
     sys::safebound_text { bytes: bytes.as_ptr().cast(), length: bytes.len() }
 }
 
-/// Runs a command line. Puts into both vectors what was written, as far as their capacity goes; they don't grow.
+/// Runs a command line. Both vectors get the text that was written, cut at their capacity; they don't grow.
 #[cfg(feature = "command")]
 pub(crate) fn command(words: &[&[u8]], files: &[(&[u8], &[u8])], out: &mut Vec<u8>, notes: &mut Vec<u8>) -> Ended {
     let words: Vec<_> = words.iter().map(|word| text(word)).collect();

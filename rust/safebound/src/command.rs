@@ -10,9 +10,9 @@ const GROWS: usize = 8;
 
 /// A command line of the program, over files in memory.
 ///
-/// The words are those of its command line, without its own name. A file has the name by which a word asks for it; a table's
-/// file has the table's name in lower case, and .csv. Both texts, the exit statuses and the limits are the program's:
-/// docs/USING.md and docs/ERRORS.md of the repository describe them.
+/// The words are those of the program's command line, without the program's name. Words name files, and a file has that name
+/// here. A table's file has the table's name in lower case, and .csv. Both texts, the exit statuses and the limits are the
+/// program's: docs/USING.md and docs/ERRORS.md of the repository describe them.
 ///
 /// ```
 /// use safebound::Command;
@@ -34,24 +34,24 @@ pub struct Command<'a> {
     files: Vec<(&'a [u8], &'a [u8])>,
 }
 
-/// What a run answers.
+/// The result of a run.
 #[derive(Clone, Debug, PartialEq, Eq, Hash)]
 pub struct Output {
     /// The program's exit status: 0 if the run is done.
     pub status: u32,
-    /// What it wrote on standard output.
+    /// The program's standard output.
     pub out: Vec<u8>,
-    /// What it wrote on standard error: the plan, or the line that says why there is none.
+    /// The program's standard error: the plan, or the line that says why there is no plan.
     pub notes: Vec<u8>,
 }
 
 impl<'a> Command<'a> {
-    /// A command line, as yet without files.
+    /// A command line without files.
     pub fn new<W: AsRef<[u8]> + ?Sized + 'a>(words: impl IntoIterator<Item = &'a W>) -> Command<'a> {
         Command { words: words.into_iter().map(AsRef::as_ref).collect(), files: Vec::new() }
     }
 
-    /// Adds a file. Of two with one name the first counts.
+    /// Adds a file. If two files have the same name, the first one is read.
     pub fn file<N, B>(mut self, name: &'a N, bytes: &'a B) -> Command<'a>
     where
         N: AsRef<[u8]> + ?Sized,
@@ -61,7 +61,7 @@ impl<'a> Command<'a> {
         self
     }
 
-    /// Runs it.
+    /// Runs the command line.
     ///
     /// # Errors
     ///

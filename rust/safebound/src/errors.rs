@@ -1,4 +1,4 @@
-//! What a call answers in place of a result, with the names of the query and not its numbers.
+//! Errors. They name the entries and columns of a query, not their numbers.
 
 use crate::calls::Refusal;
 use crate::lists::Run;
@@ -34,14 +34,14 @@ pub enum WrongRun {
     NoDegree,
     /// Its number of keys is 0.
     NoKeys,
-    /// Its degree is above the one before it.
+    /// Its degree is above that of the run before it.
     Rises {
         /// The degree of the run before it.
         before: u64,
         /// Its own degree.
         degree: u64,
     },
-    /// With it the list sums to more than 2^48 rows.
+    /// The degrees up to this run sum to more than 2^48 rows.
     PastRows,
 }
 
@@ -72,7 +72,7 @@ impl WrongRun {
 #[non_exhaustive]
 #[derive(Clone, Copy, Debug, PartialEq, Eq, Hash)]
 pub enum WrongList {
-    /// Its entry isn't there.
+    /// The query doesn't have its entry.
     UnknownEntry,
     /// It has no runs.
     NoRuns,
@@ -84,30 +84,30 @@ pub enum WrongList {
 #[non_exhaustive]
 #[derive(Clone, Copy, Debug, PartialEq, Eq, Hash)]
 pub enum WrongEquality {
-    /// An entry of it isn't there.
+    /// The query doesn't have one of its entries.
     UnknownEntry,
     /// Both sides are of one entry.
     OneEntry,
 }
 
-/// Why there is no result. Whatever it is, nothing has changed.
+/// Why there is no result. After each error nothing has changed.
 #[non_exhaustive]
 #[derive(Clone, Debug, PartialEq, Eq, Hash)]
 pub enum Error {
-    /// The best plan passes the budget.
+    /// The best plan exceeds the budget.
     BudgetExceeded {
-        /// The least budget that would do, in rows. It may be above 2^59, the greatest budget that is taken.
+        /// The least budget that would do, in rows. It may be above 2^59, the greatest budget that is accepted.
         least: u64,
     },
-    /// The work passes the limit.
+    /// The work exceeds the limit.
     WorkExceeded {
         /// The least limit that would do.
         least: u64,
     },
     /// Each plan has a part without a bound, or a number has more than 64 bits.
     PastBits,
-    /// There was too little memory in the library, or for what it answers. If Rust's own collections have too little, as for
-    /// the numbers of values or the names of a query, the program ends as usual.
+    /// There was too little memory in the library, or for its result. If Rust's own collections have too little memory, for
+    /// example for the names of a query, the program ends as usual.
     OutOfMemory,
 
     /// There are more than 2^48 keys.
@@ -136,17 +136,17 @@ pub enum Error {
         /// What is wrong with it.
         why: WrongRun,
     },
-    /// What two lists make has more than 2^48 rows.
+    /// The result of two lists has more than 2^48 rows.
     BadSum {
-        /// How many rows it has.
+        /// How many rows the result has.
         sum: u64,
     },
-    /// A query has no entry, or more than twelve.
+    /// A query has no entry, or more than sixteen.
     BadEntries {
         /// How many.
         count: usize,
     },
-    /// Two entries of a query have one name.
+    /// Two entries of a query have the same name.
     RepeatedEntry {
         /// That name.
         entry: String,
@@ -198,11 +198,11 @@ pub enum Error {
         /// What it is.
         budget: u64,
     },
-    /// The order or the tree isn't a plan over these bounds: others made it, or its entries, nodes or numbers were changed.
+    /// The order or the tree isn't a plan over these bounds. Other bounds made it, or it was changed since it was made.
     BadPlan,
-    /// The library answers a status that this crate doesn't know, so it is of another version.
+    /// The library returned a status that this crate doesn't know, so the library has another version.
     OtherVersion {
-        /// The status that it answered.
+        /// The status that it returned.
         status: u32,
     },
 }

@@ -14,9 +14,9 @@ pub enum JoinKind {
     Right,
     /// The full outer join.
     Full,
-    /// The rows of the left side that are joined, as EXISTS keeps them.
+    /// The rows of the left side that have a match, as EXISTS keeps them.
     Semi,
-    /// The rows of the left side that are not joined, as NOT EXISTS keeps them.
+    /// The rows of the left side that have no match, as NOT EXISTS keeps them.
     Anti,
 }
 
@@ -32,11 +32,13 @@ impl JoinKind {
     }
 }
 
-/// How many rows an outer join, a semi-join or an anti-join has at most. For an outer join that is the sum of `inner` and of the
-/// bound of each side that it keeps whole. For a semi-join it is the lesser of `inner` and `left`, and for an anti-join `left`.
+/// How many rows an outer join, a semi-join or an anti-join has at most. For an outer join that is `inner` plus the bound of
+/// each side of which the join keeps every row. For a semi-join it is the lesser of `inner` and `left`, and for an anti-join
+/// `left`.
 ///
 /// `inner` is a bound of the inner join of both sides by the same condition. `left` and `right` are bounds of all rows of the
-/// sides: an outer join and an anti-join keep rows that their own condition (ON) leaves out, even if it names that side alone.
+/// sides. A condition in ON that names only one side mustn't lower them: an outer join and an anti-join keep rows that fail
+/// it.
 ///
 /// ```
 /// use safebound::{joined_rows, Bound, JoinKind};

@@ -5,15 +5,15 @@ use crate::errors::Error;
 use std::collections::HashMap;
 use std::hash::Hash;
 
-/// A number of keys of a column, each of which stands in `degree` rows.
+/// `keys` different values of a column, each of which occurs in `degree` rows.
 ///
 /// A list of runs says how often the values of a column repeat, the most frequent first: (5, 1), (2, 3) is one value in five
-/// rows and three values in two rows each. A list is right if each number is at least 1, no degree is above the one before
+/// rows and three values in two rows each. A list is valid if each number is at least 1, no degree is above the one before
 /// it, and all degrees sum to at most 2^48.
 #[repr(C)]
 #[derive(Clone, Copy, Debug, Default, PartialEq, Eq, Hash, PartialOrd, Ord)]
 pub struct Run {
-    /// In how many rows each key stands.
+    /// In how many rows each key occurs.
     pub degree: u64,
     /// How many keys there are.
     pub keys: u64,
@@ -26,10 +26,11 @@ impl From<(u64, u64)> for Run {
     }
 }
 
-/// The degree sequence of a column: how often each of its values stands there.
+/// The degree sequence of a column: how many rows have each of its values.
 ///
 /// `values` are the column's values, one for each row that has one, in any order. Rows without a value (NULL) are left out:
-/// of a column of `Option`s give `column.iter().flatten()`. Floats aren't `Eq`: give each its bits, and one zero and one NaN.
+/// for a column of `Option`s give `column.iter().flatten()`. Floats aren't `Eq`: give the bits of each float, with the same
+/// bits for both zeros and for all NaNs.
 ///
 /// The runs have different degrees, which sum to the number of values.
 ///
@@ -72,10 +73,10 @@ pub fn degree_sequence_of_keys(keys: &[u64]) -> Result<Vec<Run>, Error> {
     calls::degrees(keys, room).map_err(Error::from_refusal)
 }
 
-/// Few runs that dominate a list, so that bounds over them stay true and are computed fast.
+/// A few runs that dominate a list. Bounds over them are valid, and are computed faster.
 ///
-/// The sum of the list is kept. At `accuracy` K, from 1 to 64, each degree is at most (K + 1) / K times the list's degree at
-/// the same rank. There are at most K times as many runs as the first degree has binary digits, and one more.
+/// The runs sum to as many rows as the list. At `accuracy` K, from 1 to 64, each degree is at most (K + 1) / K times the list's
+/// degree at the same rank. There are at most K times as many runs as the first degree has binary digits, and one more.
 ///
 /// ```
 /// use safebound::{compress, Run};
@@ -135,9 +136,9 @@ pub fn lesser(runs: &[Run], others: &[Run]) -> Result<Vec<Run>, Error> {
     calls::lesser(runs, others).map_err(|refusal| Error::of_lists(refusal, runs, others))
 }
 
-/// A list for the rows of any one of two values, whichever it is, from a list of the rows of each value.
+/// A list for the rows of any one of two values, from a list of the rows of each value.
 ///
-/// It is the greater degree at each rank. For the rows of both values together take [`append`].
+/// It has the greater degree at each rank. For the rows of both values together take [`append`].
 ///
 /// ```
 /// use safebound::{greater, Run};
@@ -155,8 +156,8 @@ pub fn greater(runs: &[Run], others: &[Run]) -> Result<Vec<Run>, Error> {
     calls::greater(runs, others).map_err(|refusal| Error::of_lists(refusal, runs, others))
 }
 
-/// A list that is cut at a number of rows. It dominates any rows that the list dominates, if there are at most so many of them.
-/// Its degrees are those of the list as far as they sum to that number, and then what is left of it.
+/// A list that is cut at a number of rows. It dominates any rows that the list dominates, if there are at most that many.
+/// It has the list's degrees while their sum is within that number, and then one degree for the rest of the number.
 ///
 /// ```
 /// use safebound::{cut, Run};

@@ -1,6 +1,6 @@
 //! The best plans over bounds.
 
-use crate::bounds::Known;
+use crate::bounds::SetBounds;
 use std::fmt;
 use std::sync::Arc;
 
@@ -10,10 +10,10 @@ use std::sync::Arc;
 pub struct Order {
     /// The entries in the order in which they are joined.
     pub entries: Vec<String>,
-    /// A bound for each entry with those before it.
+    /// For each entry, the bound of this entry and all before it.
     pub levels: Vec<u64>,
     /// The bounds over which it is a plan.
-    pub(crate) known: Arc<Known>,
+    pub(crate) bounds: Arc<SetBounds>,
 }
 
 impl Order {
@@ -34,8 +34,8 @@ pub struct Join {
     pub bound: u64,
 }
 
-/// A join tree over n entries. The nodes 0 to n - 1 are `entries`, and node n + i is `joins[i]`; each join stands behind those
-/// below it, and the last is the root. The tree knows the bounds over which it is a plan.
+/// A join tree over n entries. The nodes 0 to n - 1 are `entries`, and node n + i is `joins[i]`. Each join comes after the
+/// joins below it, and the last join is the root. The tree knows the bounds over which it is a plan.
 #[derive(Clone, PartialEq, Eq, Hash)]
 pub struct Tree {
     /// The entries in the query's order.
@@ -43,7 +43,7 @@ pub struct Tree {
     /// The joins, one fewer than entries.
     pub joins: Vec<Join>,
     /// The bounds over which it is a plan.
-    pub(crate) known: Arc<Known>,
+    pub(crate) bounds: Arc<SetBounds>,
 }
 
 impl Tree {
@@ -55,7 +55,7 @@ impl Tree {
     /// # Ok::<(), safebound::Error>(())
     /// ```
     pub fn cost(&self) -> u64 {
-        self.joins.iter().map(|join| join.bound).max().unwrap_or_else(|| self.known.rows()[0])
+        self.joins.iter().map(|join| join.bound).max().unwrap_or_else(|| self.bounds.rows()[0])
     }
 
     /// The tree from its root.
@@ -85,7 +85,7 @@ impl Tree {
 pub enum Shape<'a> {
     /// A leaf: an entry's name.
     Entry(&'a str),
-    /// What is joined, left and right.
+    /// The two shapes that are joined, left and right.
     Join(Box<Shape<'a>>, Box<Shape<'a>>),
 }
 

@@ -1,4 +1,4 @@
-//! Queries: what is known of their rows.
+//! Queries, given by what is known of their rows.
 
 use crate::bounds::{Bound, Bounds};
 use crate::calls::{self, Numbers, Refusal};
@@ -8,14 +8,14 @@ use crate::plans::{Order, Tree};
 use safebound_sys as sys;
 use std::collections::HashMap;
 
-/// The number for an entry that isn't there. The library refuses it, after what its checks find before.
+/// The number of an entry that the query doesn't have. The library refuses this number, if its earlier checks find no fault.
 const NO_ENTRY: u32 = u32::MAX;
 
 /// A query of up to sixteen entries, by what is known of their rows: the entries with their row bounds, the equalities, and a
 /// list for each column that an equality names.
 ///
-/// Other conditions aren't given. A condition on one entry shows in its row bound and its lists, and a condition that is left
-/// out makes no bound too low. If something isn't right, [`bounds`](Query::bounds) answers an error.
+/// Other conditions aren't given. A condition on one entry may lower its row bound and its lists; leaving out a condition makes
+/// no bound too low. If a value isn't valid, [`bounds`](Query::bounds) returns an error.
 ///
 /// Each method that adds a part takes the query and gives it back, so that a query is made in one expression. In a loop write
 /// `query = query.entry(..)`.
@@ -46,15 +46,15 @@ impl Query {
         Query::default()
     }
 
-    /// One more entry, and how many rows it has at most: 0 to 2^48. A table that is joined with itself is two entries.
+    /// Adds an entry, and how many rows it has at most: 0 to 2^48. A table that is joined with itself is two entries.
     ///
-    /// The row bound is no estimate: each bound rests on it. The number of rows of the table is always right.
+    /// The row bound must not be an estimate, since each bound rests on it. The table's number of rows is always valid.
     pub fn entry(mut self, name: impl Into<String>, row_bound: u64) -> Query {
         self.entries.push((name.into(), row_bound));
         self
     }
 
-    /// One more equality, of columns of two different entries; at most 256.
+    /// Adds an equality between columns of two different entries. A query has at most 256 equalities.
     pub fn equality(mut self, left: impl Into<Column>, right: impl Into<Column>) -> Query {
         self.equalities.push((left.into(), right.into()));
         self
@@ -64,9 +64,9 @@ impl Query {
     /// [`compress`](crate::compress) and [`append`](crate::append) give them.
     ///
     /// If the list sums to less than the entry's row bound, the other rows are taken for rows without a value, which join with
-    /// nothing. If it sums to more, it is cut there, so that the list of a whole table serves for some of its rows. A list
-    /// without runs is taken for forgotten, unless the row bound is 0: for a column in which no row has a value there is
-    /// [`no_values`](Query::no_values).
+    /// nothing. If it sums to more, it is cut there, so the list of a whole table serves for some of its rows. A list
+    /// without runs is refused unless the row bound is 0, since the caller may have forgotten to fill it. For a column in
+    /// which no row has a value there is [`no_values`](Query::no_values).
     pub fn list(mut self, column: impl Into<Column>, runs: &[Run]) -> Query {
         self.lists.push((column.into(), Some(runs.to_vec())));
         self
@@ -82,7 +82,7 @@ impl Query {
     ///
     /// # Errors
     ///
-    /// If a value isn't right, `BadEntries`, `RepeatedEntry`, `BadRows`, `BadEqualities`, `BadEquality`, `BadList`, `BadRun` or
+    /// If a value isn't valid, `BadEntries`, `RepeatedEntry`, `BadRows`, `BadEqualities`, `BadEquality`, `BadList`, `BadRun` or
     /// `MissingList`. [`Error::OutOfMemory`].
     pub fn bounds(&self) -> Result<Bounds, Error> {
         let names = self.names()?;
@@ -91,12 +91,12 @@ impl Query {
     }
 
     /// The bounds of all sets of entries, if the work is within a limit. The work is counted before it begins. Each set is
-    /// looked at in as many turns as it has equalities, but in one at least and in 16 at most. A turn counts 1, and 1 for each
-    /// run of both lists of each of the set's equalities.
+    /// bounded in as many turns as it has equalities, but in at least one and at most 16. The work of a turn is 1 plus the
+    /// number of runs in the two lists of each of the set's equalities.
     ///
     /// # Errors
     ///
-    /// [`Error::WorkExceeded`], and as `bounds`.
+    /// [`Error::WorkExceeded`], and the errors of `bounds`.
     pub fn bounds_within(&self, limit: u64) -> Result<Bounds, Error> {
         let names = self.names()?;
         let numbers = calls::bounds_within(&self.numbers(), limit).map_err(|refusal| self.error(refusal))?;
@@ -104,11 +104,11 @@ impl Query {
     }
 
     /// The bound of one set of entries: the same as [`bounds`](Query::bounds) has for it, but no other set is bounded. A name
-    /// may come again.
+    /// may be repeated.
     ///
     /// # Errors
     ///
-    /// [`Error::UnknownEntry`], and as `bounds`.
+    /// [`Error::UnknownEntry`], and the errors of `bounds`.
     pub fn bound_of<'a>(&self, names: impl IntoIterator<Item = &'a str>) -> Result<Bound, Error> {
         let entries = self.names()?;
         let mut set = 0;
@@ -132,7 +132,7 @@ impl Query {
         Ok(names)
     }
 
-    /// The best left-deep order: [`Bounds::best_order`]. If you want a tree too, ask [`bounds`](Query::bounds) once for both.
+    /// The best left-deep order: [`Bounds::best_order`]. If you want a tree too, call [`bounds`](Query::bounds) once for both.
     ///
     /// # Errors
     ///
@@ -164,7 +164,8 @@ impl Query {
         }
         for (column, runs) in &self.lists {
             let own = runs.as_deref().unwrap_or(&[]);
-            let first = if self.has_no_values(column, runs) { sys::SAFEBOUND_NO_VALUES } else { made.runs.len() as u64 };
+            let first =
+                if self.has_no_values(column, runs) { sys::SAFEBOUND_NO_VALUES } else { made.runs.len() as u64 };
             made.lists.push(sys::safebound_list {
                 entry: names.entry(column),
                 column: names.column(column),
@@ -176,7 +177,7 @@ impl Query {
         made
     }
 
-    /// Whether no row has a value in a column. In an entry without rows a list without runs isn't taken for forgotten.
+    /// Whether no row has a value in a column. In an entry without rows, a list without runs says so too.
     fn has_no_values(&self, column: &Column, runs: &Option<Vec<Run>>) -> bool {
         let is_empty = |entry: &(String, u64)| entry.0 == column.entry && entry.1 == 0;
         match runs {
@@ -185,7 +186,7 @@ impl Query {
         }
     }
 
-    /// What a refusal says, with the names of this query.
+    /// The error for a refusal, with the names of this query.
     fn error(&self, refusal: Refusal) -> Error {
         let at = refusal.detail as usize;
         match refusal.status {

@@ -1,5 +1,5 @@
 //! Random queries: the crate gets the same bounds, orders and trees as the C program library/tests/calls.c, which
-//! SAFEBOUND_CALLS names. Each query is written here for both, with other numbers for columns than the crate uses.
+//! SAFEBOUND_CALLS names. Each query is written for both. The C program gets other numbers of columns than the crate uses.
 
 use safebound::{append, compress, cut, degree_sequence_of_keys, greater, lesser, Bounds, Error, Query, Run};
 use std::io::Write;
@@ -11,7 +11,7 @@ const QUERIES: u64 = 400;
 struct Pick(u64);
 
 impl Pick {
-    /// A number from 0 to below `count`.
+    /// A number from 0 to `count` - 1.
     fn below(&mut self, count: usize) -> usize {
         self.0 = self.0.wrapping_add(0x9E37_79B9_7F4A_7C15);
         let mixed = (self.0 ^ (self.0 >> 30)).wrapping_mul(0xBF58_476D_1CE4_E5B9);
@@ -79,8 +79,8 @@ fn list_text(runs: &[Run]) -> String {
     format!("{}{pairs}", runs.len())
 }
 
-/// What the C program answers to each line: the status, the detail and the elements.
-fn asked(program: &str, lines: &[String]) -> Vec<Vec<u64>> {
+/// The C program's answer to each line: the status, the detail and the elements.
+fn answers_of(program: &str, lines: &[String]) -> Vec<Vec<u64>> {
     let mut child = Command::new(program).stdin(Stdio::piped()).stdout(Stdio::piped()).spawn().expect("the C program");
     let mut stdin = child.stdin.take().expect("its input");
     let text = lines.join("\n") + "\n";
@@ -142,7 +142,7 @@ fn bounds_and_plans() {
         lines.push(format!("tree {budget} 12 {}{all}", numbers.len()));
         wanted.push(tree_as_written(&bounds, budget));
     }
-    let answers = asked(&program, &lines);
+    let answers = answers_of(&program, &lines);
     assert_eq!(answers.len(), lines.len());
     for (line, (answer, expected)) in lines.iter().zip(answers.iter().zip(&wanted)) {
         assert_eq!(answer, expected, "{line}");
@@ -173,5 +173,5 @@ fn lists() {
         want(format!("cut {spread} 99 {}", list_text(&one)), cut(&one, spread as u64));
         want(format!("degrees 99 {}{keys_text}", keys.len()), degree_sequence_of_keys(&keys));
     }
-    assert_eq!(asked(&program, &lines), wanted);
+    assert_eq!(answers_of(&program, &lines), wanted);
 }

@@ -1,5 +1,5 @@
-//! A program's own functions for memory, with the archive linked. If a request is refused, the call answers that there was too
-//! little memory, or it does without and gives the whole answer. All memory is given back.
+//! A program's own functions for memory, with the archive linked. If a request is refused, the call returns that there was too
+//! little memory, or it does without that memory and returns the complete result. All memory is freed.
 #![cfg(target_os = "linux")]
 
 use safebound::{compress, degree_sequence_of_keys, Error, Query, Run};
@@ -52,7 +52,7 @@ unsafe extern "C" fn rattle_dealloc(at: *mut c_void) {
     unsafe { free(at) }
 }
 
-/// Makes a call with each of its requests refused in turn. Answers how often it said that there was too little memory.
+/// Makes a call with each of its requests refused in turn. Returns how often the call said that there was too little memory.
 fn refuse_each<T: PartialEq + std::fmt::Debug>(call: impl Fn() -> Result<T, Error>) -> usize {
     let counted = |refused| {
         REQUESTS.with(|requests| requests.set(0));

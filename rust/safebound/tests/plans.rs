@@ -1,5 +1,5 @@
-//! Plans belong to the bounds that made them: other bounds refuse to tell their memory, and so do the same bounds for plans that
-//! were changed.
+//! Plans belong to the bounds that made them. Other bounds refuse to compute the memory of such a plan. The same bounds refuse
+//! it for a plan that was changed.
 
 use safebound::{Bounds, Error, Query, Run};
 
@@ -12,13 +12,13 @@ fn joined(rows: [(&'static str, u64); 2], degree: u64) -> Query {
     query.list(("r", "x"), &[Run { degree, keys: 2 }]).list(("s", "x"), &[(2, 2), (1, 1)].map(Run::from))
 }
 
-/// What the bounds `of` answer for the memory of both plans over the bounds `plans`.
+/// The memory of both plans over the bounds `plans`, computed by the bounds `of`.
 fn memory(of: &Bounds, plans: &Bounds) -> Result<(Result<u64, Error>, Result<u64, Error>), Error> {
     let (order, tree) = (plans.best_order(1 << 59)?, plans.best_tree(1 << 59)?);
     Ok((of.memory_of_order(&order), of.memory_of_tree(&tree)))
 }
 
-/// The other plans take other numbers of bytes, though entries, places and even levels are the same.
+/// The other plans take other numbers of bytes, though their entries, their positions and even their levels are the same.
 #[test]
 fn of_other_bounds() -> Result<(), Error> {
     let own = joined([("r", 6), ("s", 5)], 3).bounds()?;

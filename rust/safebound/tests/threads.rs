@@ -1,4 +1,4 @@
-//! Several threads at once get what one gets.
+//! Several threads that run at the same time get the results that a single thread gets.
 
 use safebound::{degree_sequence_of_keys, Error, Order, Query, Run, Tree};
 use std::thread;
@@ -30,7 +30,7 @@ fn at_once() {
     });
 }
 
-/// What is made on one thread may be used on others.
+/// Values that are made on one thread may be used on others.
 #[test]
 fn shared() {
     fn is_shared<T: Send + Sync>() {}

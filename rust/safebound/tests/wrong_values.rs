@@ -13,7 +13,7 @@ fn runs<const N: usize>(pairs: [(u64, u64); N]) -> Vec<Run> {
 
 type Name = (&'static str, &'static str);
 
-/// Three entries in a chain, with what a test changes of it.
+/// A query of three entries in a chain, which a test may change.
 struct Chain {
     rows: Vec<(&'static str, u64)>,
     equalities: Vec<(Name, Name)>,
@@ -144,7 +144,7 @@ fn lists() {
         empty.lists[place].1.clear();
         let no_runs = Error::BadList { column: column.clone(), why: WrongList::NoRuns };
         assert_eq!(empty.error(), no_runs);
-        // Only an entry without rows has nothing to forget.
+        // Only for an entry without rows a list without runs is accepted.
         let other = empty.rows.iter().position(|(name, _)| *name != column.entry).expect("another entry");
         empty.rows[other].1 = 0;
         assert_eq!(empty.error(), no_runs);
@@ -155,7 +155,7 @@ fn lists() {
     }
 }
 
-/// The error names the run's list and its place there, even behind a list of an entry without rows.
+/// The error names the run's list and its place in this list, even if a list of an entry without rows comes before.
 #[test]
 fn runs_of_queries() {
     for (list, length) in [2, 1, 2, 1].into_iter().enumerate() {

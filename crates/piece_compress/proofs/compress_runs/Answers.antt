@@ -5,16 +5,16 @@ use Rattle.degree_sequences.proofs.CompressedLists.{compressed_dominates, sum-co
 use Rattle.degree_sequences.proofs.FewRuns.{compressed_is_short}
 use Rattle.piece_math.specs.Expanded.{expanded}
 use Rattle.piece_compress.specs.BinaryDigits.{binary_digits}
-use Rattle.piece_compress.proofs.DigitCounts.{digits_hold}
+use Rattle.piece_compress.proofs.DigitCounts.{below_power_of_digits}
 use Rattle.piece_compress.proofs.Growing.{growing_empty, growing_ended}
-use Rattle.piece_compress.proofs.GrowingRuns.{covered_small, degree_below, head_between, head_within, no_piece, positive, rank_at_end, room_for, rows_within, run_covered, run_skipped, runs_none}
+use Rattle.piece_compress.proofs.GrowingRuns.{covered_small, degree_below, head_between, head_within, no_piece, positive, rank_at_end, room_for_run, rows_within, run_covered, run_skipped, growing_runs_start}
 use Rattle.piece_compress.proofs.compress_runs.Goals.{then-covered-rows+in_ok-run, else-covered-rows, then-run-gt0+in_ok-finish, else-run-gt0}
 use Rattle.piece_compress.proofs.compress_runs.Goals as goal
 
 pub loop-equal-init : goal.loop-equal-init
 loop-equal-init c =
     rw c.empty-pieces.ensures
-    (runs_none c.args.accuracy c.pieces-runs.result.now c.first_degree-head.result
+    (growing_runs_start c.args.accuracy c.pieces-runs.result.now c.first_degree-head.result
     (c.first_degree-head.ensures ∙ ap (λ (s : List ℕ). get_or s 0 0) c.pieces-runs.ensures.stands_for))
 
 -- ---- no arithmetic overflows
@@ -84,7 +84,7 @@ extended-requires-clause-room c =
       arith,
       c.requires.small,
       ap sum c.pieces-runs.ensures.stands_for,
-      room_for c.args.accuracy c.pieces-runs.result.now c.loop-equal.equal-index c.loop-equal.pieces c.loop-equal.run.value c.loop-equal.run.count c.loop-equal.head c.loop-equal.rows c.loop-equal.covered c.pieces-runs.ensures.whole c.loop-equal-test.true c.loop-equal.invariant
+      room_for_run c.args.accuracy c.pieces-runs.result.now c.loop-equal.equal-index c.loop-equal.pieces c.loop-equal.run.value c.loop-equal.run.count c.loop-equal.head c.loop-equal.rows c.loop-equal.covered c.pieces-runs.ensures.whole c.loop-equal-test.true c.loop-equal.invariant
           c.head_after-head.result (c.loop-equal.rows + (get_or c.pieces-runs.result.now c.loop-equal.equal-index no_piece).value * (get_or c.pieces-runs.result.now c.loop-equal.equal-index no_piece).count) c.head_after-head.ensures refl
           c.div_ceil-times.result c.if-covered-rows.true c.div_ceil-times.ensures,
     )
@@ -154,4 +154,4 @@ returns-clause-near c = rw (returns-clause-compressed c) (compressed-near c.args
 pub returns-clause-few_pieces : goal.returns-clause-few_pieces
 returns-clause-few_pieces c =
     let f : List ℕ = c.args.falling.now in
-    rw (returns-clause-compressed c) (compressed_is_short c.args.accuracy c.value.ensures.range.0 f c.pieces-runs.ensures.list_falls c.pieces-runs.ensures.positive (binary_digits (get_or f 0 0)) (digits_hold (get_or f 0 0)))
+    rw (returns-clause-compressed c) (compressed_is_short c.args.accuracy c.value.ensures.range.0 f c.pieces-runs.ensures.list_falls c.pieces-runs.ensures.positive (binary_digits (get_or f 0 0)) (below_power_of_digits (get_or f 0 0)))

@@ -3,13 +3,13 @@ use Rattle.std.specs.List.{range_with_len, zip}
 use Rattle.cond_stats.specs.Leaves.{in_node}
 use Rattle.cond_stats.specs.Lists.{compressed_degrees, list_where}
 use Rattle.column_stats.proofs.NodeLists.{one_more_node}
-use Rattle.appended_stats.proofs.Walks.{keys_few}
+use Rattle.appended_stats.proofs.Walks.{fewer_keys_than}
 use Rattle.appended_stats.proofs.nodes.add_size.Goals as goal
 
 pub whole_list-requires : goal.whole_list-requires
 whole_list-requires c = record {
   rows =
-      keys_few (in_node c.args.size (c.args.size * c.loop-i.i)) c.args.leaves.now c.args.joined.now c.as_slice.result.now (2 ^ 32) c.requires.rows
+      fewer_keys_than (in_node c.args.size (c.args.size * c.loop-i.i)) c.args.leaves.now c.args.joined.now c.as_slice.result.now (2 ^ 32) c.requires.rows
       (c.as_slice.ensures.value ∙ c.in_ok-keys.ensures);
 }
 

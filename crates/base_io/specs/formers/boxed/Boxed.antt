@@ -1,4 +1,4 @@
--- Why a type may have a field that is a `Boxed` of the same type: a box holds one value, beside a pointer and an allocator.
+-- Why a type may contain a `Boxed` of itself: a box holds one value, a pointer and an allocator.
 use mathlib.Core.Path.{refl}
 use mathlib.Core.Former.{Former, this, const, pair, via}
 use base.Stored.{gnil}

@@ -2,7 +2,7 @@ use Rattle.std.proofs.Common.{arith}
 use Rattle.std.specs.Prelude.{IsSome}
 use Rattle.berge_tree.specs.declared.edges.Edge.{Edge}
 use Rattle.bound_fold.specs.Lists.{list_of}
-use Rattle.bound_fold.proofs.TestedSets.{AtBoth, edge_more, each_named, named_at}
+use Rattle.bound_fold.proofs.TestedSets.{AtBoth, edge_more, each_named_column, named_at}
 use Rattle.bench_fold.proofs.listed.all_have_lists.Goals as goal
 
 pub loop-edge-preserved : goal.loop-edge-preserved
@@ -12,7 +12,7 @@ loop-edge-preserved c =
     c.loop-edge-test.true
 
 pub returns : goal.returns
-returns c = each_named (λ entry column. IsSome (list_of c.args.lists.now entry column)) c.args.subset c.args.edges.now (λ k d low. c.loop-edge.invariant k d (omega arith))
+returns c = each_named_column (λ entry column. IsSome (list_of c.args.lists.now entry column)) c.args.subset c.args.edges.now (λ k d low. c.loop-edge.invariant k d (omega arith))
 
 pub returns-then-not-may_have_lists : goal.returns-then-not-may_have_lists
 returns-then-not-may_have_lists c = λ h.

@@ -4,11 +4,11 @@ use Rattle.berge_tree.proofs.Separate.{once_tree, one_side, pairs_from}
 use Rattle.berge_tree.proofs.Closed.{closed_tree}
 use Rattle.berge_tree.proofs.laws.a_tree_is_a_component.Goals as goal
 
-pub returns-clause-whole : goal.returns-clause-whole
-returns-clause-whole c = λ es t tree p q k e. closed_tree es t tree.columns tree.follows p q k e
+pub returns-clause-has_all_connected : goal.returns-clause-has_all_connected
+returns-clause-has_all_connected c = λ es t tree p q k e. closed_tree es t tree.columns tree.follows p q k e
 
-pub returns-clause-one_part : goal.returns-clause-one_part
-returns-clause-one_part c = λ es t closes tree side const. one_side es (has_no_cycle es closes) t tree.columns tree.follows side const
+pub returns-clause-has_no_unconnected : goal.returns-clause-has_no_unconnected
+returns-clause-has_no_unconnected c = λ es t closes tree side const. one_side es (has_no_cycle es closes) t tree.columns tree.follows side const
 
-pub returns-clause-once : goal.returns-clause-once
-returns-clause-once c = λ es t closes tree. pairs_from (entries t) (once_tree es (has_no_cycle es closes) t tree.columns tree.follows)
+pub returns-clause-entries_once : goal.returns-clause-entries_once
+returns-clause-entries_once c = λ es t closes tree. pairs_from (entries t) (once_tree es (has_no_cycle es closes) t tree.columns tree.follows)

@@ -1,6 +1,6 @@
 use Rattle.std.proofs.Common.{eqb, [], ◌∷◌, refl, arith, sym}
 use Rattle.std.proofs.lemmas.Bool.{false≢true}
-use Rattle.entry_sets.proofs.Listing.{rising}
+use Rattle.entry_sets.proofs.Listing.{increasing_with_front}
 use Rattle.berge_tree.specs.Examples.{four_entries}
 use Rattle.berge_tree.specs.Walk.{columns_of}
 use Rattle.berge_tree.proofs.Listing.{columns_are}
@@ -22,4 +22,4 @@ returns-clause-within c = (
 pub returns-clause-tree : goal.returns-clause-tree
 returns-clause-tree c =
     all_trees four_entries (returns-clause-closes c) (columns_of four_entries) (columns_are four_entries) (0 ∷ (1 ∷ (2 ∷ (3 ∷ [])))) 4 (returns-clause-within c) (omega arith, (omega arith, (omega arith, (omega arith, tt))))
-    (rising 0 (1 ∷ (2 ∷ (3 ∷ []))) (omega arith, (omega arith, (omega arith, tt))) (rising 1 (2 ∷ (3 ∷ [])) (omega arith, (omega arith, tt)) (rising 2 (3 ∷ []) (omega arith, tt) (rising 3 [] tt (λ k l. absurd (omega (arith, l)))))))
+    (increasing_with_front 0 (1 ∷ (2 ∷ (3 ∷ []))) (omega arith, (omega arith, (omega arith, tt))) (increasing_with_front 1 (2 ∷ (3 ∷ [])) (omega arith, (omega arith, tt)) (increasing_with_front 2 (3 ∷ []) (omega arith, tt) (increasing_with_front 3 [] tt (λ k l. absurd (omega (arith, l)))))))

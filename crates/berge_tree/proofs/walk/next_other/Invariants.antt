@@ -4,4 +4,4 @@ use Rattle.berge_tree.specs.Walk.{is_other_of_class}
 use Rattle.berge_tree.proofs.walk.next_other.Given as goal
 
 abbrev pub invariant-loop-i : goal.invariant-loop-i
-invariant-loop-i l = filter (is_other_of_class l.above) (drop l.i l.columns) ≡ filter (is_other_of_class l.above) (drop l.from l.columns)
+invariant-loop-i l = filter (is_other_of_class l.column_above) (drop l.i l.columns) ≡ filter (is_other_of_class l.column_above) (drop l.from l.columns)

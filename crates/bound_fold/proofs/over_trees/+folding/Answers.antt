@@ -7,7 +7,7 @@ use Rattle.berge_tree.specs.Boxed.{classes_of, members_of}
 use Rattle.tree_bounds.specs.Saturating.{saturated_class}
 use Rattle.tree_bounds.specs.TreeBounds.{child_lists, class_list}
 use Rattle.bound_fold.specs.Lists.{bounds_of}
-use Rattle.bound_fold.proofs.Below.{if_ok, found_list, found_small, listed_total, columns_total, lists_of_children, one_more_class, entry_done, class_done}
+use Rattle.bound_fold.proofs.Below.{if_ok, list_of_lookup, list_sum_fits, list_total, columns_total, lists_of_children, one_more_class, entry_done, class_done}
 use Rattle.bound_fold.proofs.over_trees.+folding.Goals as goal
 
 pub add_children-returns-in_ok-push-in-And : goal.add_children-returns-in_ok-push-in-And
@@ -17,7 +17,7 @@ add_children-returns-in_ok-push-in-And t c =
     c.add_children.result
     (λ u is. one_more_class (bounds_of c.args.lists.now) c.args.entry c.in-And.column (members_of c.in-And.members.value) (classes_of c.in-And.rest.value) c.args.children.now.items
     c.push.new.self.items c.add_children.new.children.items c.in_ok-column-in-And.column c.in_ok-class-in-And.class
-    (c.in_ok-column-in-And.ensures ∙ found_list c.list.result c.unwrap-list.result _ c.list.ensures c.unwrap-list.ensures)
+    (c.in_ok-column-in-And.ensures ∙ list_of_lookup c.list.result c.unwrap-list.result _ c.list.ensures c.unwrap-list.ensures)
     (c.in_ok-class-in-And.ensures ∙ ap (λ boxes. map saturated (class_list (bounds_of c.args.lists.now) (members_of boxes))) c.deref.ensures) c.in_ok-push-in-And.ensures.items
     (is ∙ ap (λ boxes. map lists_of c.push.new.self.items ++ map saturated_class (child_lists (bounds_of c.args.lists.now) c.args.entry (classes_of boxes))) c.deref-in-And.ensures)
     ∙ ap (λ boxes. map lists_of c.args.children.now.items ++ map saturated_class (child_lists (bounds_of c.args.lists.now) c.args.entry (classes_of boxes))) (sym c.in-And.is)) c.add_children.ensures
@@ -33,18 +33,18 @@ class_list-returns-in_ok-others-in-And t c =
 
 pub entry_list-own_list-requires : goal.entry_list-own_list-requires
 entry_list-own_list-requires t c =
-    found_small c.args.lists.now c.args.entry c.args.column c.unwrap-list.result.now (found_list c.list.result c.unwrap-list.result _ c.list.ensures c.unwrap-list.ensures) c.requires.own
+    list_sum_fits c.args.lists.now c.args.entry c.args.column c.unwrap-list.result.now (list_of_lookup c.list.result c.unwrap-list.result _ c.list.ensures c.unwrap-list.ensures) c.requires.own
 
 pub entry_list-compose-requires-clause-columns : goal.entry_list-compose-requires-clause-columns
 entry_list-compose-requires-clause-columns t c =
     columns_total c.args.lists.now c.args.entry (classes_of c.args.below.now) (sum c.unwrap-list.result.now) c.as_slice.result.now c.requires.others
     (lists_of_children (bounds_of c.args.lists.now) c.args.entry (classes_of c.args.below.now) c.new-children.result.items c.add_children.new.children.items c.as_slice.result.now c.as_slice.ensures.value
     c.in_ok-add_children-in-And.ensures c.new-children.ensures.items)
-    (sym (ap sum (found_list c.list.result c.unwrap-list.result _ c.list.ensures c.unwrap-list.ensures) ∙ listed_total c.args.lists.now c.args.entry c.args.column c.requires.own))
+    (sym (ap sum (list_of_lookup c.list.result c.unwrap-list.result _ c.list.ensures c.unwrap-list.ensures) ∙ list_total c.args.lists.now c.args.entry c.args.column c.requires.own))
 
 pub entry_list-compose-requires-clause-small : goal.entry_list-compose-requires-clause-small
 entry_list-compose-requires-clause-small t c =
-    found_small c.args.lists.now c.args.entry c.args.column c.unwrap-list.result.now (found_list c.list.result c.unwrap-list.result _ c.list.ensures c.unwrap-list.ensures) c.requires.own
+    list_sum_fits c.args.lists.now c.args.entry c.args.column c.unwrap-list.result.now (list_of_lookup c.list.result c.unwrap-list.result _ c.list.ensures c.unwrap-list.ensures) c.requires.own
 
 pub entry_list-returns-in_ok-add_children-in-And : goal.entry_list-returns-in_ok-add_children-in-And
 entry_list-returns-in_ok-add_children-in-And t c =
@@ -54,4 +54,4 @@ entry_list-returns-in_ok-add_children-in-And t c =
     (λ list is. entry_done (bounds_of c.args.lists.now) c.args.entry c.args.column (classes_of c.args.below.now) c.as_slice.result.now c.unwrap-list.result.now list
     (lists_of_children (bounds_of c.args.lists.now) c.args.entry (classes_of c.args.below.now) c.new-children.result.items c.add_children.new.children.items c.as_slice.result.now c.as_slice.ensures.value
     c.in_ok-add_children-in-And.ensures c.new-children.ensures.items)
-    (found_list c.list.result c.unwrap-list.result _ c.list.ensures c.unwrap-list.ensures) is) c.compose.ensures.value
+    (list_of_lookup c.list.result c.unwrap-list.result _ c.list.ensures c.unwrap-list.ensures) is) c.compose.ensures.value

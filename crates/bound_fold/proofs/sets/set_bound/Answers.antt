@@ -11,7 +11,7 @@ loop-turn-preserved c =
 
 pub returns-clause-exact : goal.returns-clause-exact
 returns-clause-exact c =
-    all_turns (bounds_of c.args.lists.now) c.args.parts.now.equalities c.args.subset c.loop-turn.turn c.turns-turn-end.result c.loop-turn.least c.turns-turn-end.ensures c.loop-turn.auto.turn
+    all_turns (bounds_of c.args.lists.now) c.args.parts.now.equalities c.args.subset c.loop-turn.turn c.count_turns-turn-end.result c.loop-turn.least c.count_turns-turn-end.ensures c.loop-turn.auto.turn
     c.loop-turn.auto.turn-end c.loop-turn-test.false c.loop-turn.invariant
 
 pub returns-clause-never_under : goal.returns-clause-never_under

@@ -6,13 +6,13 @@ use Rattle.berge_tree.specs.declared.tree.Tree.{Tree}
 use Rattle.berge_tree.specs.Boxed.{tree_of}
 use Rattle.tree_bounds.specs.TreeBounds.{bound_of_trees}
 use Rattle.bound_fold.specs.Lists.{bounds_of, TreeHasBounds}
-use Rattle.bound_fold.proofs.SetBounds.{trees_listed, turn_done}
+use Rattle.bound_fold.proofs.SetBounds.{trees_have_bounds, turn_done}
 use Rattle.bound_fold.proofs.sets.turn_bound.Goals as goal
 
 pub product_of_trees-requires : goal.product_of_trees-requires
 product_of_trees-requires c =
     subst (λ (trees : List Tree). AllByRecursion (TreeHasBounds c.args.lists.now) (map tree_of trees)) (sym c.as_slice-2.ensures)
-    (trees_listed c.args.parts.now.equalities c.args.subset c.args.turn c.as_slice.result.now (c.as_slice.ensures ∙ c.in_ok-edges.ensures.computed) (map tree_of c.in_ok-trees.trees)
+    (trees_have_bounds c.args.parts.now.equalities c.args.subset c.args.turn c.as_slice.result.now (c.as_slice.ensures ∙ c.in_ok-edges.ensures.computed) (map tree_of c.in_ok-trees.trees)
     c.in_ok-trees.ensures c.args.lists.now c.requires)
 
 pub returns : goal.returns

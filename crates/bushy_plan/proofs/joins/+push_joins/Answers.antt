@@ -1,12 +1,12 @@
 use Rattle.std.proofs.Common.{◌+◌, length, arith}
 use Rattle.bushy_plan.specs.declared.weight.Weighing.TheVariants as weight
-use Rattle.bushy_plan.proofs.Found.{few_numbers, read_leaf, read_node, room_behind, room_left}
+use Rattle.bushy_plan.proofs.Found.{numbers_below_limit, read_leaf, read_node, room_behind, room_left}
 use Rattle.bushy_plan.proofs.ReadingOff.{Light, first_of_sides, light_sides}
 use Rattle.bushy_plan.proofs.joins.+push_joins.Goals as goal
 
 pub returns-then-all_but_first-eq0 : goal.returns-then-all_but_first-eq0
 returns-then-all_but_first-eq0 t c =
-    read_leaf (weight.SumOfBoundsUpTo c.args.most) c.args.bounds.now c.args.count c.args.set c.first_entry.result c.args.joins.now.items c.first_entry.ensures
+    read_leaf (weight.SumIfBoundsAtMost c.args.most) c.args.bounds.now c.args.count c.args.set c.first_entry.result c.args.joins.now.items c.first_entry.ensures
     c.without_first-all_but_first.result c.without_first-all_but_first.ensures c.if-all_but_first-eq0.true
 
 pub push_joins-requires : goal.push_joins-requires
@@ -28,7 +28,7 @@ push_joins-requires t c =
                   c.requires.table,
                   (
                     light.left,
-                    room_left (weight.SumOfBoundsUpTo c.args.most) c.args.bounds.now c.args.table.now c.args.set (length c.args.bounds.now) c.first_right-right_set.result (length c.args.joins.now.items)
+                    room_left (weight.SumIfBoundsAtMost c.args.most) c.args.bounds.now c.args.table.now c.args.set (length c.args.bounds.now) c.first_right-right_set.result (length c.args.joins.now.items)
                         c.requires.set c.requires.table c.first_right-right_set.ensures.is_split c.requires.numbers,
                   ),
                 ),
@@ -58,7 +58,7 @@ push_joins-requires-2 t c =
                   c.requires.table,
                   (
                     light.right_side,
-                    room_behind (weight.SumOfBoundsUpTo c.args.most) c.args.bounds.now c.args.count c.args.set c.first_right-right_set.result c.args.joins.now.items c.push_joins.new.joins.items c.in_ok-left.left
+                    room_behind (weight.SumIfBoundsAtMost c.args.most) c.args.bounds.now c.args.count c.args.set c.first_right-right_set.result c.args.joins.now.items c.push_joins.new.joins.items c.in_ok-left.left
                         c.in_ok-left.ensures c.first_right-right_set.ensures.is_split c.requires.numbers,
                   ),
                 ),
@@ -74,7 +74,7 @@ overflow_cast-number t c =
     omega (
       arith,
       c.len.ensures,
-      few_numbers (weight.SumOfBoundsUpTo c.args.most) c.args.bounds.now c.args.count c.args.set c.first_right-right_set.result
+      numbers_below_limit (weight.SumIfBoundsAtMost c.args.most) c.args.bounds.now c.args.count c.args.set c.first_right-right_set.result
           c.args.joins.now.items c.push_joins.new.joins.items c.push_joins-2.new.joins.items c.in_ok-left.left c.in_ok-right.right
           c.in_ok-left.ensures c.in_ok-right.ensures c.first_right-right_set.ensures.is_split c.requires.numbers,
     )
@@ -85,14 +85,14 @@ overflow_add-number t c =
       arith,
       c.requires.count,
       c.len.ensures,
-      few_numbers (weight.SumOfBoundsUpTo c.args.most) c.args.bounds.now c.args.count c.args.set c.first_right-right_set.result
+      numbers_below_limit (weight.SumIfBoundsAtMost c.args.most) c.args.bounds.now c.args.count c.args.set c.first_right-right_set.result
           c.args.joins.now.items c.push_joins.new.joins.items c.push_joins-2.new.joins.items c.in_ok-left.left c.in_ok-right.right
           c.in_ok-left.ensures c.in_ok-right.ensures c.first_right-right_set.ensures.is_split c.requires.numbers,
     )
 
 pub returns : goal.returns
 returns t c =
-    read_node (weight.SumOfBoundsUpTo c.args.most) c.args.bounds.now c.args.count c.args.set c.first_right-right_set.result
+    read_node (weight.SumIfBoundsAtMost c.args.most) c.args.bounds.now c.args.count c.args.set c.first_right-right_set.result
     c.args.joins.now.items c.push_joins.new.joins.items c.push_joins-2.new.joins.items c.push.new.self.items c.in_ok-left.left c.in_ok-right.right (c.args.count + c.len.result)
     c.in_ok-left.ensures c.in_ok-right.ensures
     (first_of_sides c.args.most c.args.bounds.now c.args.table.now c.args.set (length c.args.bounds.now) c.first_right-right_set.result c.in_ok-left.ensures.tree c.in_ok-right.ensures.tree

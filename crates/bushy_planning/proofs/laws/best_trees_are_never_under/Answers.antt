@@ -12,9 +12,9 @@ pub returns-clause-scans : goal.returns-clause-scans
 returns-clause-scans c = stages.scans_kept
 
 pub returns-clause-nodes : goal.returns-clause-nodes
-returns-clause-nodes c = λ query tables lists sets scans budget plan node levels bound some few small made low.
-    stages.nodes_fit query tables lists sets scans budget plan bound some few made levels small node low
+returns-clause-nodes c = λ query tables lists sets scans budget plan node levels bound some within_limit budget_within_limit made node_in_range.
+    stages.nodes_fit query tables lists sets scans budget plan bound some within_limit made levels budget_within_limit node node_in_range
 
 pub returns-clause-over_lists : goal.returns-clause-over_lists
-returns-clause-over_lists c = λ query tables lists sets scans budget plan levels bound some few small few_rows made.
-    stages.over_lists query tables lists sets scans budget plan bound some few made levels small few_rows
+returns-clause-over_lists c = λ query tables lists sets scans budget plan levels bound some within_limit budget_within_limit few_rows made.
+    stages.over_lists query tables lists sets scans budget plan bound some within_limit made levels budget_within_limit few_rows

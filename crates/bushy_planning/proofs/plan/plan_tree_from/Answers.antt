@@ -1,9 +1,9 @@
-use Rattle.tree_answers.proofs.OneAnswer.{only}
+use Rattle.plan_answers.proofs.OneTreeAnswer.{no_other_result}
 use Rattle.bushy_planning.proofs.plan.plan_tree_from.Goals as goal
 
 pub returns : goal.returns
 returns c =
-    only c.args.known.now.sets c.args.known.now.scans c.args.budget c.choose_bushy.result c.requires.some c.requires.budget
+    no_other_result c.args.known.now.sets c.args.known.now.scans c.args.budget c.choose_bushy.result c.requires.some c.requires.budget
     (record {
       plan = c.choose_bushy.ensures.plan c.requires.few;
       best = c.choose_bushy.ensures.best;

@@ -1,7 +1,7 @@
 use Rattle.std.proofs.Common.{List, ℕ, ◌<◌, ◌+◌, length, get_or, subst, sym, ◌∙◌, arith, ap}
 use Rattle.std.proofs.lemmas.List.{length_push}
 use Rattle.cond_stats.specs.Runs.{IsLeafStart}
-use Rattle.cond_stats.proofs.InOrderFacts.{as_many, numbers_many}
+use Rattle.cond_stats.proofs.InOrderFacts.{as_many_places, as_many_numbers}
 use Rattle.cond_stats.proofs.LeafStarts.{starts-push}
 use Rattle.cond_stats.proofs.LeavesFound.{starts_found}
 use Rattle.cond_stats.proofs.cuts.leaf_starts.Goals as goal
@@ -14,6 +14,6 @@ loop-leaf-preserved c = (
 )
 
 pub returns : goal.returns
-returns c at_most column places rows in_runs = starts_found in_runs.order c.loop-leaf.starts.items (numbers_many in_runs.order)
+returns c at_most column places rows in_runs = starts_found in_runs.order c.loop-leaf.starts.items (as_many_numbers in_runs.order)
     (omega (arith, c.loop-leaf.invariant.0))
-    (λ leaf low. c.loop-leaf.invariant.1 in_runs.numbers places (numbers_many in_runs.order ∙ as_many in_runs.order ∙ rows) in_runs.runs_are leaf (omega arith))
+    (λ leaf is_below. c.loop-leaf.invariant.1 in_runs.numbers places (as_many_numbers in_runs.order ∙ as_many_places in_runs.order ∙ rows) in_runs.runs_are leaf (omega arith))

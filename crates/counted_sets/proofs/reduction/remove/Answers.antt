@@ -1,5 +1,5 @@
 use Rattle.std.proofs.Common.{arith, refl, sym, ◌∙◌, ◌≡◌, true, false, length, rules, subst}
-use Rattle.counted_sets.specs.Counts.{CountsAreRight}
+use Rattle.counted_sets.specs.Counts.{CountsAreCorrect}
 use Rattle.counted_sets.specs.Sets.{marked}
 use Rattle.counted_sets.proofs.Removing.{enough_left, not_marked, removed}
 use Rattle.counted_sets.proofs.reduction.remove.Goals as goal
@@ -17,6 +17,6 @@ lower_counts-requires-clause-enough c =
 pub returns-clause-counted : goal.returns-clause-counted
 returns-clause-counted c =
     let stands : c.get.result ≡ true = search rules in
-    subst (λ marks. CountsAreRight (length c.args.marks.now.items) (length c.args.counts.now.items) c.args.uses.now marks c.lower_counts.new.counts.items c.lower_counts.new.work) (sym c.set.ensures.items)
+    subst (λ marks. CountsAreCorrect (length c.args.marks.now.items) (length c.args.counts.now.items) c.args.uses.now marks c.lower_counts.new.counts.items c.lower_counts.new.work) (sym c.set.ensures.items)
     (removed (length c.args.marks.now.items) (length c.args.counts.now.items) c.args.uses.now c.args.marks.now.items c.args.counts.now.items c.lower_counts.new.counts.items c.args.work.now c.lower_counts.new.work c.args.item
     c.requires.counted c.requires.item (c.get.ensures false ∙ stands) c.lower_counts.ensures.length c.lower_counts.ensures.counts c.lower_counts.ensures.listed)

@@ -1,15 +1,15 @@
 use Rattle.std.proofs.Common.{◌≡◌, ◌∙◌, ap, arith}
 use Rattle.demo_files.specs.Files.{file_text, customer_records, table_records}
 use Rattle.demo_files.specs.Shop.{customer, customer_columns, customers}
-use Rattle.demo_files.proofs.RecordTexts.{one_more, only_names}
+use Rattle.demo_files.proofs.RecordTexts.{text_with_next_record, header_only}
 use Rattle.demo_files.proofs.tables.customer_csv.Goals as goal
 
 pub loop-i-init : goal.loop-i-init
-loop-i-init c = c.in_ok-file.ensures.items ∙ only_names customer_columns (customer c.args.number)
+loop-i-init c = c.in_ok-file.ensures.items ∙ header_only customer_columns (customer c.args.number)
 
 pub loop-i-preserved : goal.loop-i-preserved
 loop-i-preserved c =
-    one_more customer_columns (customer c.args.number) c.loop-i.i c.loop-i.file.items c.push_customer.new.file.items
+    text_with_next_record customer_columns (customer c.args.number) c.loop-i.i c.loop-i.file.items c.push_customer.new.file.items
     c.loop-i.invariant c.in_ok-push_customer.ensures
 
 pub returns : goal.returns

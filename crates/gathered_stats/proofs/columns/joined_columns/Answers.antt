@@ -5,5 +5,5 @@ use Rattle.gathered_stats.proofs.columns.joined_columns.Goals as goal
 
 pub loop-edge-preserved : goal.loop-edge-preserved
 loop-edge-preserved c =
-    pair_more c.args.entry c.args.equalities.now c.args.equalities.now c.loop-edge.edge-index no_edge c.loop-edge.columns c.add.new.columns c.add-in-loop-edge.new.columns
-    refl c.loop-edge-test.true c.loop-edge.invariant c.in_ok-add.ensures c.in_ok-add-2.ensures
+    pair_more c.args.entry c.args.equalities.now c.args.equalities.now c.loop-edge.edge-index no_edge c.loop-edge.columns c.add_joined_column.new.columns c.add_joined_column-in-loop-edge.new.columns
+    refl c.loop-edge-test.true c.loop-edge.invariant c.in_ok-add_joined_column.ensures c.in_ok-add_joined_column-2.ensures

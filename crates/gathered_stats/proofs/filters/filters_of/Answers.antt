@@ -6,8 +6,8 @@ pub loop-step-preserved : goal.loop-step-preserved
 loop-step-preserved c = (
   c.in_ok-add_filter.ensures.filters,
   serve_all c.loop-step.filters c.add_filter.new.filters c.args.steps.now c.loop-step.step-index c.step-item.result c.loop-step-test.true c.step-item.is
-      c.in_ok-add_filter.ensures.kept c.in_ok-add_filter.ensures.served c.loop-step.invariant.1,
+      c.in_ok-add_filter.ensures.kept c.in_ok-add_filter.ensures.has_column c.loop-step.invariant.1,
 )
 
-pub returns-clause-served : goal.returns-clause-served
-returns-clause-served c = all_items (HasFilterFor c.loop-step.filters) c.args.steps.now c.loop-step.step-index c.loop-step-test.false c.loop-step.invariant.1
+pub returns-clause-has_column : goal.returns-clause-has_column
+returns-clause-has_column c = all_items (HasFilterFor c.loop-step.filters) c.args.steps.now c.loop-step.step-index c.loop-step-test.false c.loop-step.invariant.1

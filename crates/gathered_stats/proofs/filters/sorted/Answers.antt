@@ -1,9 +1,9 @@
 use Rattle.std.proofs.Common.{refl, arith}
-use Rattle.gathered_stats.proofs.Asking.{as_many, read_cells, read_column, read_rows}
+use Rattle.gathered_stats.proofs.Asking.{columns_of_kinds, read_cells, read_column, read_rows}
 use Rattle.gathered_stats.proofs.filters.sorted.Goals as goal
 
 pub get-requires : goal.get-requires
-get-requires c = as_many c.args.pool.now c.args.cells.now c.requires.cells c.args.column c.requires.exists
+get-requires c = columns_of_kinds c.args.pool.now c.args.cells.now c.requires.cells c.args.column c.requires.exists
 
 pub new-requires-clause-cells : goal.new-requires-clause-cells
 new-requires-clause-cells c =

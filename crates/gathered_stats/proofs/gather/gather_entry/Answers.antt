@@ -1,15 +1,15 @@
-use Rattle.gathered_stats.proofs.Entries.{cells_sound, entry_gathered, steps_sound}
+use Rattle.gathered_stats.proofs.Entries.{cells_are_valid, entry_gathered, steps_ask_within}
 use Rattle.gathered_stats.proofs.gather.gather_entry.Goals as goal
 use Rattle.std.proofs.Common.{arith}
 
 pub filters_of-requires-clause-exist : goal.filters_of-requires-clause-exist
 filters_of-requires-clause-exist c =
-    steps_sound c.args.query.now c.args.db.now c.requires.database c.args.entry c.cells_in_entry-cells.result.now c.in_ok-steps.steps c.as_slice-steps.result.now c.cells_in_entry-cells.ensures
+    steps_ask_within c.args.query.now c.args.db.now c.requires.database c.args.entry c.cells_in_entry-cells.result.now c.in_ok-steps.steps c.as_slice-steps.result.now c.cells_in_entry-cells.ensures
     c.in_ok-steps.ensures c.as_slice-steps.ensures
 
 pub gather_columns-requires-clause-ready : goal.gather_columns-requires-clause-ready
 gather_columns-requires-clause-ready c = record {
-  cells = cells_sound c.args.query.now c.args.db.now c.requires.database c.args.entry c.cells_in_entry-cells.result.now c.requires.entry c.cells_in_entry-cells.ensures;
+  cells = cells_are_valid c.args.query.now c.args.db.now c.requires.database c.args.entry c.cells_in_entry-cells.result.now c.requires.entry c.cells_in_entry-cells.ensures;
   rows = omega (arith, c.row_count-rows.ensures, c.row_count-rows.type_inv);
   filters = c.in_ok-filters_of.ensures.filters;
 }

@@ -4,7 +4,7 @@ use Rattle.table_stats.proofs.Summing.{lists_sum}
 use Rattle.sql_meaning.specs.Tables.{tables_of}
 use Rattle.gathered_stats.specs.Asked.{AreGathered}
 use Rattle.gathered_stats.proofs.Entries.{one_gathered}
-use Rattle.gathered_stats.proofs.StatisticsOfTables.{all_told, their_lists}
+use Rattle.gathered_stats.proofs.StatisticsOfTables.{has_statistics, their_lists}
 use Rattle.gathered_stats.proofs.gather.gather_query.Goals as goal
 
 pub loop-entry-preserved : goal.loop-entry-preserved
@@ -15,9 +15,9 @@ pub returns : goal.returns
 returns c =
     let stats : QueryStats = record { entries = c.loop-entry.entries } in
     record {
-      tells = all_told c.args.query.now c.args.db.now c.args.accuracy c.requires.database c.characters_differ.ensures (their_lists c.args.db.now c.args.accuracy c.requires.database.tables c.characters_differ.ensures)
+      tells = has_statistics c.args.query.now c.args.db.now c.args.accuracy c.requires.database c.characters_differ.ensures (their_lists c.args.db.now c.args.accuracy c.requires.database.tables c.characters_differ.ensures)
           (λ entry column. lists_sum (tables_of c.args.db.now) c.args.accuracy entry column) stats
-          (λ entry low. c.loop-entry.invariant.each entry (omega (arith, low, c.loop-entry-test.false, c.len-entry-end.ensures)))
+          (λ entry is_below. c.loop-entry.invariant.each entry (omega (arith, is_below, c.loop-entry-test.false, c.len-entry-end.ensures)))
           (omega (arith, c.loop-entry.invariant.as_many, c.loop-entry-test.false, c.loop-entry.auto.entry-end, c.len-entry-end.ensures));
       gathered = subst (λ (n : ℕ). AreGathered c.args.query.now c.args.db.now c.args.accuracy n c.loop-entry.entries)
           (omega (arith, c.loop-entry-test.false, c.loop-entry.auto.entry-end, c.len-entry-end.ensures)) c.loop-entry.invariant;

@@ -15,7 +15,7 @@ returns-clause-columns c =
     (subst (λ (n : ℕ). IsPicked c.args.cells.now c.args.rows.now n c.in_ok-pick.field-0) (sym c.in_ok-pick.ensures.number) c.in_ok-pick.ensures)))
     c.push.ensures.ok
 
-pub returns-then-is_picked-clause-served : goal.returns-then-is_picked-clause-served
-returns-then-is_picked-clause-served c =
-    served_already c.args.columns.now c.as_slice.result.now c.args.step.now c.column_asked.result c.in-Some.column c.as_slice.ensures c.column_asked.ensures c.in-Some.is
+pub returns-then-is_picked-clause-has_column : goal.returns-then-is_picked-clause-has_column
+returns-then-is_picked-clause-has_column c =
+    served_already c.args.columns.now c.as_slice.result.now c.args.step.now c.compared_column.result c.in-Some.column c.as_slice.ensures c.compared_column.ensures c.in-Some.is
     (sym c.is_picked.ensures ∙ c.if-is_picked.true)

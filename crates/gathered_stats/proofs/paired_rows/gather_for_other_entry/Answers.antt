@@ -9,7 +9,7 @@ use Rattle.gathered_stats.proofs.paired_rows.gather_for_other_entry.Goals as goa
 pub gather_other-requires-clause-whole : goal.gather_other-requires-clause-whole
 gather_other-requires-clause-whole c =
     IfSome_then c.whole_of-whole.result c.whole_of-whole.ensures
-    (λ list is. is c.args.table.now.pool.now c.args.cells.now c.args.table.now.accuracy (c.requires.lists _ (c.requires.columns c.loop-column.column-index 0 c.loop-column-test.true)) c.requires.own)
+    (λ list is. is c.args.table.now.pool.now c.args.cells.now c.args.table.now.accuracy (c.requires.lists _ (c.requires.columns c.loop-column.column-index 0 c.loop-column-test.true)) c.requires.other_stats)
 
 pub loop-column-preserved : goal.loop-column-preserved
 loop-column-preserved c = (

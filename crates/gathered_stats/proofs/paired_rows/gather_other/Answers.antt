@@ -7,15 +7,15 @@ use Rattle.cond_stats.specs.Lists.{compressed_degrees}
 use Rattle.csv_tables.specs.declared.types.Cells.{Cells}
 use Rattle.gathered_stats.specs.Columns.{keys_in}
 use Rattle.gathered_stats.specs.ShownCells.{shown_cells}
-use Rattle.gathered_stats.proofs.Asking.{as_many}
-use Rattle.gathered_stats.proofs.Entries.{keys_there}
+use Rattle.gathered_stats.proofs.Asking.{columns_of_kinds}
+use Rattle.gathered_stats.proofs.Entries.{keys_are_cells}
 use Rattle.gathered_stats.proofs.Picking.{all_picked, column_beside, rows_read}
-use Rattle.gathered_stats.proofs.ShownCells.{rows_seen}
-use Rattle.gathered_stats.proofs.WholeLists.{whole_small}
+use Rattle.gathered_stats.proofs.ShownCells.{shown_if_given_rows}
+use Rattle.gathered_stats.proofs.WholeLists.{whole_list_within_limit}
 use Rattle.gathered_stats.proofs.paired_rows.gather_other.Goals as goal
 
 pub get-requires : goal.get-requires
-get-requires c = as_many c.args.table.now.pool.now c.args.cells.now c.requires.cells c.args.column c.requires.column
+get-requires c = columns_of_kinds c.args.table.now.pool.now c.args.cells.now c.requires.cells c.args.column c.requires.column
 
 pub picked-requires : goal.picked-requires
 picked-requires c =
@@ -26,30 +26,30 @@ pub list_steps_over-requires-clause-keys : goal.list_steps_over-requires-clause-
 list_steps_over-requires-clause-keys c =
     let all : c.args.rows.now ≡ range_with_len 0 (length c.as_slice-all.result.now) = c.is_each_row.ensures c.if-is_each_row.true in
     sym (ap (λ (s : List ℕ). length s) all ∙ length-range_with_len 0 (length c.as_slice-all.result.now))
-    ∙ c.requires.beside ∙ sym (ap (λ (cells : Cells). cells.rows) (rows_seen c.args.table.now c.requires.at_rows))
+    ∙ c.requires.beside ∙ sym (ap (λ (cells : Cells). cells.rows) (shown_if_given_rows c.args.table.now c.requires.at_rows))
 
 pub list_steps_over-requires-clause-whole : goal.list_steps_over-requires-clause-whole
 list_steps_over-requires-clause-whole c = λ asks.
     let given : c.in-Some.whole.now ≡ compressed_degrees c.args.table.now.accuracy (keys_in c.args.cells.now c.args.column) = MatchOption-at_some _ _ c.in-Some.whole c.in-Some.is c.requires.whole in
     given ∙ ap (compressed_degrees c.args.table.now.accuracy)
-    (sym (keys_there c.args.cells.now c.args.column c.get.result.now c.as_slice-all.result.now c.get.ensures c.as_slice-all.ensures))
+    (sym (keys_are_cells c.args.cells.now c.args.column c.get.result.now c.as_slice-all.result.now c.get.ensures c.as_slice-all.ensures))
 
 pub list_steps_over-requires-clause-rows : goal.list_steps_over-requires-clause-rows
 list_steps_over-requires-clause-rows c =
-    whole_small c.args.table.now.accuracy (shown_cells c.args.table.now).rows (keys_in c.args.cells.now c.args.column) c.as_slice-all.result.now c.in-Some.whole.now
-    (keys_there c.args.cells.now c.args.column c.get.result.now c.as_slice-all.result.now c.get.ensures c.as_slice-all.ensures) (list_steps_over-requires-clause-keys c)
+    whole_list_within_limit c.args.table.now.accuracy (shown_cells c.args.table.now).rows (keys_in c.args.cells.now c.args.column) c.as_slice-all.result.now c.in-Some.whole.now
+    (keys_are_cells c.args.cells.now c.args.column c.get.result.now c.as_slice-all.result.now c.get.ensures c.as_slice-all.ensures) (list_steps_over-requires-clause-keys c)
     c.requires.ready.rows (MatchOption-at_some _ _ c.in-Some.whole c.in-Some.is c.requires.whole)
 
 pub list_steps-requires-clause-keys : goal.list_steps-requires-clause-keys
 list_steps-requires-clause-keys c =
     let all : c.args.rows.now ≡ range_with_len 0 (length c.as_slice-all.result.now) = c.is_each_row.ensures c.if-is_each_row.true in
     sym (ap (λ (s : List ℕ). length s) all ∙ length-range_with_len 0 (length c.as_slice-all.result.now))
-    ∙ c.requires.beside ∙ sym (ap (λ (cells : Cells). cells.rows) (rows_seen c.args.table.now c.requires.at_rows))
+    ∙ c.requires.beside ∙ sym (ap (λ (cells : Cells). cells.rows) (shown_if_given_rows c.args.table.now c.requires.at_rows))
 
 pub list_steps-requires-2-clause-keys : goal.list_steps-requires-2-clause-keys
 list_steps-requires-2-clause-keys c =
     ap (λ (s : List ℕ). length s) (c.as_slice.ensures ∙ c.in_ok-keys.ensures) ∙ length-map c.args.rows.now (λ (row : ℕ). get_or c.as_slice-all.result.now row 0)
-    ∙ c.requires.beside ∙ sym (ap (λ (cells : Cells). cells.rows) (rows_seen c.args.table.now c.requires.at_rows))
+    ∙ c.requires.beside ∙ sym (ap (λ (cells : Cells). cells.rows) (shown_if_given_rows c.args.table.now c.requires.at_rows))
 
 pub returns-in-Some-clause-steps : goal.returns-in-Some-clause-steps
 returns-in-Some-clause-steps c =

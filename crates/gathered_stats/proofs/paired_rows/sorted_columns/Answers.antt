@@ -1,7 +1,7 @@
 use Rattle.std.proofs.Common.{List, map, ap, sym, ◌∙◌, subst, refl, arith}
 use Rattle.std.proofs.lemmas.List.{take_all}
 use Rattle.gathered_stats.specs.declared.paired_rows.PickedColumn.{PickedColumn}
-use Rattle.gathered_stats.specs.declared.filters.Filter.{Filter}
+use Rattle.gathered_stats.specs.declared.filters.SortedColumn.{SortedColumn}
 use Rattle.gathered_stats.specs.PairedRows.{IsPicked}
 use Rattle.gathered_stats.specs.Filters.{IsFilterOf}
 use Rattle.gathered_stats.specs.ShownCells.{cells_at}
@@ -32,14 +32,14 @@ loop-one-preserved c =
     let here : IsPicked c.args.cells.now c.args.rows.now one.column one =
     subst (λ (p : PickedColumn). IsPicked c.args.cells.now c.args.rows.now p.column p) (sym c.one-item.is)
     (c.requires.columns c.loop-one.one-index one c.loop-one-test.true) in
-    let filter : Filter = record { column = one.column; sorted = c.in_ok-sorted.sorted } in (
+    let filter : SortedColumn = record { column = one.column; sorted = c.in_ok-sorted.sorted } in (
       one_more (IsFilterOf c.args.pool.now (cells_at c.args.rows.now c.args.cells.now)) c.loop-one.filters c.push.new.self filter c.loop-one.invariant.0
           (sorted_is c.args.pool.now c.args.cells.now c.requires.cells c.args.rows.now c.requires.rows one here c.as_slice.result.now c.as_slice.ensures c.in_ok-sorted.sorted c.in_ok-sorted.ensures)
           c.in_ok-push.ensures.ok,
       one_sorted c.args.columns.now c.loop-one.one-index one c.loop-one.filters c.push.new.self filter c.loop-one-test.true c.one-item.is c.loop-one.invariant.1 refl c.in_ok-push.ensures.ok,
     )
 
-pub returns-clause-served : goal.returns-clause-served
-returns-clause-served c = λ step serve.
+pub returns-clause-has_column : goal.returns-clause-has_column
+returns-clause-has_column c = λ step serve.
     sorted_serve c.args.columns.now c.loop-one.filters
     (c.loop-one.invariant.1 ∙ ap (λ (s : List PickedColumn). map (λ one. one.column) s) (take_all c.loop-one.one-index c.args.columns.now c.loop-one-test.false)) step serve

@@ -6,7 +6,7 @@ use Rattle.berge_tree.proofs.NoCycle.{has_no_cycle}
 use Rattle.berge_tree.proofs.Tested.{joins_no_cycle}
 use Rattle.join_graph.specs.Kept.{Keeps, order_of_turn, kept_of}
 use Rattle.join_graph.proofs.Connecting.{own_components, keeps_computed, kept_joins}
-use Rattle.join_graph.proofs.Parting.{goes_round}
+use Rattle.join_graph.proofs.Parting.{turn_wraps_around}
 use Rattle.join_graph.proofs.Turning.{kept_within}
 use Rattle.join_graph.proofs.keeping.kept.Goals as goal
 
@@ -14,7 +14,7 @@ pub returns-clause-computed : goal.returns-clause-computed
 returns-clause-computed c =
     let P : List Edge → Type 0 = λ es. c.consider_all-2.new.kept ≡ kept_of c.args.subset c.args.turn es in
     subst P c.as_slice-edges.ensures
-    (goes_round c.args.subset c.args.turn c.first_of_turn.result c.as_slice-edges.result.now c.split_at.result.0.now c.split_at.result.1.now c.new-kept.result c.consider_all.new.kept c.consider_all-2.new.kept
+    (turn_wraps_around c.args.subset c.args.turn c.first_of_turn.result c.as_slice-edges.result.now c.split_at.result.0.now c.split_at.result.1.now c.new-kept.result c.consider_all.new.kept c.consider_all-2.new.kept
     c.own_components-names.result c.consider_all.new.names c.consider_all-2.new.names c.split_at.ensures.front c.split_at.ensures.back c.first_of_turn.ensures.before c.first_of_turn.ensures.from
     c.own_components-names.ensures c.new-kept.ensures c.in_ok-consider_all.ensures c.in_ok-consider_all-2.ensures)
 

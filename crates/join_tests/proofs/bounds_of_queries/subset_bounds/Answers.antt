@@ -6,7 +6,7 @@ use Rattle.sql_meaning.specs.Tables.{tables_of}
 use Rattle.level_bounds.specs.Orders.{IsOrderOfSet}
 use Rattle.level_bounds.specs.Scans.{level_over_entries}
 use Rattle.query_bounds.specs.Bounds.{entry_bounds}
-use Rattle.query_bounds.proofs.Sets.{nothing_bound, set_count}
+use Rattle.query_bounds.proofs.Sets.{empty_set_bound, set_count}
 use Rattle.gathered_stats.specs.Statistics.{statistics_of}
 use Rattle.planning.proofs.NeverUnder.{level_never_under}
 use Rattle.join_tests.proofs.bounds_of_queries.subset_bounds.Goals as goal
@@ -24,7 +24,7 @@ pub returns-clause-of_nothing : goal.returns-clause-of_nothing
 returns-clause-of_nothing c =
     let query = c.args.query.now in
     ap (λ (s : List ℕ). get_or s 0 0) c.in_ok-known.ensures.sets
-    ∙ nothing_bound (entry_bounds query (statistics_of (tables_of c.args.db.now) c.args.accuracy)) (equalities_of query) (length query.from)
+    ∙ empty_set_bound (entry_bounds query (statistics_of (tables_of c.args.db.now) c.args.accuracy)) (equalities_of query) (length query.from)
 
 pub returns-clause-never_under : goal.returns-clause-never_under
 returns-clause-never_under c =

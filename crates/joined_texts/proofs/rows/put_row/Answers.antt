@@ -1,7 +1,7 @@
 use Rattle.std.proofs.Common.{◌≡◌, ◌≤◌, ◌<◌, ℕ, List, [], ◌∷◌, drop, length, take, get_or, ap, sym, ◌∙◌, subst, arith}
 use Rattle.std.specs.List.{AllByRecursion}
 use Rattle.std.proofs.lemmas.List.{length-take-le, take_at}
-use Rattle.base_io.proofs.WriteFacts.{put_as}
+use Rattle.base_io.proofs.WriteFacts.{put_equal_text}
 use Rattle.printed_texts.specs.Lines.{choice_text, IsChoice}
 use Rattle.sql_meaning.specs.Tables.{tables_of}
 use Rattle.joined_texts.specs.JoinedRows.{choice_record, joined_choices}
@@ -38,7 +38,7 @@ returns g c =
     let size : ℕ = c.len-size.result in
     let few : size ≤ 12 = omega (arith, c.len-size.ensures, c.requires.listed.database.few) in
     let long : length c.read.new.rows ≡ size = c.read.auto.rows ∙ length-take-le size zeros few in
-    put_as (choice_record query db it.entries (get_or it.rows c.args.i []))
+    put_equal_text (choice_record query db it.entries (get_or it.rows c.args.i []))
     (ap (choice_text query.select (tables_of db)) (take_at c.read.new.rows (drop size zeros) size long ∙ c.read.ensures)
     ∙ text_is query db c.requires.listed.database it.entries c.requires.listed.entries (get_or it.rows c.args.i []) (take size zeros) (c.requires.listed.whole c.args.i [] c.requires.row)
     (length-take-le size zeros few ∙ c.len-size.ensures))

@@ -1,6 +1,6 @@
 use Rattle.std.specs.List.{flat_map}
 use Rattle.std.proofs.lemmas.Result.{err_from_is_err_and}
-use Rattle.base_io.proofs.WriteFacts.{flushed, put_as, put_failed, put_then, wrote_err}
+use Rattle.base_io.proofs.WriteFacts.{wrote_with_last_flush, put_equal_text, put_failed, put_then, wrote_err}
 use Rattle.printed_texts.specs.Texts.{rows_lines}
 use Rattle.joined_texts.specs.JoinedRows.{choice_record, joined_choices}
 use Rattle.joined_texts.specs.Printed.{selected_rows}
@@ -14,7 +14,7 @@ returns-in_err-put_line g c =
     let db = c.args.db.now in
     let it = joined_choices c.args.listed.now in
     wrote_err c.new-buffer.ensures p.1
-    (put_as (rows_lines query.select (selected_rows query db it.entries it.rows))
+    (put_equal_text (rows_lines query.select (selected_rows query db it.entries it.rows))
     (whole_text query db it.entries it.rows c.as_slice.result.now c.as_slice.ensures)
     (put_failed (flat_map (choice_record query db it.entries) it.rows) c.in_err-put_line.ensures))
 
@@ -25,7 +25,7 @@ returns-in_err-put_rows g c =
     let db = c.args.db.now in
     let it = joined_choices c.args.listed.now in
     wrote_err c.new-buffer.ensures p.1
-    (put_as (rows_lines query.select (selected_rows query db it.entries it.rows))
+    (put_equal_text (rows_lines query.select (selected_rows query db it.entries it.rows))
     (whole_text query db it.entries it.rows c.as_slice.result.now c.as_slice.ensures)
     (put_then c.in_ok-put_line.ensures c.in_err-put_rows.ensures))
 
@@ -34,8 +34,8 @@ returns g c =
     let query = c.args.query.now in
     let db = c.args.db.now in
     let it = joined_choices c.args.listed.now in
-    flushed c.new-buffer.ensures
-    (put_as (rows_lines query.select (selected_rows query db it.entries it.rows))
+    wrote_with_last_flush c.new-buffer.ensures
+    (put_equal_text (rows_lines query.select (selected_rows query db it.entries it.rows))
     (whole_text query db it.entries it.rows c.as_slice.result.now c.as_slice.ensures)
     (put_then c.in_ok-put_line.ensures c.in_ok-put_rows.ensures))
     c.flush.ensures.wrote

@@ -1,11 +1,11 @@
 use Rattle.std.proofs.Common.{◌≡◌, ◌+◌, ◌++◌, ◌<◌, ℕ, [], drop, length, get_or, ap, sym, ◌∙◌, arith}
 use Rattle.std.proofs.lemmas.Result.{err_from_is_err_and}
-use Rattle.base_io.proofs.WriteFacts.{put_failed_next, put_err, put_none, put_then}
-use Rattle.tree_plans.specs.declared.bushy.Join.{Join}
+use Rattle.base_io.proofs.WriteFacts.{put_failed_next, put_with_other_error, put_nothing, put_then}
+use Rattle.plans.specs.declared.bushy.Join.{Join}
 use Rattle.printed_texts.specs.TreePlans.{node_audit, node_audits}
 use Rattle.printed_texts.proofs.PlanLines.{one_more_done}
 use Rattle.joined_texts.specs.Printed.{node_counts}
-use Rattle.joined_texts.proofs.AuditLines.{next_node_audit, node_count_at, node_count_long}
+use Rattle.joined_texts.proofs.AuditLines.{next_node_audit, node_count_at, node_counts_length}
 use Rattle.joined_texts.proofs.tree_audit.put_nodes.Goals as goal
 
 -- `no_join` is the default for reading past the last join
@@ -15,7 +15,7 @@ no_join = record { left = 0; right = 0; bound = 0 }
 pub nodes-init : goal.nodes-init
 nodes-init g c =
     let start : c.args.first + 0 ≡ c.args.first = omega arith in
-    record { done = []; left = ap (λ (k : ℕ). node_audits k c.args.joins.now (node_counts c.args.first c.args.done.now.nodes)) start; put = put_none _ _ _ }
+    record { done = []; left = ap (λ (k : ℕ). node_audits k c.args.joins.now (node_counts c.args.first c.args.done.now.nodes)) start; put = put_nothing _ _ _ }
 
 pub returns-in_err-put_node : goal.returns-in_err-put_node
 returns-in_err-put_node g c =
@@ -25,10 +25,10 @@ returns-in_err-put_node g c =
     let i : ℕ = c.nodes.i in
     let k : ℕ = c.args.first + i in
     let counts = node_counts c.args.first nodes in
-    let few : i < length counts = omega (arith, node_count_long c.args.first nodes, c.requires.nodes, c.nodes-test.true) in
+    let few : i < length counts = omega (arith, node_counts_length c.args.first nodes, c.requires.nodes, c.nodes-test.true) in
     let rows : c.len.result ≡ get_or counts i 0 = c.len.ensures ∙ sym (node_count_at c.args.first nodes i (omega (arith, c.requires.nodes, c.nodes-test.true))) in
     let next = next_node_audit k joins counts i no_join c.len.result (omega arith) few rows in
-    put_err p.1 (put_failed_next (node_audits (k + 1) (drop (i + 1) joins) (drop (i + 1) counts)) (node_audits c.args.first joins counts)
+    put_with_other_error p.1 (put_failed_next (node_audits (k + 1) (drop (i + 1) joins) (drop (i + 1) counts)) (node_audits c.args.first joins counts)
     (ap (λ x. c.nodes.invariant.done ++ x) (sym next) ∙ c.nodes.invariant.left) c.nodes.invariant.put c.in_err-put_node.ensures)
 
 pub nodes-preserved : goal.nodes-preserved
@@ -38,7 +38,7 @@ nodes-preserved g c =
     let i : ℕ = c.nodes.i in
     let k : ℕ = c.args.first + i in
     let counts = node_counts c.args.first nodes in
-    let few : i < length counts = omega (arith, node_count_long c.args.first nodes, c.requires.nodes, c.nodes-test.true) in
+    let few : i < length counts = omega (arith, node_counts_length c.args.first nodes, c.requires.nodes, c.nodes-test.true) in
     let rows : c.len.result ≡ get_or counts i 0 = c.len.ensures ∙ sym (node_count_at c.args.first nodes i (omega (arith, c.requires.nodes, c.nodes-test.true))) in
     let after : k + 1 ≡ c.args.first + (i + 1) = omega arith in
     let next = next_node_audit k joins counts i no_join c.len.result (omega arith) few rows in

@@ -1,6 +1,6 @@
 use Rattle.std.proofs.Common.{length, ap, arith}
 use Rattle.std.proofs.lemmas.Result.{err_from_is_err_and}
-use Rattle.base_io.proofs.WriteFacts.{flushed, wrote_err}
+use Rattle.base_io.proofs.WriteFacts.{wrote_with_last_flush, wrote_err}
 use Rattle.joined_texts.proofs.tree_audit.write_tree_audit.Goals as goal
 
 pub put_nodes-requires : goal.put_nodes-requires
@@ -15,4 +15,4 @@ returns-in_err-put_nodes g c =
     wrote_err c.new-buffer.ensures p.1 (rw (c.as_slice.ensures, c.len-first.ensures) at c.in_err-put_nodes.ensures)
 
 pub returns : goal.returns
-returns g c = flushed c.new-buffer.ensures (rw (c.as_slice.ensures, c.len-first.ensures) at c.in_ok-put_nodes.ensures) c.flush.ensures.wrote
+returns g c = wrote_with_last_flush c.new-buffer.ensures (rw (c.as_slice.ensures, c.len-first.ensures) at c.in_ok-put_nodes.ensures) c.flush.ensures.wrote

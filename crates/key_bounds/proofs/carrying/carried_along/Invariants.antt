@@ -1,7 +1,7 @@
 use Rattle.std.proofs.Common.{take}
 use Rattle.sql_meaning.specs.Tables.{tables_of}
-use Rattle.key_stats.specs.Carrying.{TellAlong}
+use Rattle.key_stats.specs.Carrying.{HaveCarriedBounds}
 use Rattle.key_bounds.proofs.carrying.carried_along.Given as goal
 
 abbrev pub invariant-edges : goal.invariant-edges
-invariant-edges l = TellAlong l.query (tables_of l.db) l.accuracy (take l.number l.edges) l.carried
+invariant-edges l = HaveCarriedBounds l.query (tables_of l.db) l.accuracy (take l.number l.edges) l.carried

@@ -2,7 +2,7 @@ use Rattle.std.proofs.Common.{◌≡◌, ◌<◌, ◌≤◌, List, length, get_o
 use Rattle.std.specs.Prelude.{IsSome}
 use Rattle.predicate_bounds.specs.declared.columns.ColumnSteps.{ColumnSteps}
 use Rattle.predicate_bounds.specs.StatsLists.{column_steps, columns_of}
-use Rattle.key_bounds.proofs.FirstLists.{all_added, as_many_rows, column_there, columns_read, first_there, none_added, not_there, one_added}
+use Rattle.key_bounds.proofs.FirstLists.{all_added, as_many_rows, column_there, columns_read, first_there, first_is_added, not_there, one_added}
 use Rattle.key_bounds.proofs.carrying.first_lists.Goals as goal
 
 pub row_bound-requires-clause-entry : goal.row_bound-requires-clause-entry
@@ -13,7 +13,7 @@ row_bound-requires-clause-known c = first_there c.args.stats.now c.requires
 
 pub loop-joined-init : goal.loop-joined-init
 loop-joined-init c =
-    none_added c.args.stats.now c.requires c.args.entry c.set_rows.new.self (c.in_ok-set_rows.ensures.set ∙ ap Some c.in_ok-rows.ensures.exact)
+    first_is_added c.args.stats.now c.requires c.args.entry c.set_rows.new.self (c.in_ok-set_rows.ensures.set ∙ ap Some c.in_ok-rows.ensures.exact)
     (λ column. c.in_ok-set_rows.ensures.lists c.args.entry column ∙ c.new-made.ensures.lists c.args.entry column)
 
 pub bound_list-requires-clause-known : goal.bound_list-requires-clause-known

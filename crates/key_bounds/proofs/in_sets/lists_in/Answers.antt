@@ -10,7 +10,7 @@ use Rattle.key_bounds.proofs.in_sets.lists_in.Goals as goal
 pub equalities-init : goal.equalities-init
 equalities-init c = record {
   part = part_first (bounds_with_carried c.args.keys.now c.args.subset) c.args.keys.now.count c.in_ok-made.made c.in_ok-made.ensures.rows c.in_ok-made.ensures.lists;
-  joined = λ k d low. absurd (omega (arith, low));
+  joined = λ k d k_in_range. absurd (omega (arith, k_in_range));
 }
 
 pub add_list-requires-clause-entry : goal.add_list-requires-clause-entry
@@ -36,10 +36,10 @@ equalities-preserved c =
     record {
       part = c.in_ok-add_list-2.ensures.part;
       joined = edge_more (HaveLists c.add_list-in-equalities.new.made) es c.equalities.number no_edge
-          (λ k d low.
+          (λ k d k_in_range.
           let left = (get_or es k d).left in
           let right = (get_or es k d).right in
-          let before = c.equalities.invariant.joined k d low in (
+          let before = c.equalities.invariant.joined k d k_in_range in (
             c.in_ok-add_list-2.ensures.kept left.entry left.column (c.in_ok-add_list.ensures.kept left.entry left.column before.0),
             c.in_ok-add_list-2.ensures.kept right.entry right.column (c.in_ok-add_list.ensures.kept right.entry right.column before.1),
           ))
@@ -48,4 +48,4 @@ equalities-preserved c =
     }
 
 pub returns-clause-lists : goal.returns-clause-lists
-returns-clause-lists c = λ k d low. c.equalities.invariant.joined k d (omega (arith, low, c.equalities-test.false))
+returns-clause-lists c = λ k d k_in_range. c.equalities.invariant.joined k d (omega (arith, k_in_range, c.equalities-test.false))

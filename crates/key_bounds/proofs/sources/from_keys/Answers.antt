@@ -5,15 +5,15 @@ use Rattle.schema_types.specs.declared.types.Schema.{Schema}
 use Rattle.sql_meaning.specs.Tables.{Tables, tables_of}
 use Rattle.planning.specs.Bounds.{scan_bounds_of}
 use Rattle.planning.specs.HasBounds.{HasBounds}
-use Rattle.key_carriers.specs.Carriers.{carriers}
-use Rattle.key_stats.specs.Carrying.{TellAlong}
+use Rattle.key_carriers.specs.Carriers.{carrying_equalities}
+use Rattle.key_stats.specs.Carrying.{HaveCarriedBounds}
 use Rattle.key_bounds.specs.Bounds.{set_bounds_by_keys}
 use Rattle.key_bounds.specs.TableStats.{AreStatsByKeys}
 use Rattle.key_bounds.proofs.CarriedOver.{carriers_joined, entries_named}
 use Rattle.key_bounds.proofs.sources.from_keys.Goals as goal
 
-pub carriers-requires-clause-named : goal.carriers-requires-clause-named
-carriers-requires-clause-named c = entries_named c.args.query.now c.args.db.now c.requires.database
+pub carrying_equalities-requires-clause-named : goal.carrying_equalities-requires-clause-named
+carrying_equalities-requires-clause-named c = entries_named c.args.query.now c.args.db.now c.requires.database
 
 pub carried_along-requires-clause-joined : goal.carried_along-requires-clause-joined
 carried_along-requires-clause-joined c = carriers_joined c.args.schema.now c.args.query.now c.in_ok-edges.edges c.as_slice.result.now c.in_ok-edges.ensures c.as_slice.ensures
@@ -28,7 +28,7 @@ from_carried-requires-clause-told c = record {
   accuracy = c.args.accuracy;
   tell = record {
     own = c.in_ok-stats.ensures.tells;
-    along = subst (λ (es : List Edge). TellAlong c.args.query.now (tables_of c.args.db.now) c.args.accuracy es c.in_ok-carried.carried) (c.as_slice.ensures ∙ c.in_ok-edges.ensures) c.in_ok-carried.ensures;
+    along = subst (λ (es : List Edge). HaveCarriedBounds c.args.query.now (tables_of c.args.db.now) c.args.accuracy es c.in_ok-carried.carried) (c.as_slice.ensures ∙ c.in_ok-edges.ensures) c.in_ok-carried.ensures;
   };
 }
 
@@ -40,5 +40,5 @@ returns c =
     (HasBounds (set_bounds_by_keys c.args.schema.now c.args.query.now (tables_of c.args.db.now) c.args.accuracy) (scan_bounds_of c.args.query.now (tables_of c.args.db.now) c.args.accuracy))
     (λ known gives. gives c.args.schema.now (tables_of c.args.db.now) c.args.accuracy (record {
       own = c.in_ok-stats.ensures.tells;
-      along = subst (λ (es : List Edge). TellAlong c.args.query.now (tables_of c.args.db.now) c.args.accuracy es c.in_ok-carried.carried) (c.as_slice.ensures ∙ c.in_ok-edges.ensures) c.in_ok-carried.ensures;
+      along = subst (λ (es : List Edge). HaveCarriedBounds c.args.query.now (tables_of c.args.db.now) c.args.accuracy es c.in_ok-carried.carried) (c.as_slice.ensures ∙ c.in_ok-edges.ensures) c.in_ok-carried.ensures;
     })) c.from_carried.ensures

@@ -13,11 +13,11 @@ new-requires c =
     let is : c.cells_of_column-right.result.now ≡ column_cells c.args.db.now (column_at_place c.args.edge.right) =
     c.cells_of_column-right.ensures.cells ∙ ap (column_cells c.args.db.now) c.column_at_place-2.ensures in
     record {
-      few = omega (
+      within_limit = omega (
         arith,
         ap (λ (s : List ℕ). length s) is,
         right_count c.args.db.now c.args.edge c.requires.tables c.texts_are_different.ensures.different c.texts_are_different.ensures.utf8 c.requires.kinds,
-        c.requires.few,
+        c.requires.within_limit,
       );
     }
 
@@ -30,11 +30,11 @@ rows-init c = (
 
 pub row_of-other-requires : goal.row_of-other-requires
 row_of-other-requires c = record {
-  few = omega (
+  within_limit = omega (
     arith,
     ap (λ (s : List ℕ). length s) c.rows.invariant.2,
     right_count c.args.db.now c.args.edge c.requires.tables c.texts_are_different.ensures.different c.texts_are_different.ensures.utf8 c.requires.kinds,
-    c.requires.few,
+    c.requires.within_limit,
   );
 }
 

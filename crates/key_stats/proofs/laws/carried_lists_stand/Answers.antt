@@ -1,4 +1,4 @@
-use Rattle.key_stats.proofs.CarriedLists.{carried_dominates, carried_falls, carried_fits, carried_sum}
+use Rattle.key_stats.proofs.CarriedLists.{carried_dominates, carried_descends, carried_fits, carried_sum}
 use Rattle.key_stats.proofs.laws.carried_lists_stand.Goals as goal
 
 pub returns-clause-dominates : goal.returns-clause-dominates
@@ -8,7 +8,7 @@ pub returns-clause-fits : goal.returns-clause-fits
 returns-clause-fits c = carried_fits
 
 pub returns-clause-falls : goal.returns-clause-falls
-returns-clause-falls c = λ query tables accuracy e column. carried_falls query tables e accuracy column
+returns-clause-falls c = λ query tables accuracy e column. carried_descends query tables e accuracy column
 
 pub returns-clause-sums : goal.returns-clause-sums
 returns-clause-sums c = λ query tables accuracy e column. carried_sum query tables e accuracy column

@@ -10,8 +10,8 @@ returns-clause-best c = best_by_test three_entries 3 (0 ∷ (2 ∷ (1 ∷ []))) 
 pub returns-clause-budget : goal.returns-clause-budget
 returns-clause-budget c = (least_of_best three_entries 3 (0 ∷ (2 ∷ (1 ∷ []))) (returns-clause-best c), omega arith, omega arith)
 
-pub returns-clause-from_order : goal.returns-clause-from_order
-returns-clause-from_order c = best_by_test equal_bounds 3 (0 ∷ (1 ∷ (2 ∷ []))) (refl, (refl, (refl, refl))) refl
+pub returns-clause-first_of_equal : goal.returns-clause-first_of_equal
+returns-clause-first_of_equal c = best_by_test equal_bounds 3 (0 ∷ (1 ∷ (2 ∷ []))) (refl, (refl, (refl, refl))) refl
 
 pub returns-clause-dearer : goal.returns-clause-dearer
 returns-clause-dearer c = best_by_test dearer_prefix 4 (2 ∷ (1 ∷ (0 ∷ (3 ∷ [])))) (refl, (refl, (refl, (refl, refl)))) refl

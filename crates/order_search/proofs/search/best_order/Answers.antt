@@ -13,7 +13,7 @@ first_lightest-requires-clause-light c =
 pub returns-clause-best : goal.returns-clause-best
 returns-clause-best c =
     IfOk-weaker c.first_lightest.result
-    (λ (order : Vec ℕ Global). IsFirstLightest (weight.SumOfBoundsUpTo c.args.least) c.args.bounds.now (length c.args.bounds.now - 1) (length c.args.bounds.now - 1) order.items)
+    (λ (order : Vec ℕ Global). IsFirstLightest (weight.SumIfBoundsAtMost c.args.least) c.args.bounds.now (length c.args.bounds.now - 1) (length c.args.bounds.now - 1) order.items)
     (λ (order : Vec ℕ Global). IsBest c.args.bounds.now c.args.count order.items)
     (λ (order : Vec ℕ Global) first. (best_found c.args.bounds.now order.items c.args.count c.args.least c.requires.count c.requires.small c.requires.least c.requires.bounds first).0)
     c.first_lightest.ensures
@@ -21,7 +21,7 @@ returns-clause-best c =
 pub returns-clause-cost : goal.returns-clause-cost
 returns-clause-cost c =
     IfOk-weaker c.first_lightest.result
-    (λ (order : Vec ℕ Global). IsFirstLightest (weight.SumOfBoundsUpTo c.args.least) c.args.bounds.now (length c.args.bounds.now - 1) (length c.args.bounds.now - 1) order.items)
+    (λ (order : Vec ℕ Global). IsFirstLightest (weight.SumIfBoundsAtMost c.args.least) c.args.bounds.now (length c.args.bounds.now - 1) (length c.args.bounds.now - 1) order.items)
     (λ (order : Vec ℕ Global). cost c.args.bounds.now order.items ≡ c.args.least)
     (λ (order : Vec ℕ Global) first. (best_found c.args.bounds.now order.items c.args.count c.args.least c.requires.count c.requires.small c.requires.least c.requires.bounds first).1)
     c.first_lightest.ensures

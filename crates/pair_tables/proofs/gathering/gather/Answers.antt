@@ -17,59 +17,59 @@ pub returns-clause-valid : goal.returns-clause-valid
 returns-clause-valid c =
     let rows : List (ℕ × ℕ) = rows_of_pair c.args.cells.now c.args.filter c.args.joined in
     let stats : ColumnStats = stats_of c.args.pool.now (kind_of_column c.args.cells.now c.args.filter) c.args.accuracy rows in
-    IfOk-weaker c.made.result (λ s. s ≡ stats) IsValid
-    (λ s e. subst IsValid (sym e) (valid c.args.pool.now (kind_of_column c.args.cells.now c.args.filter) c.args.accuracy rows)) c.made.ensures
+    IfOk-weaker c.statistics_of_columns.result (λ s. s ≡ stats) IsValid
+    (λ s e. subst IsValid (sym e) (valid c.args.pool.now (kind_of_column c.args.cells.now c.args.filter) c.args.accuracy rows)) c.statistics_of_columns.ensures
 
 pub returns-clause-values : goal.returns-clause-values
 returns-clause-values c =
     let rows : List (ℕ × ℕ) = rows_of_pair c.args.cells.now c.args.filter c.args.joined in
     let stats : ColumnStats = stats_of c.args.pool.now (kind_of_column c.args.cells.now c.args.filter) c.args.accuracy rows in
-    IfOk-weaker c.made.result (λ s. s ≡ stats) (GivesValueLists c.args.accuracy rows)
-    (λ s e. subst (GivesValueLists c.args.accuracy rows) (sym e) (value_is c.args.pool.now (kind_of_column c.args.cells.now c.args.filter) c.args.accuracy rows)) c.made.ensures
+    IfOk-weaker c.statistics_of_columns.result (λ s. s ≡ stats) (GivesValueLists c.args.accuracy rows)
+    (λ s e. subst (GivesValueLists c.args.accuracy rows) (sym e) (value_is c.args.pool.now (kind_of_column c.args.cells.now c.args.filter) c.args.accuracy rows)) c.statistics_of_columns.ensures
 
 pub returns-clause-ranges : goal.returns-clause-ranges
 returns-clause-ranges c =
     let rows : List (ℕ × ℕ) = rows_of_pair c.args.cells.now c.args.filter c.args.joined in
     let at_most : ℕ → ℕ → Bool = cell_le c.args.pool.now (kind_of_column c.args.cells.now c.args.filter) in
     let stats : ColumnStats = stats_of c.args.pool.now (kind_of_column c.args.cells.now c.args.filter) c.args.accuracy rows in
-    IfOk-weaker c.made.result (λ s. s ≡ stats) (GivesRangeLists at_most c.args.accuracy rows)
+    IfOk-weaker c.statistics_of_columns.result (λ s. s ≡ stats) (GivesRangeLists at_most c.args.accuracy rows)
     (λ s e. subst (GivesRangeLists at_most c.args.accuracy rows) (sym e)
-    (λ low high from to. range_is c.args.pool.now (kind_of_column c.args.cells.now c.args.filter) c.args.accuracy rows low high from)) c.made.ensures
+    (λ low high from to. range_is c.args.pool.now (kind_of_column c.args.cells.now c.args.filter) c.args.accuracy rows low high from)) c.statistics_of_columns.ensures
 
 pub returns-clause-whole_never_under : goal.returns-clause-whole_never_under
 returns-clause-whole_never_under c =
     let rows : List (ℕ × ℕ) = rows_of_pair c.args.cells.now c.args.filter c.args.joined in
     let stats : ColumnStats = stats_of c.args.pool.now (kind_of_column c.args.cells.now c.args.filter) c.args.accuracy rows in
-    IfOk-weaker c.made.result (λ s. s ≡ stats) (WholeDominates rows)
-    (λ s e. subst (WholeDominates rows) (sym e) (compressed_dominates c.args.accuracy (joined_keys rows))) c.made.ensures
+    IfOk-weaker c.statistics_of_columns.result (λ s. s ≡ stats) (WholeDominates rows)
+    (λ s e. subst (WholeDominates rows) (sym e) (compressed_dominates c.args.accuracy (joined_keys rows))) c.statistics_of_columns.ensures
 
 pub returns-clause-whole_total : goal.returns-clause-whole_total
 returns-clause-whole_total c =
     let rows : List (ℕ × ℕ) = rows_of_pair c.args.cells.now c.args.filter c.args.joined in
     let stats : ColumnStats = stats_of c.args.pool.now (kind_of_column c.args.cells.now c.args.filter) c.args.accuracy rows in
-    IfOk-weaker c.made.result (λ s. s ≡ stats) (λ s. sum s.whole ≡ c.args.cells.now.rows)
+    IfOk-weaker c.statistics_of_columns.result (λ s. s ≡ stats) (λ s. sum s.whole ≡ c.args.cells.now.rows)
     (λ s e. subst (λ (s : ColumnStats). sum s.whole ≡ c.args.cells.now.rows) (sym e)
-    (sum-whole c.args.accuracy rows ∙ rows_are c.args.pool.now c.args.cells.now c.args.filter c.args.joined c.requires.filter c.requires.joined)) c.made.ensures
+    (sum-whole c.args.accuracy rows ∙ rows_are c.args.pool.now c.args.cells.now c.args.filter c.args.joined c.requires.filter c.requires.joined)) c.statistics_of_columns.ensures
 
 pub returns-clause-value_never_under : goal.returns-clause-value_never_under
 returns-clause-value_never_under c =
     let rows : List (ℕ × ℕ) = rows_of_pair c.args.cells.now c.args.filter c.args.joined in
     let stats : ColumnStats = stats_of c.args.pool.now (kind_of_column c.args.cells.now c.args.filter) c.args.accuracy rows in
-    IfOk-weaker c.made.result (λ s. s ≡ stats) (ValuesDominate rows)
-    (λ s e. subst (ValuesDominate rows) (sym e) (value_dominated c.args.pool.now (kind_of_column c.args.cells.now c.args.filter) c.args.accuracy rows)) c.made.ensures
+    IfOk-weaker c.statistics_of_columns.result (λ s. s ≡ stats) (ValuesDominate rows)
+    (λ s e. subst (ValuesDominate rows) (sym e) (value_dominated c.args.pool.now (kind_of_column c.args.cells.now c.args.filter) c.args.accuracy rows)) c.statistics_of_columns.ensures
 
 pub returns-clause-node_never_under : goal.returns-clause-node_never_under
 returns-clause-node_never_under c =
     let rows : List (ℕ × ℕ) = rows_of_pair c.args.cells.now c.args.filter c.args.joined in
     let at_most : ℕ → ℕ → Bool = cell_le c.args.pool.now (kind_of_column c.args.cells.now c.args.filter) in
     let stats : ColumnStats = stats_of c.args.pool.now (kind_of_column c.args.cells.now c.args.filter) c.args.accuracy rows in
-    IfOk-weaker c.made.result (λ s. s ≡ stats) (NodesDominate at_most rows)
-    (λ s e. subst (NodesDominate at_most rows) (sym e) (node_dominated c.args.pool.now (kind_of_column c.args.cells.now c.args.filter) c.args.accuracy rows)) c.made.ensures
+    IfOk-weaker c.statistics_of_columns.result (λ s. s ≡ stats) (NodesDominate at_most rows)
+    (λ s e. subst (NodesDominate at_most rows) (sym e) (node_dominated c.args.pool.now (kind_of_column c.args.cells.now c.args.filter) c.args.accuracy rows)) c.statistics_of_columns.ensures
 
 pub returns-clause-range_never_under : goal.returns-clause-range_never_under
 returns-clause-range_never_under c =
     let rows : List (ℕ × ℕ) = rows_of_pair c.args.cells.now c.args.filter c.args.joined in
     let at_most : ℕ → ℕ → Bool = cell_le c.args.pool.now (kind_of_column c.args.cells.now c.args.filter) in
     let stats : ColumnStats = stats_of c.args.pool.now (kind_of_column c.args.cells.now c.args.filter) c.args.accuracy rows in
-    IfOk-weaker c.made.result (λ s. s ≡ stats) (RangesDominate at_most rows)
-    (λ s e. subst (RangesDominate at_most rows) (sym e) (range_dominated c.args.pool.now (kind_of_column c.args.cells.now c.args.filter) c.args.accuracy rows)) c.made.ensures
+    IfOk-weaker c.statistics_of_columns.result (λ s. s ≡ stats) (RangesDominate at_most rows)
+    (λ s e. subst (RangesDominate at_most rows) (sym e) (range_dominated c.args.pool.now (kind_of_column c.args.cells.now c.args.filter) c.args.accuracy rows)) c.statistics_of_columns.ensures

@@ -3,7 +3,7 @@ use Rattle.degree_sequences.specs.Composition.{row_weights}
 use Rattle.degree_sequences.specs.Descending.{trimmed}
 use Rattle.degree_sequences.specs.Saturation.{saturated}
 use Rattle.piece_math.specs.Children.{lists_of}
-use Rattle.piece_math.proofs.Composing.{composed_value, composed_few}
+use Rattle.piece_math.proofs.Composing.{composed_value, composed_runs}
 use Rattle.piece_math.proofs.blocks.compose.Goals as goal
 
 pub row_weights-requires : goal.row_weights-requires
@@ -17,5 +17,5 @@ returns-clause-value c =
 
 pub returns-clause-few_pieces : goal.returns-clause-few_pieces
 returns-clause-few_pieces c =
-    composed_few c.grouped.result c.args.parent.now c.in_ok-weights.weights c.args.children.now c.grouped.ensures.falls c.grouped.ensures.positive
+    composed_runs c.grouped.result c.args.parent.now c.in_ok-weights.weights c.args.children.now c.grouped.ensures.falls c.grouped.ensures.positive
     c.in_ok-weights.ensures.few_pieces (returns-clause-value c) c.grouped.ensures.few_pieces

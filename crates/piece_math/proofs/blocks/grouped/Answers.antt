@@ -4,7 +4,7 @@ use Rattle.degree_sequences.specs.Saturation.{saturated}
 use Rattle.piece_math.specs.Expanded.{IsAppended}
 use Rattle.piece_math.specs.PiecePlaces.{ahead_of, rest_from}
 use Rattle.piece_math.proofs.Building.{run_falls, run_fits}
-use Rattle.piece_math.proofs.Grouping.{grouped_start, grouped_falls, grouped_fits, grouped_end, grouped_smaller, block_positive, mixed_run, mixed_step, whole_run, whole_step, whole_few, no_whole, some_whole, whole_rows}
+use Rattle.piece_math.proofs.Grouping.{grouped_start, grouped_falls, grouped_fits, grouped_end, grouped_smaller, block_positive, mixed_run, mixed_step, full_blocks_run, full_blocks_step, full_blocks_runs, block_exceeds_run, block_fits_run, blocks_fit_run}
 use Rattle.piece_math.proofs.blocks.grouped.Goals as goal
 use Rattle.piece_math.proofs.blocks.grouped.Goals.{then-loop-at-test+else-row-rows, else-loop-at-test}
 
@@ -33,7 +33,7 @@ pub loop-at-preserved-then-whole-eq0 : goal.loop-at-preserved-then-whole-eq0
 loop-at-preserved-then-whole-eq0 c =
     let mixed_is : c.block_from-mixed.result.sum ≡ saturated (running_sum (rest_from c.pieces-rows.result.now c.loop-at.row) (ahead_of c.pieces-blocks.result.now c.loop-at.at).value) = rw c.ahead-block.ensures at c.block_from-mixed.ensures.sum in
     let none : (ahead_of c.pieces-rows.result.now c.loop-at.row).count / (ahead_of c.pieces-blocks.result.now c.loop-at.at).value ≡ 0 = rw (c.from.ensures, c.ahead-run.ensures, c.ahead-block.ensures) at c.if-whole-eq0.true in
-    let short : (ahead_of c.pieces-rows.result.now c.loop-at.row).count < c.ahead-block.result.value = rw c.ahead-block.ensures (no_whole (ahead_of c.pieces-rows.result.now c.loop-at.row).count (ahead_of c.pieces-blocks.result.now c.loop-at.at).value (block_positive c.pieces-blocks.result.now c.loop-at.at.at c.loop-at.at.used c.pieces-blocks.ensures.whole.falls c.loop-at-test.true) none) in
+    let short : (ahead_of c.pieces-rows.result.now c.loop-at.row).count < c.ahead-block.result.value = rw c.ahead-block.ensures (block_exceeds_run (ahead_of c.pieces-rows.result.now c.loop-at.row).count (ahead_of c.pieces-blocks.result.now c.loop-at.at).value (block_positive c.pieces-blocks.result.now c.loop-at.at.at c.loop-at.at.used c.pieces-blocks.ensures.whole.falls c.loop-at-test.true) none) in
     mixed_step c.pieces-blocks.ensures.whole c.pieces-rows.ensures.whole c.loop-at.invariant c.loop-at-test.true (rw mixed_is at c.in_ok-put.ensures)
     c.place_after-at.ensures.rest (rw c.ahead-block.ensures at c.block_from-mixed.ensures.rest) c.place_after-at.ensures.place c.block_from-mixed.ensures.next
     c.place_after-at.ensures.stays (c.block_from-mixed.ensures.onward c.if-row-rows.true short)
@@ -44,13 +44,13 @@ pub put-requires-else-whole-eq0-clause-falls : goal.put-requires-else-whole-eq0-
 put-requires-else-whole-eq0-clause-falls c =
     let count_is : c.min-count.result ≡ min ((ahead_of c.pieces-rows.result.now c.loop-at.row).count / (ahead_of c.pieces-blocks.result.now c.loop-at.at).value) (ahead_of c.pieces-blocks.result.now c.loop-at.at).count = rw (c.from.ensures, c.ahead-run.ensures, c.ahead-block.ensures) at c.min-count.ensures in
     let product_is : c.saturating_mul.result ≡ saturated ((ahead_of c.pieces-blocks.result.now c.loop-at.at).value * (ahead_of c.pieces-rows.result.now c.loop-at.row).value) = rw (c.ahead-block.ensures, c.ahead-run.ensures) at c.saturating_mul.ensures in
-    rw product_is (λ pos some. run_falls c.loop-at.invariant.built (whole_run c.pieces-blocks.ensures.whole c.pieces-rows.ensures.whole c.loop-at.invariant (omega (arith, count_is)) (whole_rows (ahead_of c.pieces-rows.result.now c.loop-at.row).count (ahead_of c.pieces-blocks.result.now c.loop-at.at).value c.min-count.result (block_positive c.pieces-blocks.result.now c.loop-at.at.at c.loop-at.at.used c.pieces-blocks.ensures.whole.falls c.loop-at-test.true) (omega (arith, count_is)))) (grouped_falls c.pieces-blocks.ensures.whole c.pieces-rows.ensures.whole) some)
+    rw product_is (λ pos some. run_falls c.loop-at.invariant.built (full_blocks_run c.pieces-blocks.ensures.whole c.pieces-rows.ensures.whole c.loop-at.invariant (omega (arith, count_is)) (blocks_fit_run (ahead_of c.pieces-rows.result.now c.loop-at.row).count (ahead_of c.pieces-blocks.result.now c.loop-at.at).value c.min-count.result (block_positive c.pieces-blocks.result.now c.loop-at.at.at c.loop-at.at.used c.pieces-blocks.ensures.whole.falls c.loop-at-test.true) (omega (arith, count_is)))) (grouped_falls c.pieces-blocks.ensures.whole c.pieces-rows.ensures.whole) some)
 
 pub put-requires-else-whole-eq0-clause-room : goal.put-requires-else-whole-eq0-clause-room
 put-requires-else-whole-eq0-clause-room c =
     let count_is : c.min-count.result ≡ min ((ahead_of c.pieces-rows.result.now c.loop-at.row).count / (ahead_of c.pieces-blocks.result.now c.loop-at.at).value) (ahead_of c.pieces-blocks.result.now c.loop-at.at).count = rw (c.from.ensures, c.ahead-run.ensures, c.ahead-block.ensures) at c.min-count.ensures in
     let product_is : c.saturating_mul.result ≡ saturated ((ahead_of c.pieces-blocks.result.now c.loop-at.at).value * (ahead_of c.pieces-rows.result.now c.loop-at.row).value) = rw (c.ahead-block.ensures, c.ahead-run.ensures) at c.saturating_mul.ensures in
-    rw product_is (λ pos some. omega (arith, grouped_fits c.pieces-blocks.ensures.whole c.pieces-rows.ensures.whole, run_fits c.loop-at.invariant.built (whole_run c.pieces-blocks.ensures.whole c.pieces-rows.ensures.whole c.loop-at.invariant (omega (arith, count_is)) (whole_rows (ahead_of c.pieces-rows.result.now c.loop-at.row).count (ahead_of c.pieces-blocks.result.now c.loop-at.at).value c.min-count.result (block_positive c.pieces-blocks.result.now c.loop-at.at.at c.loop-at.at.used c.pieces-blocks.ensures.whole.falls c.loop-at-test.true) (omega (arith, count_is)))) pos))
+    rw product_is (λ pos some. omega (arith, grouped_fits c.pieces-blocks.ensures.whole c.pieces-rows.ensures.whole, run_fits c.loop-at.invariant.built (full_blocks_run c.pieces-blocks.ensures.whole c.pieces-rows.ensures.whole c.loop-at.invariant (omega (arith, count_is)) (blocks_fit_run (ahead_of c.pieces-rows.result.now c.loop-at.row).count (ahead_of c.pieces-blocks.result.now c.loop-at.at).value c.min-count.result (block_positive c.pieces-blocks.result.now c.loop-at.at.at c.loop-at.at.used c.pieces-blocks.ensures.whole.falls c.loop-at-test.true) (omega (arith, count_is)))) pos))
 
 pub loop-at-smaller : goal.loop-at-smaller
 loop-at-smaller c =
@@ -65,12 +65,12 @@ loop-at-preserved c =
     let product_is : c.saturating_mul.result ≡ saturated ((ahead_of c.pieces-blocks.result.now c.loop-at.at).value * (ahead_of c.pieces-rows.result.now c.loop-at.row).value) = rw (c.ahead-block.ensures, c.ahead-run.ensures) at c.saturating_mul.ensures in
     let whole : (ahead_of c.pieces-rows.result.now c.loop-at.row).count / (ahead_of c.pieces-blocks.result.now c.loop-at.at).value ≡ 0 → ⊥ = rw (c.from.ensures, c.ahead-run.ensures, c.ahead-block.ensures) at c.if-whole-eq0.false in
     let put : IsAppended c.loop-at.list c.put-else-whole-eq0.new.self (saturated ((ahead_of c.pieces-blocks.result.now c.loop-at.at).value * (ahead_of c.pieces-rows.result.now c.loop-at.row).value)) c.min-count.result = rw product_is at c.in_ok-put-2.ensures in
-    whole_step c.pieces-blocks.ensures.whole c.pieces-rows.ensures.whole c.loop-at.invariant (omega (arith, count_is)) (whole_rows (ahead_of c.pieces-rows.result.now c.loop-at.row).count (ahead_of c.pieces-blocks.result.now c.loop-at.at).value c.min-count.result (block_positive c.pieces-blocks.result.now c.loop-at.at.at c.loop-at.at.used c.pieces-blocks.ensures.whole.falls c.loop-at-test.true) (omega (arith, count_is))) put
+    full_blocks_step c.pieces-blocks.ensures.whole c.pieces-rows.ensures.whole c.loop-at.invariant (omega (arith, count_is)) (blocks_fit_run (ahead_of c.pieces-rows.result.now c.loop-at.row).count (ahead_of c.pieces-blocks.result.now c.loop-at.at).value c.min-count.result (block_positive c.pieces-blocks.result.now c.loop-at.at.at c.loop-at.at.used c.pieces-blocks.ensures.whole.falls c.loop-at-test.true) (omega (arith, count_is))) put
     c.place_after-at-else-whole-eq0.ensures.rest (rw c.ahead-block.ensures at c.place_after-row.ensures.rest) c.place_after-at-else-whole-eq0.ensures.place c.place_after-row.ensures.place
-    (whole_few c.pieces-blocks.ensures.whole c.pieces-rows.ensures.whole c.loop-at.invariant c.put-else-whole-eq0.new.self c.place_after-at-else-whole-eq0.result c.place_after-row.result c.min-count.result c.loop-at-test.true c.if-row-rows.true (block_positive c.pieces-blocks.result.now c.loop-at.at.at c.loop-at.at.used c.pieces-blocks.ensures.whole.falls c.loop-at-test.true)
-    (some_whole (ahead_of c.pieces-rows.result.now c.loop-at.row).count (ahead_of c.pieces-blocks.result.now c.loop-at.at).value (block_positive c.pieces-blocks.result.now c.loop-at.at.at c.loop-at.at.used c.pieces-blocks.ensures.whole.falls c.loop-at-test.true) whole) count_is put.few
+    (full_blocks_runs c.pieces-blocks.ensures.whole c.pieces-rows.ensures.whole c.loop-at.invariant c.put-else-whole-eq0.new.self c.place_after-at-else-whole-eq0.result c.place_after-row.result c.min-count.result c.loop-at-test.true c.if-row-rows.true (block_positive c.pieces-blocks.result.now c.loop-at.at.at c.loop-at.at.used c.pieces-blocks.ensures.whole.falls c.loop-at-test.true)
+    (block_fits_run (ahead_of c.pieces-rows.result.now c.loop-at.row).count (ahead_of c.pieces-blocks.result.now c.loop-at.at).value (block_positive c.pieces-blocks.result.now c.loop-at.at.at c.loop-at.at.used c.pieces-blocks.ensures.whole.falls c.loop-at-test.true) whole) count_is put.few
     c.place_after-at-else-whole-eq0.ensures.stays c.place_after-row.ensures.stays c.place_after-at-else-whole-eq0.ensures.ends c.place_after-at-else-whole-eq0.ensures.within
-    (rw c.ahead-block.ensures at c.place_after-row.ensures.ends) (rw c.ahead-block.ensures at c.place_after-row.ensures.within) (whole_rows (ahead_of c.pieces-rows.result.now c.loop-at.row).count (ahead_of c.pieces-blocks.result.now c.loop-at.at).value c.min-count.result (block_positive c.pieces-blocks.result.now c.loop-at.at.at c.loop-at.at.used c.pieces-blocks.ensures.whole.falls c.loop-at-test.true) (omega (arith, count_is))))
+    (rw c.ahead-block.ensures at c.place_after-row.ensures.ends) (rw c.ahead-block.ensures at c.place_after-row.ensures.within) (blocks_fit_run (ahead_of c.pieces-rows.result.now c.loop-at.row).count (ahead_of c.pieces-blocks.result.now c.loop-at.at).value c.min-count.result (block_positive c.pieces-blocks.result.now c.loop-at.at.at c.loop-at.at.used c.pieces-blocks.ensures.whole.falls c.loop-at-test.true) (omega (arith, count_is))))
 
 pub returns-clause-value : goal.returns-clause-value
 returns-clause-value c =

@@ -1,11 +1,11 @@
 use Rattle.std.proofs.Common.{◌<◌, length, sum, ap, sym, ◌∙◌}
 use Rattle.piece_math.specs.declared.weights.Child.{Child}
-use Rattle.piece_math.proofs.Weighing.{some_children, weights_first, weights_step}
+use Rattle.piece_math.proofs.Weighing.{children_exist, weights_first, weights_step}
 use Rattle.piece_math.proofs.weights.row_weights.Goals as goal
 
 pub loop-i-init : goal.loop-i-init
 loop-i-init c =
-    let some : 0 < length c.args.children.now = some_children c.args.children.now (sym c.is_empty.ensures ∙ c.if-is_empty.false) in
+    let some : 0 < length c.args.children.now = children_exist c.args.children.now (sym c.is_empty.ensures ∙ c.if-is_empty.false) in
     weights_first c.args.children.now c.args.rows c.in_ok-weights.weights c.index-children-0.result some c.index-children-0.is
     (ap (λ (child : Child). sum child.column) c.index-children-0.is ∙ c.requires.columns 0 c.index-children-0.result some)
     c.spread.ensures.lists c.in_ok-weights.ensures.value c.in_ok-weights.ensures.fits c.in_ok-weights.ensures.few_pieces

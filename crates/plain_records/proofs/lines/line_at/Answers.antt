@@ -1,7 +1,7 @@
 use Rattle.std.proofs.Common.{◌≡◌, ◌+◌, ◌<◌, ◌≤◌, ◌∙◌, sym, arith, get_or, length, drop, false, true}
 use Rattle.std.proofs.lemmas.Bool.{ne_eqb}
 use Rattle.plain_records.specs.Plain.{ends_line, first_record, is_comma}
-use Rattle.plain_records.proofs.OffsetFacts.{count_byte, count_comma, count_end, rest_end, rest_more, text_past}
+use Rattle.plain_records.proofs.OffsetFacts.{count_byte, count_comma, count_end, rest_end, rest_more, utf8_after_line}
 use Rattle.plain_records.proofs.lines.line_at.Goals as goal
 use Rattle.plain_records.proofs.lines.line_at.Goals.{then-bytes-at-eq44, else-bytes-at-eq44, then-bytes-test+else-not-ends_line, else-bytes-test}
 
@@ -43,4 +43,4 @@ pub returns-clause-rest : goal.returns-clause-rest
 returns-clause-rest c = rw c.min.ensures (rest_end c.args.bytes.now c.bytes.at (ends-there c) ∙ sym c.bytes.invariant.rest)
 
 pub returns-clause-text : goal.returns-clause-text
-returns-clause-text c = rw c.min.ensures (text_past c.args.bytes.now c.bytes.at (ends-there c))
+returns-clause-text c = rw c.min.ensures (utf8_after_line c.args.bytes.now c.bytes.at (ends-there c))

@@ -1,6 +1,6 @@
 use Rattle.std.proofs.Common.{◌≡◌, sym, ◌∙◌, arith, get_or, true}
 use Rattle.plain_records.specs.Plain.{ends_line}
-use Rattle.plain_records.proofs.OffsetFacts.{line_ascii, no_record, text_behind}
+use Rattle.plain_records.proofs.OffsetFacts.{line_ascii, no_record, utf8_after_byte}
 use Rattle.plain_records.proofs.lines.skip_line_ends.Goals as goal
 
 pub bytes-preserved : goal.bytes-preserved
@@ -10,5 +10,5 @@ bytes-preserved c =
       from = omega (arith, c.bytes.invariant.from);
       within = omega (arith, c.bytes-test.true);
       records = c.bytes.invariant.records ∙ no_record c.args.bytes.now c.bytes.at c.bytes-test.true ends;
-      text = λ text begun. text_behind c.args.bytes.now c.bytes.at text c.bytes-test.true (line_ascii (get_or c.args.bytes.now c.bytes.at 0) ends);
+      text = λ text begun. utf8_after_byte c.args.bytes.now c.bytes.at text c.bytes-test.true (line_ascii (get_or c.args.bytes.now c.bytes.at 0) ends);
     }

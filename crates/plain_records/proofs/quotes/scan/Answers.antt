@@ -14,7 +14,7 @@ loop-block-preserved c =
       search rules,
       tt,
       steps.0 ∙ c.loop-block.invariant.2,
-      quote_behind _ c.in-Some.block.now (chunks_rest c.next.new.self) steps.1.0 (sym c.look_at-seen.ensures ∙ c.if-seen.false) ∙ c.loop-block.invariant.3,
+      quote_behind _ c.in-Some.block.now (chunks_rest c.next.new.self) steps.1.0 (sym c.scan_block-seen.ensures ∙ c.if-seen.false) ∙ c.loop-block.invariant.3,
     )
 
 pub returns : goal.returns

@@ -1,11 +1,11 @@
-use Rattle.plan_answers.proofs.SmallPlans.{best, from_order, dearer, plan, budget, refused_past_bits, avoided, greatest_cost_refused, through_the_top}
+use Rattle.plan_answers.proofs.SmallPlans.{best, first_of_equal, dearer, plan, budget, refused_past_bits, avoided, greatest_cost_refused, bounds_above_top}
 use Rattle.plan_answers.proofs.examples.small_plans.Goals as goal
 
 pub returns-clause-best : goal.returns-clause-best
 returns-clause-best c = best
 
-pub returns-clause-from_order : goal.returns-clause-from_order
-returns-clause-from_order c = from_order
+pub returns-clause-first_of_equal : goal.returns-clause-first_of_equal
+returns-clause-first_of_equal c = first_of_equal
 
 pub returns-clause-dearer : goal.returns-clause-dearer
 returns-clause-dearer c = dearer
@@ -25,5 +25,5 @@ returns-clause-avoided c = avoided
 pub returns-clause-greatest_cost_refused : goal.returns-clause-greatest_cost_refused
 returns-clause-greatest_cost_refused c = greatest_cost_refused
 
-pub returns-clause-through_the_top : goal.returns-clause-through_the_top
-returns-clause-through_the_top c = through_the_top
+pub returns-clause-bounds_above_top : goal.returns-clause-bounds_above_top
+returns-clause-bounds_above_top c = bounds_above_top

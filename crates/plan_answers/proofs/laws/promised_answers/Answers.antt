@@ -1,5 +1,5 @@
-use Rattle.plan_answers.proofs.OneAnswer.{allowed, only, never_memory, chosen, refused}
+use Rattle.plan_answers.proofs.OneAnswer.{is_promised, no_other_result, never_out_of_memory, chosen, refused}
 use Rattle.plan_answers.proofs.laws.promised_answers.Goals as goal
 
 pub returns : goal.returns
-returns c = record { allowed = allowed; only = only; never_memory = never_memory; chosen = chosen; refused = refused }
+returns c = record { is_promised = is_promised; no_other_result = no_other_result; never_out_of_memory = never_out_of_memory; chosen = chosen; refused = refused }

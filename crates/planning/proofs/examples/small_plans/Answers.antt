@@ -1,8 +1,8 @@
-use Rattle.planning.proofs.SmallPlans.{finer_sets, small_plan, small_refusal, small_scans, small_sets}
+use Rattle.planning.proofs.SmallPlans.{finer_sets, small_plan, small_refusal, scan_bounds_within_tables, small_sets}
 use Rattle.planning.proofs.examples.small_plans.Goals as goal
 
 pub returns-clause-scans : goal.returns-clause-scans
-returns-clause-scans c = small_scans
+returns-clause-scans c = scan_bounds_within_tables
 
 pub returns-clause-sets : goal.returns-clause-sets
 returns-clause-sets c = small_sets

@@ -8,19 +8,19 @@ pub returns-clause-best : goal.returns-clause-best
 returns-clause-best c = is_best
 
 pub returns-clause-scans : goal.returns-clause-scans
-returns-clause-scans c = λ query tables accuracy budget plan entry made low. scan_fits query tables accuracy budget plan made entry low
+returns-clause-scans c = λ query tables accuracy budget plan entry made entry_in_range. scan_fits query tables accuracy budget plan made entry entry_in_range
 
 pub returns-clause-levels : goal.returns-clause-levels
 returns-clause-levels c =
-    λ query tables accuracy budget plan k few small made low. level_fits query tables accuracy budget plan made k few small low
+    λ query tables accuracy budget plan k within_limit budget_within_limit made k_in_range. level_fits query tables accuracy budget plan made k within_limit budget_within_limit k_in_range
 
 pub returns-clause-levels_of_order : goal.returns-clause-levels_of_order
 returns-clause-levels_of_order c =
-    λ query tables accuracy budget plan k few small made low. level_fits query tables accuracy budget plan made k few small low
+    λ query tables accuracy budget plan k within_limit budget_within_limit made k_in_range. level_fits query tables accuracy budget plan made k within_limit budget_within_limit k_in_range
 
-pub returns-clause-small_scans : goal.returns-clause-small_scans
-returns-clause-small_scans c =
-    λ query tables accuracy budget plan entry made low. scan_within query tables accuracy budget plan made entry low
+pub returns-clause-scan_bounds_within_tables : goal.returns-clause-scan_bounds_within_tables
+returns-clause-scan_bounds_within_tables c =
+    λ query tables accuracy budget plan entry made entry_in_range. scan_within query tables accuracy budget plan made entry entry_in_range
 
-pub returns-clause-small_levels : goal.returns-clause-small_levels
-returns-clause-small_levels c = λ query tables accuracy budget plan k made low. level_within query tables accuracy budget plan made k
+pub returns-clause-level_bounds_within_budget : goal.returns-clause-level_bounds_within_budget
+returns-clause-level_bounds_within_budget c = λ query tables accuracy budget plan k made k_in_range. level_within query tables accuracy budget plan made k

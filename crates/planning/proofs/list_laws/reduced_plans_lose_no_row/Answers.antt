@@ -8,7 +8,7 @@ returns-clause-lists c = reduced_of_scans
 
 pub returns-clause-plan : goal.returns-clause-plan
 returns-clause-plan c =
-    λ query tables accuracy budget plan few small made. is_plan_over query tables (reduced_of query tables) accuracy budget plan made (reduced_of_scans query tables) few small
+    λ query tables accuracy budget plan within_limit budget_within_limit made. is_plan_over query tables (reduced_of query tables) accuracy budget plan made (reduced_of_scans query tables) within_limit budget_within_limit
 
 pub returns-clause-last : goal.returns-clause-last
 returns-clause-last c = last_reduced

@@ -5,14 +5,14 @@ use Rattle.bound_fold.proofs.TestedSets.{edge_more}
 use Rattle.join_steps.specs.Lists.{lists_of}
 use Rattle.join_steps.proofs.WholeScans.{length-lists_of}
 use Rattle.query_bounds.proofs.Holding.{no_edge}
-use Rattle.planning.proofs.CollectedBounds.{known_first}
+use Rattle.planning.proofs.CollectedBounds.{known_at_start}
 use Rattle.planning.proofs.lists.lists_over_rows.Goals as goal
 
 pub equalities-init : goal.equalities-init
 equalities-init c = record {
-  known = known_first c.args.db.now (lists_of c.args.lists.now) c.args.accuracy (length c.args.lists.now) c.in_ok-known.known (sym (length-lists_of c.args.lists.now))
+  known = known_at_start c.args.db.now (lists_of c.args.lists.now) c.args.accuracy (length c.args.lists.now) c.in_ok-known.known (sym (length-lists_of c.args.lists.now))
       c.in_ok-known.ensures.rows c.in_ok-known.ensures.no_lists;
-  joined = λ k d low. absurd (omega (arith, low));
+  joined = λ k d k_in_range. absurd (omega (arith, k_in_range));
 }
 
 pub equalities-preserved : goal.equalities-preserved
@@ -22,10 +22,10 @@ equalities-preserved c =
     record {
       known = c.in_ok-add_list-2.ensures.known;
       joined = edge_more (HaveLists c.add_list-in-equalities.new.known) es c.equalities.number no_edge
-          (λ k d low.
+          (λ k d k_in_range.
           let left = (get_or es k d).left in
           let right = (get_or es k d).right in
-          let before = c.equalities.invariant.joined k d low in (
+          let before = c.equalities.invariant.joined k d k_in_range in (
             c.in_ok-add_list-2.ensures.kept left.entry left.column (c.in_ok-add_list.ensures.kept left.entry left.column before.0),
             c.in_ok-add_list-2.ensures.kept right.entry right.column (c.in_ok-add_list.ensures.kept right.entry right.column before.1),
           ))

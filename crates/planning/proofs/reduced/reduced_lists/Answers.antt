@@ -17,7 +17,7 @@ pub reduce_scans-requires-clause-count : goal.reduce_scans-requires-clause-count
 reduce_scans-requires-clause-count c = ap (λ (s : List (Rows ℕ)). length s) c.deref.ensures.value ∙ c.in_ok-scans.ensures.count
 
 pub reduce_scans-requires-clause-scans : goal.reduce_scans-requires-clause-scans
-reduce_scans-requires-clause-scans c entry low = ap (λ (s : List (Rows ℕ)). list_at (lists_of s) entry) c.deref.ensures.value ∙ c.in_ok-scans.ensures.scans entry low
+reduce_scans-requires-clause-scans c entry entry_in_range = ap (λ (s : List (Rows ℕ)). list_at (lists_of s) entry) c.deref.ensures.value ∙ c.in_ok-scans.ensures.scans entry entry_in_range
 
 pub returns-clause-reduced : goal.returns-clause-reduced
 returns-clause-reduced c =

@@ -29,8 +29,8 @@ bounds_from-requires-clause-listed c = λ subset fits.
     (all_have_bounds c.args.db.now (lists_of c.args.rows.now) c.args.accuracy c.in_ok-lists.lists c.in_ok-lists.ensures.known (equalities_of c.args.query.now)
     (subst (All (HaveLists c.in_ok-lists.lists)) (c.as_slice.ensures ∙ c.requires.equalities) c.in_ok-lists.ensures.joined) (length c.args.query.now.from) (sym count)) subset fits
 
-pub bounds_from-requires-clause-looks : goal.bounds_from-requires-clause-looks
-bounds_from-requires-clause-looks c = λ subset part rest falls. (refl, refl)
+pub bounds_from-requires-clause-depends_on_parts : goal.bounds_from-requires-clause-depends_on_parts
+bounds_from-requires-clause-depends_on_parts c = λ subset part rest falls. (refl, refl)
 
 pub returns : goal.returns
 returns c =

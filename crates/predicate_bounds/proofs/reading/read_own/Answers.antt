@@ -1,13 +1,13 @@
 use Rattle.std.proofs.Common.{◌<◌, ℕ, length, get_or, refl, subst, sym}
 use Rattle.std.specs.List.{All}
-use Rattle.join_graph.specs.Conjuncts.{names_just}
+use Rattle.join_graph.specs.Conjuncts.{is_own_conjunct}
 use Rattle.predicate_bounds.proofs.Own.{all_read, numbers_below, one_read}
 use Rattle.predicate_bounds.proofs.reading.read_own.Goals as goal
 
 pub get-cond-requires : goal.get-cond-requires
 get-cond-requires c =
     let below : All (λ (n : ℕ). n < length c.args.query.now.conjuncts) c.args.own.now =
-    subst (λ ns. All (λ (n : ℕ). n < length c.args.query.now.conjuncts) ns) (sym c.requires) (numbers_below (names_just c.args.from) c.args.query.now.conjuncts) in
+    subst (λ ns. All (λ (n : ℕ). n < length c.args.query.now.conjuncts) ns) (sym c.requires) (numbers_below (is_own_conjunct c.args.from) c.args.query.now.conjuncts) in
     below c.loop-number.number-index 0 c.loop-number-test.true
 
 pub loop-number-preserved : goal.loop-number-preserved

@@ -4,22 +4,16 @@ pub execute_bushy-done-requires-clause-lists : goal.execute_bushy-done-requires-
 execute_bushy-done-requires-clause-lists c = c.requires.joins.rows.scanned
 
 pub execute_bushy-done-requires-clause-plan : goal.execute_bushy-done-requires-clause-plan
-execute_bushy-done-requires-clause-plan c = c.requires.joins.room.tree_plan
+execute_bushy-done-requires-clause-plan c = c.requires.joins.room.plan_of
 
 pub execute_bushy-done-requires-clause-rooms : goal.execute_bushy-done-requires-clause-rooms
 execute_bushy-done-requires-clause-rooms c = c.requires.joins.room.rooms
 
 pub returns-clause-joined : goal.returns-clause-joined
-returns-clause-joined c =
-    let room = c.requires.joins.room in
-    record {
-      plan_of = room.plan_of;
-      tree = room.tree;
-      nodes = record {
-        rows = c.requires.joins.rows;
-        plan_of = room.tree_plan;
-        count = c.execute_bushy-done.ensures.count;
-        entries = c.execute_bushy-done.ensures.entries;
-        choices = c.execute_bushy-done.ensures.rows;
-      };
-    }
+returns-clause-joined c = record {
+  rows = c.requires.joins.rows;
+  plan_of = c.requires.joins.room.plan_of;
+  count = c.execute_bushy-done.ensures.count;
+  entries = c.execute_bushy-done.ensures.entries;
+  choices = c.execute_bushy-done.ensures.rows;
+}

@@ -10,10 +10,10 @@ use Rattle.join_steps.specs.Lists.{list_sizes, lists_of, scans_of}
 use Rattle.prepared_runs.proofs.scans.list_scans.Goals as goal
 
 pub reserve_scans-requires-clause-count : goal.reserve_scans-requires-clause-count
-reserve_scans-requires-clause-count c = rw c.bounds_of_scans.ensures c.requires.count
+reserve_scans-requires-clause-count c = rw c.as_slice.ensures c.requires.count
 
 pub reserve_scans-requires-clause-fit : goal.reserve_scans-requires-clause-fit
-reserve_scans-requires-clause-fit c = rw c.bounds_of_scans.ensures c.requires.fit
+reserve_scans-requires-clause-fit c = rw c.as_slice.ensures c.requires.fit
 
 pub scan_all-requires-clause-room : goal.scan_all-requires-clause-room
 scan_all-requires-clause-room c =
@@ -29,4 +29,4 @@ returns-clause-bytes c =
     (ap (map capacity) (take_at c.scan_all.new.lists _ c.in_ok-lists.lists.len (omega (arith, c.scan_all.auto.lists, c.as_mut_slice.ensures.len)))
     ∙ c.scan_all.ensures.capacities ∙ ap (map capacity) c.as_mut_slice.ensures.value)
     ∙ c.in_ok-lists.ensures.bytes
-    ∙ ap lists_bytes c.bounds_of_scans.ensures
+    ∙ ap lists_bytes c.as_slice.ensures

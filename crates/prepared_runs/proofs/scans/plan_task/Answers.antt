@@ -7,9 +7,8 @@ use Rattle.prepared_runs.specs.Shapes.{answer_of}
 use Rattle.prepared_runs.specs.Sources.{scans_by, bounds_and_lists_by}
 use Rattle.prepared_runs.proofs.AllowedFacts.{plan_costs}
 use Rattle.prepared_runs.proofs.Answered.{was_made, was_refused}
-use Rattle.prepared_runs.proofs.KeptFacts.{scans_given}
-use Rattle.prepared_runs.proofs.ShapeFacts.{planned_known}
-use Rattle.prepared_runs.proofs.SourceFacts.{all_sets, scans_bound}
+use Rattle.prepared_runs.proofs.ShapeFacts.{planned_known, scans_given}
+use Rattle.prepared_runs.proofs.SourceFacts.{all_sets, scans_bound, single_bounds}
 use Rattle.prepared_runs.proofs.scans.plan_task.Goals as goal
 
 pub plan_by-requires : goal.plan_by-requires
@@ -55,14 +54,14 @@ returns-clause-affordable c =
     let task = c.args.task.now in
     let query = c.args.query.now in
     let tables = tables_of c.args.db.now in
-    plan_costs query tables (bounds_and_lists_by task.source c.args.schema.now query tables) task.accuracy task.terms.budget (scans_bound query tables task.source task.accuracy)
-    c.requires.database.some c.requires.database.few task.terms.shape c.in_ok-plan.plan (returns-clause-planned c)
+    plan_costs (length query.from) (bounds_and_lists_by task.source c.args.schema.now query tables) task.accuracy task.terms.budget (scans_bound query tables task.source task.accuracy).one_each
+    c.requires.database.some c.requires.database.few (single_bounds query tables c.args.schema.now task.source task.accuracy) task.terms.shape c.in_ok-plan.plan (returns-clause-planned c)
 
 pub returns-clause-exact : goal.returns-clause-exact
 returns-clause-exact c =
     let task = c.args.task.now in
     let query = c.args.query.now in
     let tables = tables_of c.args.db.now in
-    subst (HoldExactly c.in_ok-known.field-0.scans) (sym (scans_given query tables (bounds_and_lists_by task.source c.args.schema.now query tables) task.accuracy task.terms.budget (scans_bound query tables task.source task.accuracy)
-    c.requires.database.some c.requires.database.few task.terms.shape c.in_ok-plan.plan (returns-clause-planned c)))
+    subst (HoldExactly c.in_ok-known.field-0.scans) (sym (scans_given (length query.from) (bounds_and_lists_by task.source c.args.schema.now query tables) task.accuracy task.terms.budget
+    (scans_bound query tables task.source task.accuracy).one_each c.requires.database.some c.requires.database.few task.terms.shape c.in_ok-plan.plan (returns-clause-planned c)))
     (subst (λ (a : ℕ). HoldExactly c.in_ok-known.field-0.scans (scans_by task.source query tables a)) c.of.ensures c.in_ok-known.ensures.exact)

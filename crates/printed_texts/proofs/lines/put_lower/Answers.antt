@@ -6,7 +6,7 @@ use Rattle.std.proofs.lemmas.List.Concat.{flat_map_single}
 use Rattle.std.proofs.lemmas.Result.{err_from_is_err_and}
 use Rattle.base_io.specs.Devices.{growth}
 use Rattle.base_io.specs.Writes.{WroteBuffered}
-use Rattle.base_io.proofs.WriteFacts.{put_as, put_err, put_part, put_part_failed}
+use Rattle.base_io.proofs.WriteFacts.{put_equal_text, put_with_other_error, put_part, put_part_failed}
 use Rattle.printed_texts.proofs.lines.put_lower.Goals as goal
 
 abbrev lower : ℕ → List ℕ
@@ -15,7 +15,7 @@ lower b = to_ascii_lowercase b ∷ []
 pub returns-in_err-put : goal.returns-in_err-put
 returns-in_err-put g c =
     let p = err_from_is_err_and c.from_residual.result c.from_residual.ensures.1 in
-    put_err p.1 (put_as (map to_ascii_lowercase c.args.name.now) (flat_map_single to_ascii_lowercase c.args.name.now)
+    put_with_other_error p.1 (put_equal_text (map to_ascii_lowercase c.args.name.now) (flat_map_single to_ascii_lowercase c.args.name.now)
     (put_part_failed lower c.args.name.now c.bytes.byte-index 0 (omega arith) c.bytes.invariant (rw c.to_ascii_lowercase.ensures.value at c.in_err-put.ensures)))
 
 pub bytes-preserved : goal.bytes-preserved
@@ -24,5 +24,5 @@ bytes-preserved g c =
 
 pub returns : goal.returns
 returns g c =
-    put_as (map to_ascii_lowercase c.args.name.now)
+    put_equal_text (map to_ascii_lowercase c.args.name.now)
     (ap (flat_map lower) (take_all c.bytes.byte-index c.args.name.now (omega arith)) ∙ flat_map_single to_ascii_lowercase c.args.name.now) c.bytes.invariant

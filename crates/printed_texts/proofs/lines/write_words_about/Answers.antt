@@ -4,7 +4,7 @@ use Rattle.std.specs.List.{flat_map}
 use Rattle.std.proofs.lemmas.Result.{err_from_is_err_and}
 use Rattle.base_io.specs.Devices.{growth}
 use Rattle.base_io.specs.Writes.{WroteBuffered}
-use Rattle.base_io.proofs.WriteFacts.{flushed, put_as, put_failed, put_failed_next, put_err, put_then, wrote_err}
+use Rattle.base_io.proofs.WriteFacts.{wrote_with_last_flush, put_equal_text, put_failed, put_failed_next, put_with_other_error, put_then, wrote_err}
 use Rattle.printed_texts.specs.Faults.{after_blank, error_line}
 use Rattle.printed_texts.specs.Words.{file_word_text}
 use Rattle.printed_texts.proofs.ErrorLines.{line_is, words_now, word_parts, words_are}
@@ -13,7 +13,7 @@ use Rattle.printed_texts.proofs.lines.write_words_about.Goals as goal
 pub returns-in_err-put : goal.returns-in_err-put
 returns-in_err-put g c =
     let p = err_from_is_err_and c.from_residual.result c.from_residual.ensures.1 in
-    wrote_err c.new-buffer.ensures p.1 (put_as (error_line (words_now c.args.words.now ++ (file_word_text c.args.file ∷ words_now c.args.more.now))) (line_is (words_now c.args.words.now ++ (file_word_text c.args.file ∷ words_now c.args.more.now)) (flat_map after_blank (words_now c.args.words.now ++ (file_word_text c.args.file ∷ words_now c.args.more.now))) (refl)) (put_failed (flat_map after_blank (words_now c.args.words.now ++ (file_word_text c.args.file ∷ words_now c.args.more.now)) ++ codes "\n") c.in_err-put.ensures))
+    wrote_err c.new-buffer.ensures p.1 (put_equal_text (error_line (words_now c.args.words.now ++ (file_word_text c.args.file ∷ words_now c.args.more.now))) (line_is (words_now c.args.words.now ++ (file_word_text c.args.file ∷ words_now c.args.more.now)) (flat_map after_blank (words_now c.args.words.now ++ (file_word_text c.args.file ∷ words_now c.args.more.now))) (refl)) (put_failed (flat_map after_blank (words_now c.args.words.now ++ (file_word_text c.args.file ∷ words_now c.args.more.now)) ++ codes "\n") c.in_err-put.ensures))
 
 pub returns-in_err-put_words_about : goal.returns-in_err-put_words_about
 returns-in_err-put_words_about g c =
@@ -23,10 +23,10 @@ returns-in_err-put_words_about g c =
 pub returns-in_err-put-2 : goal.returns-in_err-put-2
 returns-in_err-put-2 g c =
     let p = err_from_is_err_and c.from_residual-in_err-put-2.result c.from_residual-in_err-put-2.ensures.1 in
-    wrote_err c.new-buffer.ensures p.1 (put_as (error_line (words_now c.args.words.now ++ (file_word_text c.args.file ∷ words_now c.args.more.now))) (line_is (words_now c.args.words.now ++ (file_word_text c.args.file ∷ words_now c.args.more.now)) (flat_map after_blank (words_now c.args.words.now ++ (file_word_text c.args.file ∷ words_now c.args.more.now))) (refl))
+    wrote_err c.new-buffer.ensures p.1 (put_equal_text (error_line (words_now c.args.words.now ++ (file_word_text c.args.file ∷ words_now c.args.more.now))) (line_is (words_now c.args.words.now ++ (file_word_text c.args.file ∷ words_now c.args.more.now)) (flat_map after_blank (words_now c.args.words.now ++ (file_word_text c.args.file ∷ words_now c.args.more.now))) (refl))
     (put_then c.in_ok-put.ensures (put_then c.in_ok-put_words_about.ensures c.in_err-put-2.ensures)))
 
 pub returns : goal.returns
 returns g c =
-    flushed c.new-buffer.ensures (put_as (error_line (words_now c.args.words.now ++ (file_word_text c.args.file ∷ words_now c.args.more.now))) (line_is (words_now c.args.words.now ++ (file_word_text c.args.file ∷ words_now c.args.more.now)) (flat_map after_blank (words_now c.args.words.now ++ (file_word_text c.args.file ∷ words_now c.args.more.now))) (refl))
+    wrote_with_last_flush c.new-buffer.ensures (put_equal_text (error_line (words_now c.args.words.now ++ (file_word_text c.args.file ∷ words_now c.args.more.now))) (line_is (words_now c.args.words.now ++ (file_word_text c.args.file ∷ words_now c.args.more.now)) (flat_map after_blank (words_now c.args.words.now ++ (file_word_text c.args.file ∷ words_now c.args.more.now))) (refl))
     (put_then c.in_ok-put.ensures (put_then c.in_ok-put_words_about.ensures c.in_ok-put-2.ensures))) c.flush.ensures.wrote

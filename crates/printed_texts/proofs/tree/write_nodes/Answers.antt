@@ -1,7 +1,7 @@
 use Rattle.std.proofs.Common.{◌≡◌, ◌+◌, ◌++◌, ℕ, [], drop, get_or, ap, sym, refl, ◌∙◌, arith}
 use Rattle.std.proofs.lemmas.Result.{err_from_is_err_and}
-use Rattle.base_io.proofs.WriteFacts.{put_failed_next, put_err, put_none, put_then}
-use Rattle.tree_plans.specs.declared.bushy.Join.{Join}
+use Rattle.base_io.proofs.WriteFacts.{put_failed_next, put_with_other_error, put_nothing, put_then}
+use Rattle.plans.specs.declared.bushy.Join.{Join}
 use Rattle.printed_texts.specs.TreePlans.{node_line, node_lines}
 use Rattle.printed_texts.proofs.PlanLines.{next_node, one_more_done}
 use Rattle.printed_texts.proofs.tree.write_nodes.Goals as goal
@@ -13,7 +13,7 @@ no_join = record { left = 0; right = 0; bound = 0 }
 pub nodes-init : goal.nodes-init
 nodes-init g c =
     let start : c.args.first + 0 ≡ c.args.first = omega arith in
-    record { done = []; left = ap (λ (k : ℕ). node_lines k c.args.joins.now) start; put = put_none _ _ _ }
+    record { done = []; left = ap (λ (k : ℕ). node_lines k c.args.joins.now) start; put = put_nothing _ _ _ }
 
 pub returns-in_err-write_node : goal.returns-in_err-write_node
 returns-in_err-write_node g c =
@@ -21,7 +21,7 @@ returns-in_err-write_node g c =
     let joins = c.args.joins.now in
     let k : ℕ = c.args.first + c.nodes.i in
     let next = next_node k joins c.nodes.i no_join (omega arith) in
-    put_err p.1 (put_failed_next (node_lines (k + 1) (drop (c.nodes.i + 1) joins)) (node_lines c.args.first joins)
+    put_with_other_error p.1 (put_failed_next (node_lines (k + 1) (drop (c.nodes.i + 1) joins)) (node_lines c.args.first joins)
     (ap (λ x. c.nodes.invariant.done ++ x) (sym next) ∙ c.nodes.invariant.left) c.nodes.invariant.put c.in_err-write_node.ensures)
 
 pub nodes-preserved : goal.nodes-preserved

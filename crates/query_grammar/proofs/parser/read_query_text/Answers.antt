@@ -1,6 +1,6 @@
 use Rattle.std.proofs.Common.{sym, ◌∙◌, ap}
 use Rattle.query_grammar.specs.Readers.{read_within, read_query}
-use Rattle.query_grammar.proofs.Kept.{from_text}
+use Rattle.query_grammar.proofs.Kept.{query_has_text_tokens}
 use Rattle.query_grammar.proofs.Whole.{spelled, wrong_after}
 use Rattle.query_grammar.proofs.parser.read_query_text.Goals as goal
 
@@ -10,5 +10,5 @@ returns-else-is_done-clause-syntax c =
 
 pub returns-then-is_done-clause-from_tokens : goal.returns-then-is_done-clause-from_tokens
 returns-then-is_done-clause-from_tokens c =
-    from_text c.args.tokens.now c.in-Ok.query
+    query_has_text_tokens c.args.tokens.now c.in-Ok.query
     (spelled 64 c.args.tokens.now c.in-Ok.query c.query.new.reader c.requires (ap (read_query (read_within 64)) (sym c.new-reader.ensures) ∙ c.in-Ok.ensures) (sym c.is_done.ensures ∙ c.if-is_done.true))

@@ -2,7 +2,7 @@ use Rattle.std.proofs.Common.{arith, ap, sym, ◌∙◌, ◌≡◌, ◌<◌, ◌
 use Rattle.std.specs.Prelude.{if◌then◌else◌}
 use Rattle.counted_sets.specs.Sets.{marked}
 use Rattle.reduced_scans.specs.Wiring.{marked_rows}
-use Rattle.reduced_scans.proofs.MarkedRows.{one_to_come, rows-take}
+use Rattle.reduced_scans.proofs.MarkedRows.{room_for_next_row, rows-take}
 use Rattle.reduced_scans.proofs.reducing.marked_rows.Goals.{then-stays, else-stays}
 use Rattle.reduced_scans.proofs.reducing.marked_rows.Goals as goal
 
@@ -10,10 +10,10 @@ pub push-requires : goal.push-requires
 push-requires c =
     let kept = marked c.args.marks.now.items in
     let list = c.args.list.now in
-    let low : c.rows.at < length list = omega arith in
+    let in_range : c.rows.at < length list = omega arith in
     omega (
       arith,
-      one_to_come kept c.args.first list c.rows.at low (c.get-stays.ensures false ∙ c.if-stays.true),
+      room_for_next_row kept c.args.first list c.rows.at in_range (c.get-stays.ensures false ∙ c.if-stays.true),
       c.rows.invariant.room,
       ap (λ (l : List ℕ). length l) c.rows.invariant.rows,
     )
@@ -25,8 +25,8 @@ rows-preserved c =
     let at : ℕ = c.rows.at in
     let row : ℕ = get_or list at 0 in
     let before : List ℕ = marked_rows kept c.args.first (take at list) in
-    let low : at < length list = omega arith in
-    let step : marked_rows kept c.args.first (take (at + 1) list) ≡ before ++ (if kept (c.args.first + at) then row ∷ [] else []) = rows-take kept c.args.first list at low in
+    let at_in_range : at < length list = omega arith in
+    let step : marked_rows kept c.args.first (take (at + 1) list) ≡ before ++ (if kept (c.args.first + at) then row ∷ [] else []) = rows-take kept c.args.first list at at_in_range in
     elim c.if-stays.branch [
       | then-stays w ↦ record {
         rows = rw (w.rows-is, w.push.ensures.items)

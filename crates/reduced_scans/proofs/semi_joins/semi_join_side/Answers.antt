@@ -6,7 +6,7 @@ use Rattle.sql_meaning.specs.Tables.{cells_of}
 use Rattle.join_steps.specs.Lists.{list_at, lists_of}
 use Rattle.reduced_scans.specs.Lists.{column_of}
 use Rattle.reduced_scans.specs.SemiJoins.{IsSemiJoin}
-use Rattle.reduced_scans.proofs.SiftedLists.{got_list, joined_at, joined_lists, joined_not}
+use Rattle.reduced_scans.proofs.SiftedLists.{got_list, joined_at, joined_lists, unchanged_is_joined}
 use Rattle.reduced_scans.proofs.semi_joins.semi_join_side.Goals as goal
 
 pub semi_join-requires-clause-rows : goal.semi_join-requires-clause-rows
@@ -52,4 +52,4 @@ returns-in-Some-clause-lists c =
     joined_lists (cell_at c.args.db.now) c.args.side c.args.other c.args.db.now c.args.lists.now c.replace.new.self c.requires.lists (returns-in-Some-clause-joined c)
 
 pub returns-in_default-clause-joined : goal.returns-in_default-clause-joined
-returns-in_default-clause-joined c = joined_not (cell_at c.args.db.now) c.args.side c.args.other (lists_of c.args.lists.now)
+returns-in_default-clause-joined c = unchanged_is_joined (cell_at c.args.db.now) c.args.side c.args.other (lists_of c.args.lists.now)

@@ -1,11 +1,11 @@
-use Rattle.relabelling_laws.proofs.Columns.{degree_is, degrees_are, frequent_is, remaining_is}
+use Rattle.relabelling_laws.proofs.Columns.{degree_unchanged, degree_list_unchanged, frequent_is, remaining_is}
 use Rattle.relabelling_laws.proofs.laws.columns_are_relabelled.Goals as goal
 
 pub returns-clause-degree : goal.returns-clause-degree
-returns-clause-degree c = degree_is
+returns-clause-degree c = degree_unchanged
 
 pub returns-clause-degrees : goal.returns-clause-degrees
-returns-clause-degrees c = degrees_are
+returns-clause-degrees c = degree_list_unchanged
 
 pub returns-clause-frequent : goal.returns-clause-frequent
 returns-clause-frequent c = frequent_is

@@ -1,4 +1,4 @@
-use Rattle.safebound_bounds.proofs.GivenSets.{looks}
+use Rattle.safebound_bounds.proofs.GivenSets.{known_in_depends_on_parts_only}
 use Rattle.safebound_bounds.proofs.bounding.bounds_of_all_sets.Goals as goal
 
 pub bounds_if_lists_cover_rows-requires-clause-full : goal.bounds_if_lists_cover_rows-requires-clause-full
@@ -7,5 +7,5 @@ bounds_if_lists_cover_rows-requires-clause-full c = c.cover_rows.ensures c.if-co
 pub bounds_in_sets-requires-clause-listed : goal.bounds_in_sets-requires-clause-listed
 bounds_in_sets-requires-clause-listed c subset fits = record { right = c.requires.right; edges = c.requires.edges; fits = fits }
 
-pub bounds_in_sets-requires-clause-looks : goal.bounds_in_sets-requires-clause-looks
-bounds_in_sets-requires-clause-looks c = looks c.args.given.now.rows.now c.args.given.now.equalities.now c.args.given.now.lists.now c.args.given.now.runs.now c.requires.right c.args.parts.now.equalities c.requires.edges
+pub bounds_in_sets-requires-clause-depends_on_parts : goal.bounds_in_sets-requires-clause-depends_on_parts
+bounds_in_sets-requires-clause-depends_on_parts c = known_in_depends_on_parts_only c.args.given.now.rows.now c.args.given.now.equalities.now c.args.given.now.lists.now c.args.given.now.runs.now c.requires.right c.args.parts.now.equalities c.requires.edges

@@ -1,14 +1,14 @@
 use Rattle.std.proofs.Common.{length, arith}
 use Rattle.std.proofs.lemmas.Result.{err_from_is_err_and}
 use Rattle.safebound_bounds.proofs.Bounded.{room_told}
-use Rattle.safebound_bounds.proofs.GivenSets.{ok_always, wants_memory_within, refused_within}
+use Rattle.safebound_bounds.proofs.GivenSets.{ok_always, no_memory_is_within_cause, refused_within}
 use Rattle.safebound_bounds.proofs.bounding.bounds_within.Goals as goal
 
 pub parts_of-requires : goal.parts_of-requires
 parts_of-requires c = λ i low. record {
-  left = omega (arith, (c.in_ok-check_room.ensures.right.equalities_right.each i low).left, c.in_ok-check_room.ensures.right.rows_right.few);
-  right = omega (arith, (c.in_ok-check_room.ensures.right.equalities_right.each i low).right, c.in_ok-check_room.ensures.right.rows_right.few);
-  two = (c.in_ok-check_room.ensures.right.equalities_right.each i low).two;
+  left = omega (arith, (c.in_ok-check_room.ensures.right.equalities_are_valid.each i low).left, c.in_ok-check_room.ensures.right.rows_are_valid.few);
+  right = omega (arith, (c.in_ok-check_room.ensures.right.equalities_are_valid.each i low).right, c.in_ok-check_room.ensures.right.rows_are_valid.few);
+  two = (c.in_ok-check_room.ensures.right.equalities_are_valid.each i low).two;
 }
 
 pub returns-in_err-check_room-clause-refused : goal.returns-in_err-check_room-clause-refused
@@ -22,16 +22,16 @@ returns-in_err-check_work-clause-refused c =
     rw (p.1, p.2) (c.in_err-check_work.ensures.refused (length c.args.into.now) c.in_ok-check_room.ensures.room)
 
 pub returns-clause-within : goal.returns-clause-within
-returns-clause-within c = ok_always _ c.fill.result c.in_ok-check_work.ensures.within
+returns-clause-within c = ok_always _ c.write_all_bounds.result c.in_ok-check_work.ensures.within
 
 pub returns-clause-done : goal.returns-clause-done
-returns-clause-done c = c.fill.ensures.done
+returns-clause-done c = c.write_all_bounds.ensures.done
 
 pub returns-clause-refused : goal.returns-clause-refused
-returns-clause-refused c = wants_memory_within c.args.rows.now c.args.equalities.now c.args.lists.now c.args.runs.now c.args.limit (length c.args.into.now) c.fill.result c.fill.ensures.refused
+returns-clause-refused c = no_memory_is_within_cause c.args.rows.now c.args.equalities.now c.args.lists.now c.args.runs.now c.args.limit (length c.args.into.now) c.write_all_bounds.result c.write_all_bounds.ensures.refused
 
 pub returns-clause-right : goal.returns-clause-right
-returns-clause-right c = ok_always _ c.fill.result c.in_ok-check_room.ensures.right
+returns-clause-right c = ok_always _ c.write_all_bounds.result c.in_ok-check_room.ensures.right
 
 pub returns-clause-never_under : goal.returns-clause-never_under
-returns-clause-never_under c = room_told c.args.rows.now c.args.equalities.now c.args.lists.now c.args.runs.now c.in_ok-check_room.ensures.right c.args.into.now c.fill.new.into c.fill.result c.fill.ensures.done
+returns-clause-never_under c = room_told c.args.rows.now c.args.equalities.now c.args.lists.now c.args.runs.now c.in_ok-check_room.ensures.right c.args.into.now c.write_all_bounds.new.into c.write_all_bounds.result c.write_all_bounds.ensures.done

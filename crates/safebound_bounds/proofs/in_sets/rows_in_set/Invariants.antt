@@ -6,4 +6,4 @@ use Rattle.safebound_bounds.proofs.in_sets.rows_in_set.Given as goal
 
 abbrev pub invariant-loop-entry : goal.invariant-loop-entry
 invariant-loop-entry l =
-    l.met ≡ map (λ entry. joinable_rows l.given.lists.now l.given.runs.now entry (equalities_within l.subset l.edges) (get_or l.given.rows.now entry 0)) (range_with_len 0 l.entry)
+    l.joinable ≡ map (λ entry. joinable_rows l.given.lists.now l.given.runs.now entry (equalities_within l.subset l.edges) (get_or l.given.rows.now entry 0)) (range_with_len 0 l.entry)

@@ -5,17 +5,17 @@ use Rattle.safebound_lists.specs.Runs.{AreValid, list_of}
 use Rattle.safebound_bounds.specs.declared.arguments.ColumnList.{ColumnList}
 use Rattle.safebound_bounds.specs.Arguments.{RunsExist, runs_of}
 use Rattle.safebound_bounds.specs.Meaning.{decoded_list}
-use Rattle.safebound_bounds.proofs.Bounded.{found_at}
+use Rattle.safebound_bounds.proofs.Bounded.{list_found_satisfies}
 use Rattle.safebound_bounds.proofs.in_sets.rows_with_value.Goals as goal
 
 pub own_runs-requires : goal.own_runs-requires
 own_runs-requires c =
-    (found_at c.args.place.entry c.args.place.column c.args.lists.now (RunsExist (length c.args.runs.now)) c.requires.there c.in-Some.list (sym c.in-Some.ensures)).0
+    (list_found_satisfies c.args.place.entry c.args.place.column c.args.lists.now (RunsExist (length c.args.runs.now)) c.requires.there c.in-Some.list (sym c.in-Some.ensures)).0
 
 pub total-requires : goal.total-requires
 total-requires c =
     subst AreValid (sym c.own_runs.ensures)
-    (found_at c.args.place.entry c.args.place.column c.args.lists.now (λ (l : ColumnList). AreValid (runs_of c.args.runs.now l)) c.requires.right c.in-Some.list (sym c.in-Some.ensures)).0
+    (list_found_satisfies c.args.place.entry c.args.place.column c.args.lists.now (λ (l : ColumnList). AreValid (runs_of c.args.runs.now l)) c.requires.right c.in-Some.list (sym c.in-Some.ensures)).0
 
 pub returns-in-Some : goal.returns-in-Some
 returns-in-Some c =

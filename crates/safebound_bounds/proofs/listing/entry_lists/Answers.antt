@@ -7,7 +7,7 @@ use Rattle.safebound_bounds.specs.declared.arguments.ColumnList.{ColumnList}
 use Rattle.safebound_bounds.specs.Arguments.{IsListValidAt, list_at, default_list}
 use Rattle.safebound_bounds.specs.Listed.{HoldsListed}
 use Rattle.safebound_bounds.specs.Meaning.{fitted}
-use Rattle.safebound_bounds.proofs.Holding.{list_more, not_held, rows_there, without_lists}
+use Rattle.safebound_bounds.proofs.Holding.{one_more_list_held, list_is_not_held, row_bound_is_held, without_lists}
 use Rattle.safebound_bounds.proofs.listing.entry_lists.Goals as goal
 
 pub loop-list-init : goal.loop-list-init
@@ -31,9 +31,9 @@ pub add-requires : goal.add-requires
 add-requires c =
     let right : IsListValidAt (length c.args.rows.now) (length c.args.runs.now) c.args.lists.now c.loop-list.list-index = c.requires.lists c.loop-list.list-index c.loop-list-test.true in
     record {
-      total = rows_there c.args.rows.now (length c.args.rows.now) (take c.loop-list.list-index c.args.lists.now) c.args.runs.now c.loop-list.known c.loop-list.invariant
+      total = row_bound_is_held c.args.rows.now (length c.args.rows.now) (take c.loop-list.list-index c.args.lists.now) c.args.runs.now c.loop-list.known c.loop-list.invariant
           (list_at c.args.lists.now c.loop-list.list-index).entry right.entry ∙ ap Some (sym c.in_ok-fitting.ensures.total);
-      no_list = not_held c.args.rows.now (length c.args.rows.now) (take c.loop-list.list-index c.args.lists.now) c.args.runs.now c.loop-list.known
+      no_list = list_is_not_held c.args.rows.now (length c.args.rows.now) (take c.loop-list.list-index c.args.lists.now) c.args.runs.now c.loop-list.known
           (list_at c.args.lists.now c.loop-list.list-index).entry (list_at c.args.lists.now c.loop-list.list-index).column c.loop-list.invariant right.once;
     }
 
@@ -42,7 +42,7 @@ loop-list-preserved c =
     let right : IsListValidAt (length c.args.rows.now) (length c.args.runs.now) c.args.lists.now c.loop-list.list-index = c.requires.lists c.loop-list.list-index c.loop-list-test.true in
     subst (λ (s : List ColumnList). HoldsListed c.args.rows.now (length c.args.rows.now) s c.args.runs.now c.add.new.self)
     (sym (take_more c.args.lists.now c.loop-list.list-index default_list c.loop-list-test.true))
-    (list_more c.args.rows.now (length c.args.rows.now) (take c.loop-list.list-index c.args.lists.now) c.args.runs.now (list_at c.args.lists.now c.loop-list.list-index)
+    (one_more_list_held c.args.rows.now (length c.args.rows.now) (take c.loop-list.list-index c.args.lists.now) c.args.runs.now (list_at c.args.lists.now c.loop-list.list-index)
     c.loop-list.known c.add.new.self c.in_ok-fitting.fitting c.loop-list.invariant right.once
     (c.in_ok-fitting.ensures.list ∙ ap (λ (own : List Run). fitted (get_or c.args.rows.now (list_at c.args.lists.now c.loop-list.list-index).entry 0) (list_of own)) c.own_runs-own.ensures)
     c.in_ok-add.ensures.set c.in_ok-add.ensures.others c.in_ok-add.ensures.rows)

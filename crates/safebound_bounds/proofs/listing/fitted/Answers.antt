@@ -2,11 +2,11 @@ use Rattle.std.proofs.Common.{◌≡◌, ◌-◌, ◌≤◌, ◌++◌, length, r
 use Rattle.std.specs.List.{All}
 use Rattle.std.proofs.lemmas.List.Elements.{All-from_recursion}
 use Rattle.degree_sequences.specs.Descending.{IsDescending}
-use Rattle.degree_sequences.specs.RunningSums.{cut_at}
+use Rattle.degree_sequences.specs.RunningSums.{capped_at}
 use Rattle.safebound_lists.specs.Runs.{list_of}
-use Rattle.piece_math.proofs.Cutting.{positive-cut_at}
+use Rattle.piece_math.proofs.Cutting.{positive-capped_at}
 use Rattle.safebound_bounds.specs.Meaning.{fitted}
-use Rattle.safebound_bounds.proofs.Fitting.{cut_sum, fitted_sum, made_full, made_longer, length_at_most_sum, one_or_more, valid_runs_descend}
+use Rattle.safebound_bounds.proofs.Fitting.{cut_sum, fitted_sum, cut_list_is_fitted, lengthened_list_is_fitted, length_at_most_sum, positive_is_at_least_one, valid_runs_descend}
 use Rattle.safebound_bounds.proofs.listing.fitted.Goals as goal
 use Rattle.safebound_bounds.proofs.listing.fitted.Goals.{then-total-rows+in_ok-push_run, else-total-rows}
 
@@ -17,7 +17,7 @@ pub push_run-requires-clause-falls : goal.push_run-requires-clause-falls
 push_run-requires-clause-falls c =
     let falls : IsDescending c.in_ok-list.list = subst IsDescending (sym c.in_ok-list.ensures.pieces) (valid_runs_descend c.args.runs.now c.requires.right) in
     subst (All (λ x. 1 ≤ x)) (sym c.in_ok-cut.ensures.value)
-    (All-from_recursion (λ x. 1 ≤ x) (cut_at c.in_ok-list.list c.args.rows) (one_or_more (cut_at c.in_ok-list.list c.args.rows) (positive-cut_at c.in_ok-list.list c.args.rows falls)))
+    (All-from_recursion (λ x. 1 ≤ x) (capped_at c.in_ok-list.list c.args.rows) (positive_is_at_least_one (capped_at c.in_ok-list.list c.args.rows) (positive-capped_at c.in_ok-list.list c.args.rows falls)))
 
 pub push_run-requires-clause-room : goal.push_run-requires-clause-room
 push_run-requires-clause-room c =
@@ -25,7 +25,7 @@ push_run-requires-clause-room c =
     omega (
       arith,
       ap length c.in_ok-cut.ensures.value,
-      length_at_most_sum (cut_at c.in_ok-list.list c.args.rows) (positive-cut_at c.in_ok-list.list c.args.rows falls),
+      length_at_most_sum (capped_at c.in_ok-list.list c.args.rows) (positive-capped_at c.in_ok-list.list c.args.rows falls),
       cut_sum c.in_ok-list.list c.args.rows,
       c.requires.rows,
     )
@@ -37,9 +37,9 @@ returns-clause-list c =
     let is : c.total-total.result ≡ sum c.in_ok-cut.cut = omega (arith, c.total-total.ensures, total, c.requires.rows) in
     elim c.if-total-rows.branch [
       | then-total-rows+in_ok-push_run w ↦ w.cut-is
-          ∙ made_longer c.args.rows c.in_ok-list.list c.in_ok-cut.cut w.push_run.new.self c.in_ok-cut.ensures.value
+          ∙ lengthened_list_is_fitted c.args.rows c.in_ok-list.list c.in_ok-cut.cut w.push_run.new.self c.in_ok-cut.ensures.value
           (w.in_ok-push_run.ensures.ok ∙ ap (λ n. c.in_ok-cut.cut ++ replicate (c.args.rows - n) 1) is) ∙ same
-      | else-total-rows w ↦ w.cut-is ∙ made_full c.args.rows c.in_ok-list.list c.in_ok-cut.cut c.in_ok-cut.ensures.value (omega (arith, is, w.if-total-rows.false)) ∙ same
+      | else-total-rows w ↦ w.cut-is ∙ cut_list_is_fitted c.args.rows c.in_ok-list.list c.in_ok-cut.cut c.in_ok-cut.ensures.value (omega (arith, is, w.if-total-rows.false)) ∙ same
     ]
 
 pub returns-clause-total : goal.returns-clause-total

@@ -1,5 +1,5 @@
 use Rattle.std.proofs.Common.{◌≡◌, refl}
-use Rattle.safebound_c.proofs.StatusFacts.{done_at, done_from_status, kept_always}
+use Rattle.safebound_c.proofs.StatusFacts.{done_for_number_in_detail, done_from_status, buffer_is_unchanged}
 use Rattle.safebound_c.proofs.bounding.safebound_set_bound.Goals as goal
 
 pub returns-clause-exact : goal.returns-clause-exact
@@ -9,7 +9,7 @@ returns-clause-exact c = record {
   detail = c.answer_status.ensures.detail;
   done = c.set_bound.ensures.done;
   refused = c.set_bound.ensures.refused;
-  kept = kept_always (c.args.rows.now ≡ c.args.rows.now) c.set_bound.result refl;
+  kept = buffer_is_unchanged (c.args.rows.now ≡ c.args.rows.now) c.set_bound.result refl;
 }
 
 pub returns-clause-right : goal.returns-clause-right
@@ -19,4 +19,4 @@ pub returns-clause-there : goal.returns-clause-there
 returns-clause-there c = λ zero. done_from_status _ c.set_bound.result c.answer_status.result c.answer_status.ensures.status zero c.set_bound.ensures.there
 
 pub returns-clause-never_under : goal.returns-clause-never_under
-returns-clause-never_under c = λ zero. done_at _ c.set_bound.result c.answer_status.result c.answer_status.new.detail _ c.answer_status.ensures.status c.answer_status.ensures.detail zero c.set_bound.ensures.never_under
+returns-clause-never_under c = λ zero. done_for_number_in_detail _ c.set_bound.result c.answer_status.result c.answer_status.new.detail _ c.answer_status.ensures.status c.answer_status.ensures.detail zero c.set_bound.ensures.never_under

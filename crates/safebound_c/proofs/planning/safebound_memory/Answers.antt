@@ -1,5 +1,5 @@
 use Rattle.std.proofs.Common.{◌≡◌, refl}
-use Rattle.safebound_c.proofs.StatusFacts.{kept_always}
+use Rattle.safebound_c.proofs.StatusFacts.{buffer_is_unchanged}
 use Rattle.safebound_c.proofs.planning.safebound_memory.Goals as goal
 
 pub returns : goal.returns
@@ -10,6 +10,6 @@ returns c = record {
     detail = c.answer_status.ensures.detail;
     done = c.order_memory.ensures.done;
     refused = c.order_memory.ensures.refused;
-    kept = kept_always (c.args.levels.now ≡ c.args.levels.now) c.order_memory.result refl;
+    kept = buffer_is_unchanged (c.args.levels.now ≡ c.args.levels.now) c.order_memory.result refl;
   };
 }

@@ -1,5 +1,5 @@
 use Rattle.std.proofs.Common.{◌≡◌, refl}
-use Rattle.safebound_c.proofs.StatusFacts.{kept_always}
+use Rattle.safebound_c.proofs.StatusFacts.{buffer_is_unchanged}
 use Rattle.safebound_c.proofs.planning.safebound_tree_memory.Goals as goal
 
 pub returns : goal.returns
@@ -10,6 +10,6 @@ returns c = record {
     detail = c.answer_status.ensures.detail;
     done = c.tree_memory.ensures.done;
     refused = c.tree_memory.ensures.refused;
-    kept = kept_always (c.args.joins.now ≡ c.args.joins.now) c.tree_memory.result refl;
+    kept = buffer_is_unchanged (c.args.joins.now ≡ c.args.joins.now) c.tree_memory.result refl;
   };
 }

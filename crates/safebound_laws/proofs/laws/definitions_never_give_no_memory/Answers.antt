@@ -7,19 +7,19 @@ use Rattle.safebound_laws.proofs.TableErrors as tables
 use Rattle.safebound_laws.proofs.laws.definitions_never_give_no_memory.Goals as goal
 
 pub returns-clause-schemas : goal.returns-clause-schemas
-returns-clause-schemas c = schemas.never_memory
+returns-clause-schemas c = schemas.never_out_of_memory
 
 pub returns-clause-queries : goal.returns-clause-queries
-returns-clause-queries c = queries.never_memory
+returns-clause-queries c = queries.never_out_of_memory
 
 pub returns-clause-tables : goal.returns-clause-tables
-returns-clause-tables c = tables.never_memory
+returns-clause-tables c = tables.never_out_of_memory
 
 pub returns-clause-plans : goal.returns-clause-plans
 returns-clause-plans c = never_wants_memory
 
 pub returns-clause-statistics : goal.returns-clause-statistics
-returns-clause-statistics c = stats.never_memory
+returns-clause-statistics c = stats.never_out_of_memory
 
 pub returns-clause-filed_plans : goal.returns-clause-filed_plans
 returns-clause-filed_plans c = λ terms query file. never_no_memory terms.shape (set_bounds_of_file query file) (scan_bounds_of_file query file) terms.budget

@@ -6,7 +6,7 @@ use Rattle.safebound_lists.specs.Causes.{IsAppendCause}
 use Rattle.safebound_lists.specs.Runs.{MayBeAdded, list_of}
 use Rattle.safebound_lists.specs.Written.{IsWritten}
 use Rattle.safebound_lists.proofs.Small.{sum_exact, sum_fits}
-use Rattle.safebound_lists.proofs.Writing.{as_cause, if_done}
+use Rattle.safebound_lists.proofs.Writing.{room_refusal_is_cause, on_ok_of_proof}
 use Rattle.safebound_lists.proofs.adding.append.Goals as goal
 
 pub returns-clause-right : goal.returns-clause-right
@@ -15,10 +15,10 @@ returns-clause-right c =
     omega (arith, c.total.ensures, c.total-2.ensures, c.in_ok-list.ensures.small, c.in_ok-other.ensures.small, c.from.ensures) in
     let may : MayBeAdded c.args.runs.now c.args.others.now = record {
       right = c.in_default.ensures;
-      others_right = c.in_default-first_wrong_run.ensures;
+      others_are_valid = c.in_default-first_invalid_run.ensures;
       small = omega (arith, small, ap sum c.in_ok-list.ensures.pieces, ap sum c.in_ok-other.ensures.pieces);
     } in
-    if_done c.write_runs.result may
+    on_ok_of_proof c.write_runs.result may
 
 pub write_runs-requires : goal.write_runs-requires
 write_runs-requires c =
@@ -45,8 +45,8 @@ returns-clause-refused c =
     ∙ ap (rank_sum (list_of c.args.runs.now)) c.in_ok-other.ensures.pieces in
     let may : MayBeAdded c.args.runs.now c.args.others.now = record {
       right = c.in_default.ensures;
-      others_right = c.in_default-first_wrong_run.ensures;
+      others_are_valid = c.in_default-first_invalid_run.ensures;
       small = omega (arith, small, ap sum c.in_ok-list.ensures.pieces, ap sum c.in_ok-other.ensures.pieces);
     } in
-    as_cause (IsAppendCause c.args.runs.now c.args.others.now (length c.args.into.now)) (runs_in c.in_ok-both.both) (length c.args.into.now)
+    room_refusal_is_cause (IsAppendCause c.args.runs.now c.args.others.now (length c.args.into.now)) (runs_in c.in_ok-both.both) (length c.args.into.now)
     (λ n is low. (may, is ∙ ap runs_in same, omega (arith, ap runs_in same, low))) c.write_runs.result c.write_runs.ensures.refused

@@ -6,7 +6,7 @@ use Rattle.safebound_lists.specs.Causes.{IsGreaterCause}
 use Rattle.safebound_lists.specs.Runs.{MayTakeGreater, list_of}
 use Rattle.safebound_lists.specs.Written.{IsWritten}
 use Rattle.safebound_lists.proofs.Small.{AreSmallLists, fits_within, maximum_exact, maximum_total}
-use Rattle.safebound_lists.proofs.Writing.{as_cause, if_done}
+use Rattle.safebound_lists.proofs.Writing.{room_refusal_is_cause, on_ok_of_proof}
 use Rattle.safebound_lists.proofs.comparing.greater_of.Goals as goal
 
 pub overflow_cast-result : goal.overflow_cast-result
@@ -31,7 +31,7 @@ returns-then-sum-from-clause-refused c =
       is_saturated = c.in_ok-both.ensures.value;
     } in
     let total = maximum_total c.in_ok-list.list c.in_ok-other.other (list_of c.args.runs.now) (list_of c.args.others.now) c.in_ok-both.both c.total-sum.result are c.total-sum.ensures in
-    (record { right = c.in_default.ensures; others_right = c.in_default-first_wrong_run.ensures }, total.0, omega (arith, c.from.ensures))
+    (record { right = c.in_default.ensures; others_are_valid = c.in_default-first_invalid_run.ensures }, total.0, omega (arith, c.from.ensures))
 
 pub write_runs-requires : goal.write_runs-requires
 write_runs-requires c =
@@ -68,10 +68,10 @@ returns-clause-right c =
     } in
     let total = maximum_total c.in_ok-list.list c.in_ok-other.other (list_of c.args.runs.now) (list_of c.args.others.now) c.in_ok-both.both c.total-sum.result are c.total-sum.ensures in
     let may : MayTakeGreater c.args.runs.now c.args.others.now = record {
-      both = record { right = c.in_default.ensures; others_right = c.in_default-first_wrong_run.ensures };
+      both = record { right = c.in_default.ensures; others_are_valid = c.in_default-first_invalid_run.ensures };
       small = omega (arith, total.0, c.from.ensures);
     } in
-    if_done c.write_runs.result may
+    on_ok_of_proof c.write_runs.result may
 
 pub returns-clause-refused : goal.returns-clause-refused
 returns-clause-refused c =
@@ -85,8 +85,8 @@ returns-clause-refused c =
     let total = maximum_total c.in_ok-list.list c.in_ok-other.other (list_of c.args.runs.now) (list_of c.args.others.now) c.in_ok-both.both c.total-sum.result are c.total-sum.ensures in
     let same : c.in_ok-both.both ≡ rank_maximum (list_of c.args.runs.now) (list_of c.args.others.now) = maximum_exact c.in_ok-list.list c.in_ok-other.other (list_of c.args.runs.now) (list_of c.args.others.now) c.in_ok-both.both are in
     let may : MayTakeGreater c.args.runs.now c.args.others.now = record {
-      both = record { right = c.in_default.ensures; others_right = c.in_default-first_wrong_run.ensures };
+      both = record { right = c.in_default.ensures; others_are_valid = c.in_default-first_invalid_run.ensures };
       small = omega (arith, total.0, c.from.ensures);
     } in
-    as_cause (IsGreaterCause c.args.runs.now c.args.others.now (length c.args.into.now)) (runs_in c.in_ok-both.both) (length c.args.into.now)
+    room_refusal_is_cause (IsGreaterCause c.args.runs.now c.args.others.now (length c.args.into.now)) (runs_in c.in_ok-both.both) (length c.args.into.now)
     (λ n is low. (may, is ∙ ap runs_in same, omega (arith, ap runs_in same, low))) c.write_runs.result c.write_runs.ensures.refused

@@ -6,7 +6,7 @@ use Rattle.safebound_lists.specs.Causes.{IsCompressCause}
 use Rattle.safebound_lists.specs.Runs.{MayBeCompressed, list_of}
 use Rattle.safebound_lists.specs.Written.{IsWritten}
 use Rattle.safebound_lists.proofs.Small.{fits_within}
-use Rattle.safebound_lists.proofs.Writing.{as_cause, if_done}
+use Rattle.safebound_lists.proofs.Writing.{room_refusal_is_cause, on_ok_of_proof}
 use Rattle.safebound_lists.proofs.compressing.compress.Goals as goal
 
 pub write_runs-requires : goal.write_runs-requires
@@ -23,10 +23,10 @@ returns-clause-refused c =
     let same : c.in_ok-few.few ≡ compressed c.args.accuracy (list_of c.args.runs.now) =
     c.in_ok-few.ensures.compressed ∙ ap (λ (a : ℕ). compressed a c.in_ok-list.list) c.of.ensures ∙ ap (compressed c.args.accuracy) c.in_ok-list.ensures.pieces in
     let may : MayBeCompressed c.args.runs.now c.args.accuracy = record { some = omega arith; most = omega arith; right = c.in_default.ensures } in
-    as_cause (IsCompressCause c.args.runs.now c.args.accuracy (length c.args.into.now)) (runs_in c.in_ok-few.few) (length c.args.into.now)
+    room_refusal_is_cause (IsCompressCause c.args.runs.now c.args.accuracy (length c.args.into.now)) (runs_in c.in_ok-few.few) (length c.args.into.now)
     (λ n is low. (may, is ∙ ap runs_in same, omega (arith, ap runs_in same, low))) c.write_runs.result c.write_runs.ensures.refused
 
 pub returns-clause-right : goal.returns-clause-right
 returns-clause-right c =
     let may : MayBeCompressed c.args.runs.now c.args.accuracy = record { some = omega arith; most = omega arith; right = c.in_default.ensures } in
-    if_done c.write_runs.result may
+    on_ok_of_proof c.write_runs.result may

@@ -9,8 +9,8 @@ use Rattle.safebound_plans.proofs.ordering.order.Goals as goal
 
 pub choose-requires : goal.choose-requires
 choose-requires c = record {
-  some = omega (arith, c.in-Some.ensures.some, c.in_ok-scans.ensures);
-  few = omega (arith, c.in-Some.ensures.few, c.in_ok-scans.ensures);
+  not_empty = omega (arith, c.in-Some.ensures.some, c.in_ok-scans.ensures);
+  within_limit = omega (arith, c.in-Some.ensures.few, c.in_ok-scans.ensures);
   bounds = ap length c.in_ok-wide.ensures ∙ length-map c.args.bounds.now in_128_bits ∙ c.in-Some.ensures.sets ∙ ap (λ n. 2 ^ n) (sym c.in_ok-scans.ensures);
   budget = omega arith;
 }

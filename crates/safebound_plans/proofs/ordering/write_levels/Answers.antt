@@ -1,10 +1,10 @@
 use Rattle.std.proofs.Common.{◌<◌, List, length, refl, ap, subst, arith}
 use Rattle.safebound_plans.specs.Orders.{AreLevels}
-use Rattle.safebound_plans.proofs.Filling.{all_levels, none_so_far, one_more_level}
+use Rattle.safebound_plans.proofs.Filling.{all_levels, no_level_is_written_yet, one_more_level}
 use Rattle.safebound_plans.proofs.ordering.write_levels.Goals as goal
 
 pub loop-place-init : goal.loop-place-init
-loop-place-init c = none_so_far c.as_slice-order.result.now c.as_slice-levels.result.now c.args.into.now
+loop-place-init c = no_level_is_written_yet c.as_slice-order.result.now c.as_slice-levels.result.now c.args.into.now
 
 pub bounds-levels-place : goal.bounds-levels-place
 bounds-levels-place c =

@@ -16,9 +16,9 @@ pub returns-clause-between : goal.returns-clause-between
 unfolding command_of reading_of parts_from kind_of_word number_of over_files
 returns-clause-between c = refl
 
-pub returns-clause-a_place_word : goal.returns-clause-a_place_word
+pub returns-clause-positional_word : goal.returns-clause-positional_word
 unfolding command_of reading_of parts_from kind_of_word number_of over_files
-returns-clause-a_place_word c = refl
+returns-clause-positional_word c = refl
 
 pub returns-clause-twice : goal.returns-clause-twice
 unfolding command_of reading_of parts_from kind_of_word number_of over_files

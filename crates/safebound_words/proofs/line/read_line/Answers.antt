@@ -1,5 +1,5 @@
 use Rattle.std.proofs.Common.{map, arith, inl, inr}
-use Rattle.safebound_words.proofs.Steps.{behind_ended, first_asked, line_ended, value_missing}
+use Rattle.safebound_words.proofs.Steps.{line_ended_after_dashes, first_asked, line_ended, value_missing}
 use Rattle.safebound_words.proofs.line.read_line.Goals as goal
 
 pub words-init : goal.words-init
@@ -20,7 +20,7 @@ returns-in-Item c =
     record {
       ok = elim c.in-Item.is [
         | inl next ↦ line_ended c.args.name c.words.line c.args.words.now c.words.word-index _ (omega arith) (rw next at asked)
-        | inr next ↦ behind_ended c.args.name c.words.line c.args.words.now c.words.word-index _ (omega arith) (rw next at asked)
+        | inr next ↦ line_ended_after_dashes c.args.name c.words.line c.args.words.now c.words.word-index _ (omega arith) (rw next at asked)
       ];
       err = tt;
     }

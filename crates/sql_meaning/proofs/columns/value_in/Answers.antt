@@ -1,7 +1,7 @@
 use Rattle.std.proofs.Common.{ℕ, List, length, pos, ap, sym, ◌∙◌, arith}
 use Rattle.csv_tables.specs.Values.{Int}
 use Rattle.csv_tables.proofs.TableFacts.{columns_long}
-use Rattle.sql_meaning.proofs.ColumnFacts.{height, read_is_cell, read_value}
+use Rattle.sql_meaning.proofs.ColumnFacts.{column_length, read_is_cell, read_value}
 use Rattle.sql_meaning.proofs.columns.value_in.Goals as goal
 
 pub bounds-as_slice-column-2 : goal.bounds-as_slice-column-2
@@ -13,7 +13,7 @@ pub bounds-cells-row : goal.bounds-cells-row
 bounds-cells-row c =
     omega (
       arith,
-      height c.args.pool.now c.args.cells.now c.requires.cells c.as_slice-2.result.now c.args.column c.index-as_slice-column.result c.as_slice-2.ensures c.index-as_slice-column.is c.requires.column,
+      column_length c.args.pool.now c.args.cells.now c.requires.cells c.as_slice-2.result.now c.args.column c.index-as_slice-column.result c.as_slice-2.ensures c.index-as_slice-column.is c.requires.column,
       ap (λ (s : List ℕ). length s) c.as_slice-cells.ensures,
     )
 

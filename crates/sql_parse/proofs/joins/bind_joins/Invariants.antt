@@ -15,7 +15,7 @@ invariant-all l = record {
       ≡ or_first l.held.kind (flat_map (kinds_in l.binder) (conditions_of_joins l.fn.visible.scope.first (l.fn.visible.scope.end + l.join-index) (drop l.join-index l.joins)));
   list : or_first l.fn.held.list (flat_map long_lists_in (conditions_of_joins l.fn.visible.scope.first l.fn.visible.scope.end l.joins))
       ≡ or_first l.held.list (flat_map long_lists_in (conditions_of_joins l.fn.visible.scope.first (l.fn.visible.scope.end + l.join-index) (drop l.join-index l.joins)));
-  lasts : l.held.list ≡ None → l.fn.held.list ≡ None;
+  list_stays_noted : l.held.list ≡ None → l.fn.held.list ≡ None;
   members : length (from_of l.binder) ≤ 12 → l.held.list ≡ None → l.fn.conjuncts ++ flat_map (members_in l.binder) (conditions_of_joins l.fn.visible.scope.first l.fn.visible.scope.end l.joins)
       ≡ l.conjuncts ++ flat_map (members_in l.binder) (conditions_of_joins l.fn.visible.scope.first (l.fn.visible.scope.end + l.join-index) (drop l.join-index l.joins));
 }

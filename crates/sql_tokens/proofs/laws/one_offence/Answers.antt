@@ -1,5 +1,5 @@
-use Rattle.sql_tokens.proofs.WholeTexts.{one_place}
+use Rattle.sql_tokens.proofs.WholeTexts.{one_error_offset}
 use Rattle.sql_tokens.proofs.laws.one_offence.Goals as goal
 
 pub returns : goal.returns
-returns c = one_place
+returns c = one_error_offset

@@ -2,7 +2,7 @@ use Rattle.std.proofs.Common.{refl}
 use Rattle.std.specs.Fmt.{digits}
 use Rattle.stats_file.specs.FileText.{file_lines, pair_lines, table_lines}
 use Rattle.stats_file.specs.Runs.{runs_of}
-use Rattle.stats_file.proofs.CaseFacts.{empty_keeps}
+use Rattle.stats_file.proofs.CaseFacts.{stats_without_rows_keep_rules}
 use Rattle.stats_file.proofs.cases.examples.Goals as goal
 
 pub returns-clause-no_rows : goal.returns-clause-no_rows
@@ -10,7 +10,7 @@ unfolding file_lines pair_lines table_lines runs_of digits
 returns-clause-no_rows c = refl
 
 pub returns-clause-keeps : goal.returns-clause-keeps
-returns-clause-keeps c = empty_keeps
+returns-clause-keeps c = stats_without_rows_keep_rules
 
 pub returns-clause-six : goal.returns-clause-six
 unfolding pair_lines runs_of digits

@@ -4,13 +4,13 @@ use Rattle.std.proofs.lemmas.Result.{err_from_is_err_and}
 use Rattle.stats_file.specs.Lines.{hex_byte}
 use Rattle.base_io.specs.Devices.{growth}
 use Rattle.base_io.specs.Writes.{WroteBuffered}
-use Rattle.base_io.proofs.WriteFacts.{put_failed, put_err, put_then}
+use Rattle.base_io.proofs.WriteFacts.{put_failed, put_with_other_error, put_then}
 use Rattle.stats_file.proofs.parts.put_hex.Goals as goal
 
 pub returns-in_err-put : goal.returns-in_err-put
 returns-in_err-put g c =
     let p = err_from_is_err_and c.from_residual.result c.from_residual.ensures.1 in
-    put_err p.1 (put_failed (flat_map hex_byte c.args.bytes.now) c.in_err-put.ensures)
+    put_with_other_error p.1 (put_failed (flat_map hex_byte c.args.bytes.now) c.in_err-put.ensures)
 
 pub returns : goal.returns
 returns g c =

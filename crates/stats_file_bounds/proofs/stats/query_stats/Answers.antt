@@ -27,8 +27,8 @@ pub returns-clause-tells : goal.returns-clause-tells
 returns-clause-tells c =
     let stats : QueryStats = record { entries = c.loop-entry.entries } in
     all_told c.args.query.now c.args.file.now c.requires.file c.requires.own stats
-    (λ entry low. c.loop-entry.invariant.0.each entry (omega (arith, low, c.loop-entry-test.false, c.len-entry-end.ensures)))
-    (λ entry low. c.loop-entry.invariant.1 entry (omega (arith, low, c.loop-entry-test.false, c.len-entry-end.ensures)))
+    (λ entry entry_in_range. c.loop-entry.invariant.0.each entry (omega (arith, entry_in_range, c.loop-entry-test.false, c.len-entry-end.ensures)))
+    (λ entry entry_in_range. c.loop-entry.invariant.1 entry (omega (arith, entry_in_range, c.loop-entry-test.false, c.len-entry-end.ensures)))
     (omega (arith, c.loop-entry.invariant.0.as_many, c.loop-entry-test.false, c.loop-entry.auto.entry-end, c.len-entry-end.ensures))
 
 pub returns-clause-none_missing : goal.returns-clause-none_missing

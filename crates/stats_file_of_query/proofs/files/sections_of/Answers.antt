@@ -1,7 +1,7 @@
 use Rattle.std.proofs.Common.{Option, Some, option_map, ap, sym, ◌∙◌}
 use Rattle.stats_file_of_query.specs.Databases.{section_of_cells}
 use Rattle.stats_file_of_query.specs.Files.{first_entry}
-use Rattle.stats_file_of_query.proofs.Few.{few_columns}
+use Rattle.stats_file_of_query.proofs.Few.{columns_below_2_32}
 use Rattle.stats_file_of_query.proofs.SameSections.{first_is}
 use Rattle.stats_file_of_query.proofs.Walks.{same_if_none, append_if_some}
 use Rattle.stats_file_of_query.proofs.files.sections_of.Goals as goal
@@ -10,9 +10,9 @@ use Rattle.stats_file_of_query.proofs.files.sections_of.Goals.{in-Some+in_ok-sec
 pub section_of-requires-clause-entry : goal.section_of-requires-clause-entry
 section_of-requires-clause-entry c = (first_is c.args.query.now c.loop-table.table c.in-Some.entry (sym c.first_entry.ensures ∙ c.in-Some.is)).0
 
-pub section_of-requires-clause-few : goal.section_of-requires-clause-few
-section_of-requires-clause-few c =
-    few_columns c.args.schema.now c.args.query.now c.args.db.now c.requires.over c.in-Some.entry
+pub section_of-requires-clause-within_limit : goal.section_of-requires-clause-within_limit
+section_of-requires-clause-within_limit c =
+    columns_below_2_32 c.args.schema.now c.args.query.now c.args.db.now c.requires.over c.in-Some.entry
     (first_is c.args.query.now c.loop-table.table c.in-Some.entry (sym c.first_entry.ensures ∙ c.in-Some.is)).0
 
 pub loop-table-preserved : goal.loop-table-preserved

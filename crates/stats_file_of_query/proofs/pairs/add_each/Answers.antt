@@ -1,11 +1,11 @@
 use Rattle.std.proofs.Common.{◌++◌, ◌∷◌, [], ap, ◌∙◌, arith}
 use Rattle.stats_file_of_query.proofs.Adding.{one_pair_more}
 use Rattle.stats_file_of_query.specs.Pairs.{pair_in_cells}
-use Rattle.stats_file_of_query.proofs.Made.{are_its, column_in, columns_many, its_cells, its_height, its_kind}
+use Rattle.stats_file_of_query.proofs.Made.{are_its, column_in, column_in_columns, its_cells, column_length, its_kind}
 use Rattle.stats_file_of_query.proofs.pairs.add_each.Goals as goal
 
 pub get-requires : goal.get-requires
-get-requires c = columns_many c.args.pool.now c.args.cells.now c.requires.cells c.args.filter c.requires.filter
+get-requires c = column_in_columns c.args.pool.now c.args.cells.now c.requires.cells c.args.filter c.requires.filter
 
 pub new-requires-clause-cells : goal.new-requires-clause-cells
 new-requires-clause-cells c =
@@ -17,7 +17,7 @@ pub new-requires-clause-rows : goal.new-requires-clause-rows
 new-requires-clause-rows c =
     omega (
       arith,
-      its_height c.args.pool.now c.args.cells.now c.requires.cells c.args.filter c.requires.filter c.as_slice.result.now
+      column_length c.args.pool.now c.args.cells.now c.requires.cells c.args.filter c.requires.filter c.as_slice.result.now
           (its_cells c.args.pool.now c.args.cells.now c.requires.cells c.args.filter c.requires.filter c.get.result.now c.as_slice.result.now c.get.ensures c.as_slice.ensures),
       c.row_count-rows.ensures,
       c.row_count-rows.type_inv,

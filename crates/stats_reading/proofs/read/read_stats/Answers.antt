@@ -15,11 +15,11 @@ lines-preserved c =
     read_more c.args.schema.now c.args.bytes.now c.lines.rest.now c.in-Some.text.now c.in-Some.others.now c.lines.draft c.take_line.new.draft c.lines.line
     c.lines.invariant c.in-Some.ensures c.in_default-take_line.ensures
 
-pub returns-then-is_whole : goal.returns-then-is_whole
-returns-then-is_whole c =
-    let both = c.is_whole.ensures.0 (cc) in
+pub returns-then-is_complete : goal.returns-then-is_complete
+returns-then-is_complete c =
+    let both = c.is_complete.ensures.0 (cc) in
     all_read c.args.schema.now c.args.bytes.now c.lines.rest.now c.lines.draft c.lines.line c.finish.result c.lines.invariant both.0 both.1 c.finish.ensures
 
-pub returns-else-is_whole : goal.returns-else-is_whole
-returns-else-is_whole c =
-    too_early c.args.schema.now c.args.bytes.now c.lines.rest.now c.lines.draft c.lines.line c.lines.invariant c.in_default.ensures (λ both. let told = c.is_whole.ensures.1 both in cc)
+pub returns-else-is_complete : goal.returns-else-is_complete
+returns-else-is_complete c =
+    too_early c.args.schema.now c.args.bytes.now c.lines.rest.now c.lines.draft c.lines.line c.lines.invariant c.in_default.ensures (λ both. let told = c.is_complete.ensures.1 both in cc)

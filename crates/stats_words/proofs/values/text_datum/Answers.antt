@@ -7,11 +7,11 @@ use Rattle.stats_file.specs.declared.types.Datum.TheVariants as datums
 use Rattle.stats_file.specs.Lines.{datum_text, hex_text}
 use Rattle.stats_file.specs.Rules.{IsOfKind}
 use Rattle.stats_words.specs.Words.{Spells}
-use Rattle.stats_words.proofs.TextFacts.{no_hex, text_spelled}
+use Rattle.stats_words.proofs.TextFacts.{not_hex_spells_no_text, text_spelled}
 use Rattle.stats_words.proofs.values.text_datum.Goals as goal
 
 pub returns-then-not-is_hex_word : goal.returns-then-not-is_hex_word
-returns-then-not-is_hex_word c = λ most. no_hex most c.args.word.now (λ is. let told = c.is_hex_word.ensures.1 is in cc)
+returns-then-not-is_hex_word c = λ most. not_hex_spells_no_text most c.args.word.now (λ is. let told = c.is_hex_word.ensures.1 is in cc)
 
 pub returns : goal.returns
 returns c = λ most.

@@ -3,26 +3,26 @@ use Rattle.std.specs.List.{All}
 use Rattle.std.proofs.lemmas.Result.{err_from_is_err_and}
 use Rattle.query_types.specs.declared.types.Source.{Source}
 use Rattle.table_files.specs.Stage.{numbers_of, index_of, tables_of_query}
-use Rattle.table_files.proofs.DatabaseOfQuery.{numbers_few, numbers_low}
-use Rattle.table_files.proofs.EntryRows.{each_long}
+use Rattle.table_files.proofs.DatabaseOfQuery.{at_most_twelve_tables, table_numbers_within}
+use Rattle.table_files.proofs.EntryRows.{each_count}
 use Rattle.table_files.proofs.SameTables.{first_place, same_tables, some_slot}
-use Rattle.table_files.proofs.StageFacts.{found_cells, found_database, found_files, made, stage_read, stage_stops}
+use Rattle.table_files.proofs.StageFacts.{found_cells, found_database, found_files, database_of, stage_read, stage_stops}
 use Rattle.table_files.proofs.stage.read_tables.Goals as goal
 
 pub slots-requires : goal.slots-requires
 slots-requires g c =
     let named : c.as_slice.result.now ≡ tables_of_query c.args.query.now.from = c.as_slice.ensures ∙ c.in-Ok.ensures ∙ ap tables_of_query c.as_slice-from.ensures in
-    omega (arith, ap length named, numbers_few c.args.schema.now c.args.query.now c.requires.query)
+    omega (arith, ap length named, at_most_twelve_tables c.args.schema.now c.args.query.now c.requires.query)
 
 pub read_each-requires-clause-numbers : goal.read_each-requires-clause-numbers
 read_each-requires-clause-numbers g c =
     let named : c.as_slice-2.result.now ≡ tables_of_query c.args.query.now.from = c.as_slice-2.ensures ∙ c.in-Ok.ensures ∙ ap tables_of_query c.as_slice-from.ensures in
-    subst (All (λ number. number < length c.args.schema.now.tables)) (sym named) (numbers_low c.args.schema.now c.args.query.now c.requires.query)
+    subst (All (λ number. number < length c.args.schema.now.tables)) (sym named) (table_numbers_within c.args.schema.now c.args.query.now c.requires.query)
 
 pub read_each-requires-clause-few : goal.read_each-requires-clause-few
 read_each-requires-clause-few g c =
     let named : c.as_slice-2.result.now ≡ tables_of_query c.args.query.now.from = c.as_slice-2.ensures ∙ c.in-Ok.ensures ∙ ap tables_of_query c.as_slice-from.ensures in
-    omega (arith, ap length named, numbers_few c.args.schema.now c.args.query.now c.requires.query)
+    omega (arith, ap length named, at_most_twelve_tables c.args.schema.now c.args.query.now c.requires.query)
 
 pub returns-in_err-cells-clause-reads : goal.returns-in_err-cells-clause-reads
 returns-in_err-cells-clause-reads g c =
@@ -65,7 +65,7 @@ returns-clause-reads g c =
 pub returns-clause-once : goal.returns-clause-once
 returns-clause-once g c =
     let named : c.as_slice-2.result.now ≡ tables_of_query c.args.query.now.from = c.as_slice-2.ensures ∙ c.in-Ok.ensures ∙ ap tables_of_query c.as_slice-from.ensures in
-    each_long c.args.schema.now c.read_each.new.pool c.as_slice-2.result.now c.in_ok-cells.cells c.in_ok-cells.ensures.cells ∙ ap length named
+    each_count c.args.schema.now c.read_each.new.pool c.as_slice-2.result.now c.in_ok-cells.cells c.in_ok-cells.ensures.cells ∙ ap length named
 
 pub returns-clause-tables : goal.returns-clause-tables
 returns-clause-tables g c =
@@ -75,5 +75,5 @@ returns-clause-tables g c =
     ∙ ap (λ (f : List Source). map (index_of c.as_slice-2.result.now) (numbers_of f)) c.as_slice-from.ensures in
     let there : c.in-Ok-slots.slots ≡ map (index_of (tables_of_query c.args.query.now.from)) (numbers_of c.args.query.now.from) =
     placed ∙ ap (λ (l : List ℕ). map (index_of l) (numbers_of c.args.query.now.from)) named in
-    same_tables (made c.read_each.new.pool c.in_ok-cells.cells c.in-Ok-slots.slots) (some_slot c.args.query.now.from c.in-Ok-slots.slots there c.requires.query.some)
+    same_tables (database_of c.read_each.new.pool c.in_ok-cells.cells c.in-Ok-slots.slots) (some_slot c.args.query.now.from c.in-Ok-slots.slots there c.requires.query.has_entries)
     (ap (λ (slots : List ℕ). get_or slots 0 0) there ∙ first_place c.args.query.now.from)

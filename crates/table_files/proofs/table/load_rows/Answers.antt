@@ -1,5 +1,5 @@
 use Rattle.std.proofs.lemmas.Result.{err_from_is_err_and}
-use Rattle.table_files.proofs.FewRows.{cells_are_few}
+use Rattle.table_files.proofs.FewRows.{cells_within_row_limit}
 use Rattle.table_files.proofs.OneTable.{rows_read, rows_refused, rows_stop}
 use Rattle.table_files.proofs.table.load_rows.Goals as goal
 
@@ -14,7 +14,7 @@ returns-in-Ok-clause-reads g c =
     c.in_ok-bytes.ensures.reads
 
 pub returns-in-Ok-clause-few : goal.returns-in-Ok-clause-few
-returns-in-Ok-clause-few g c = cells_are_few c.args.table.now c.as_slice.result.now _ _ c.in-Ok.ensures.rows
+returns-in-Ok-clause-few g c = cells_within_row_limit c.args.table.now c.as_slice.result.now _ _ c.in-Ok.ensures.rows
 
 pub returns-in-Ok-clause-file : goal.returns-in-Ok-clause-file
 returns-in-Ok-clause-file g c = (c.as_slice.result.now, c.in-Ok.ensures.rows)

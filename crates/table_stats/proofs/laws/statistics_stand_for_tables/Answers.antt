@@ -8,5 +8,5 @@ returns-clause-lists c = lists_stand
 pub returns-clause-counts : goal.returns-clause-counts
 returns-clause-counts c = counts_stand
 
-pub returns-clause-beside : goal.returns-clause-beside
-returns-clause-beside c = λ tables accuracy entry joined key long tells. listed_stand tables accuracy entry joined key long tells
+pub returns-clause-any_joined_list : goal.returns-clause-any_joined_list
+returns-clause-any_joined_list c = λ tables accuracy entry joined key long tells. listed_stand tables accuracy entry joined key long tells

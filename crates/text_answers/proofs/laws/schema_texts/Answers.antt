@@ -1,5 +1,5 @@
-use Rattle.text_answers.proofs.SchemaAnswers.{allowed, only, never_memory, valid}
+use Rattle.text_answers.proofs.SchemaAnswers.{result_is_allowed, only_result, never_out_of_memory, valid}
 use Rattle.text_answers.proofs.laws.schema_texts.Goals as goal
 
 pub returns : goal.returns
-returns c = record { allowed = allowed; only = only; never_memory = never_memory; valid = valid }
+returns c = record { allowed = result_is_allowed; only = only_result; never_out_of_memory = never_out_of_memory; valid = valid }

@@ -1,6 +1,6 @@
 use Rattle.std.proofs.Common.{ℕ, ◌+◌, ◌<◌, List, length, ap, sym, ◌∙◌, subst, arith}
 use Rattle.std.specs.List.{AllByRecursion}
-use Rattle.tree_plans.specs.declared.bushy.Join.{Join}
+use Rattle.plans.specs.declared.bushy.Join.{Join}
 use Rattle.tree_rows.specs.Memory.{joins_bytes}
 use Rattle.tree_rows.proofs.RoomFacts.{right_exist}
 use Rattle.tree_rows.proofs.memory.tree_memory.Goals as goal

@@ -4,7 +4,7 @@ use Rattle.safebound_words.specs.declared.command.ListSource.TheVariants as sour
 use Rattle.prepared_runs.specs.RunOutcome.{Planned}
 use Rattle.worked_run.specs.Meaning.{two_tables_reduced}
 use Rattle.worked_run.specs.TwoTables.{reduced_words, small_files}
-use Rattle.worked_run.proofs.Calls.{answers_done}
+use Rattle.worked_run.proofs.Calls.{each_call_is_done}
 use Rattle.worked_run.proofs.Reduced.{reduced_notes, reduced_printed, reduced_verdict}
 use Rattle.worked_run.proofs.examples.joined_over_reduced_scans.Goals as goal
 
@@ -18,5 +18,5 @@ pub returns-clause-out : goal.returns-clause-out
 returns-clause-out c = reduced_printed sources.Reduced
 
 pub returns-clause-call : goal.returns-clause-call
-returns-clause-call c = answers_done small_files reduced_words (Planned (two_tables_reduced sources.Reduced)) (Some (codes "scan R 3\nscan S 2\nlevel 1 S 2\nlevel 2 R 6\n"))
+returns-clause-call c = each_call_is_done small_files reduced_words (Planned (two_tables_reduced sources.Reduced)) (Some (codes "scan R 3\nscan S 2\nlevel 1 S 2\nlevel 2 R 6\n"))
     (Some (codes "X\r\n1\r\n1\r\n1\r\n1\r\n1\r\n1\r\n")) reduced_verdict (ap (λ (t : List ℕ). Some t) (reduced_notes sources.Reduced)) (reduced_printed sources.Reduced)

@@ -6,7 +6,7 @@ use Rattle.std.proofs.lemmas.List.Elements.{All-take, All-drop}
 use Rattle.cond_stats.specs.Columns.{CellColumn, cell_le}
 use Rattle.cond_stats.specs.Lists.{compressed_degrees, list_of_node}
 use Rattle.cond_stats.specs.Sorted.{keys_at}
-use Rattle.cond_stats.proofs.OnDemand.{places_fit, places_many, at_zero, node_within, starts_ascend, node_list}
+use Rattle.cond_stats.proofs.OnDemand.{places_are_rows, places_as_long_as_column, default_is_zero, node_within, starts_ascend, node_list}
 use Rattle.cond_stats.proofs.column.FilterColumn.list_of_node.Goals as goal
 
 pub places_between-places-requires-clause-order : goal.places_between-places-requires-clause-order
@@ -17,8 +17,8 @@ places_between-places-requires-clause-order c =
     let size : ℕ = c.args.size in
     let first : ℕ = c.args.leaf / size * size in
     let node = node_within size c.args.leaf c.requires.size c.requires.leaf in
-    let from_is : c.index-from.result.now ≡ get_or starts first 0 = at_zero starts first c.index-from.result.now c.index-from.result.now (omega (arith, c.self.invariant.starts_are.length_is, node.1)) c.index-from.ensures in
-    let to_is : c.index-to.result.now ≡ get_or starts (first + size) 0 = at_zero starts (first + size) c.index-to.result.now c.index-to.result.now (omega (arith, c.self.invariant.starts_are.length_is, node.1)) c.index-to.ensures in
+    let from_is : c.index-from.result.now ≡ get_or starts first 0 = default_is_zero starts first c.index-from.result.now c.index-from.result.now (omega (arith, c.self.invariant.starts_are.length_is, node.1)) c.index-from.ensures in
+    let to_is : c.index-to.result.now ≡ get_or starts (first + size) 0 = default_is_zero starts (first + size) c.index-to.result.now c.index-to.result.now (omega (arith, c.self.invariant.starts_are.length_is, node.1)) c.index-to.ensures in
     omega (arith, from_is, to_is, starts_ascend c.self.invariant joined same first (first + size) (omega arith) node.1)
 
 pub places_between-places-requires-clause-within : goal.places_between-places-requires-clause-within
@@ -29,15 +29,15 @@ places_between-places-requires-clause-within c =
     let size : ℕ = c.args.size in
     let first : ℕ = c.args.leaf / size * size in
     let node = node_within size c.args.leaf c.requires.size c.requires.leaf in
-    let from_is : c.index-from.result.now ≡ get_or starts first 0 = at_zero starts first c.index-from.result.now c.index-from.result.now (omega (arith, c.self.invariant.starts_are.length_is, node.1)) c.index-from.ensures in
-    let to_is : c.index-to.result.now ≡ get_or starts (first + size) 0 = at_zero starts (first + size) c.index-to.result.now c.index-to.result.now (omega (arith, c.self.invariant.starts_are.length_is, node.1)) c.index-to.ensures in
+    let from_is : c.index-from.result.now ≡ get_or starts first 0 = default_is_zero starts first c.index-from.result.now c.index-from.result.now (omega (arith, c.self.invariant.starts_are.length_is, node.1)) c.index-from.ensures in
+    let to_is : c.index-to.result.now ≡ get_or starts (first + size) 0 = default_is_zero starts (first + size) c.index-to.result.now c.index-to.result.now (omega (arith, c.self.invariant.starts_are.length_is, node.1)) c.index-to.ensures in
     omega (arith, to_is, c.self.invariant.starts_are.within (first + size), ap length c.as_slice.ensures.value)
 
 pub list_at-requires-clause-places : goal.list_at-requires-clause-places
 list_at-requires-clause-places c =
     let joined : List ℕ = c.args.joined.now in
     let same : length joined ≡ length c.self.inside.cells.now = c.requires.joined ∙ ap (λ (v : CellColumn). length v.cells) (sym c.self.view_is) in
-    let all : All (λ place. place < length joined) c.as_slice.result.now = subst (λ (s : List ℕ). All (λ place. place < length joined) s) (sym c.as_slice.ensures.value) (places_fit c.self.invariant joined same) in
+    let all : All (λ place. place < length joined) c.as_slice.result.now = subst (λ (s : List ℕ). All (λ place. place < length joined) s) (sym c.as_slice.ensures.value) (places_are_rows c.self.invariant joined same) in
     subst (λ (s : List ℕ). All (λ place. place < length joined) s) (sym c.places_between-places.ensures)
     (All-take (λ place. place < length joined) (c.index-to.result.now - c.index-from.result.now) (drop c.index-from.result.now c.as_slice.result.now) (All-drop (λ place. place < length joined) c.index-from.result.now c.as_slice.result.now all))
 
@@ -51,7 +51,7 @@ list_at-requires-clause-rows c =
       length-take (c.index-to.result.now - c.index-from.result.now) (drop c.index-from.result.now c.as_slice.result.now),
       length-drop c.index-from.result.now c.as_slice.result.now,
       ap length c.as_slice.ensures.value,
-      places_many c.self.invariant joined same,
+      places_as_long_as_column c.self.invariant joined same,
       c.self.invariant.rows,
     )
 
@@ -63,8 +63,8 @@ returns c =
     let size : ℕ = c.args.size in
     let first : ℕ = c.args.leaf / size * size in
     let node = node_within size c.args.leaf c.requires.size c.requires.leaf in
-    let from_is : c.index-from.result.now ≡ get_or starts first 0 = at_zero starts first c.index-from.result.now c.index-from.result.now (omega (arith, c.self.invariant.starts_are.length_is, node.1)) c.index-from.ensures in
-    let to_is : c.index-to.result.now ≡ get_or starts (first + size) 0 = at_zero starts (first + size) c.index-to.result.now c.index-to.result.now (omega (arith, c.self.invariant.starts_are.length_is, node.1)) c.index-to.ensures in
+    let from_is : c.index-from.result.now ≡ get_or starts first 0 = default_is_zero starts first c.index-from.result.now c.index-from.result.now (omega (arith, c.self.invariant.starts_are.length_is, node.1)) c.index-from.ensures in
+    let to_is : c.index-to.result.now ≡ get_or starts (first + size) 0 = default_is_zero starts (first + size) c.index-to.result.now c.index-to.result.now (omega (arith, c.self.invariant.starts_are.length_is, node.1)) c.index-to.ensures in
     let places : List ℕ = c.self.inside.places.items in
     let k : ℕ = c.args.accuracy in
     IfOk-weaker c.list_at.result (λ list. list ≡ compressed_degrees k (keys_at joined c.places_between-places.result.now))

@@ -2,12 +2,12 @@ use Rattle.std.proofs.Common.{List, ap, sym, ◌∙◌}
 use Rattle.gathered_stats.specs.declared.rests.RestList.{RestList}
 use Rattle.gathered_stats.specs.ShownCells.{shown_cells}
 use Rattle.gathered_stats.specs.Rests.{is_kept}
-use Rattle.gathered_stats.proofs.Asking.{as_high}
+use Rattle.gathered_stats.proofs.Asking.{keys_as_long_as_column}
 use Rattle.gathered_stats.proofs.RestLists.{one_kept}
 use Rattle.gathered_stats.proofs.entry_table.EntryTable.rest_of.Goals as goal
 
 pub rest-requires : goal.rest-requires
-rest-requires c = record { joined = as_high c.args.self.now.pool.now (shown_cells c.args.self.now) c.requires.ready.cells c.args.column c.args.sorted.now c.args.keys.now c.requires.column c.requires.keys }
+rest-requires c = record { joined = keys_as_long_as_column c.args.self.now.pool.now (shown_cells c.args.self.now) c.requires.ready.cells c.args.column c.args.sorted.now c.args.keys.now c.requires.column c.requires.keys }
 
 pub returns-clause-rests : goal.returns-clause-rests
 returns-clause-rests c =

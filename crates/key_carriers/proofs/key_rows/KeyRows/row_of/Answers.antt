@@ -6,9 +6,9 @@ use Rattle.key_carriers.proofs.key_rows.KeyRows.row_of.Goals as goal
 
 pub place_from-requires : goal.place_from-requires
 place_from-requires c = record {
-  few = omega (
+  within_limit = omega (
     arith,
-    c.requires.few,
+    c.requires.within_limit,
     ap (λ (key : KeyRows). length (cells_found key)) c.in-Ascending.is,
     length-range_with_len c.in-Ascending.first c.in-Ascending.rows,
   );

@@ -1,5 +1,5 @@
-use Rattle.predicate_bounds.proofs.Finishing.{AreFinished}
+use Rattle.predicate_bounds.proofs.Finishing.{FinishedSoFar}
 use Rattle.predicate_bounds.proofs.reading.Members.finish.Given as goal
 
 abbrev pub invariant-loop-i : goal.invariant-loop-i
-invariant-loop-i l = AreFinished l.initial.self l.initial.steps l.self l.steps l.len l.i
+invariant-loop-i l = FinishedSoFar l.initial.self l.initial.steps l.self l.steps l.len l.i

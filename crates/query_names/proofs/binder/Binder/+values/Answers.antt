@@ -9,7 +9,7 @@ use Rattle.query_names.specs.Answers.{IsNameError}
 use Rattle.query_names.specs.Binding.{test_offences_of, value_by}
 use Rattle.query_grammar.specs.Lexemes.{IsCondWith}
 use Rattle.query_grammar.specs.declared.tree.CondNode.TheViews.{the_lemmas}
-use Rattle.query_names.proofs.Meanings.{tokens_of_and, tokens_of_or, tokens_of_not, tokens_of_test, one_of, if_ok_map, value_test}
+use Rattle.query_names.proofs.Meanings.{tokens_of_and, tokens_of_or, tokens_of_not, tokens_of_test, only_part_is_or, if_ok_map, value_test}
 use Rattle.query_names.proofs.CheckSteps.{wrong_in}
 use Rattle.query_names.proofs.CondFacts.{of_and, of_or, wrong_at, one_test, and_checked, or_checked, not_checked, not_empty}
 use Rattle.query_names.proofs.binder.Binder.+values.Goals as goal
@@ -77,7 +77,7 @@ add_value-returns-after-pop-clause-ok t c =
       | add_value-in-Some+in_ok-new-in-Not+in_ok-push-in-Not w ↦
           not_checked c.args.self.now c.args.visible.now.scope c.in-Not.member c.in-Not.is c.get.ensures c.new-parts.ensures c.in_ok-add_value-in-Not.ensures.ok (λ one is.
           w.found-is ∙ w.in_ok-push-in-Not.ensures.ok
-          ∙ ap (λ part. c.args.found.now ++ cond.Not part ∷ []) (w.in_ok-new-in-Not.ensures ∙ one_of (one ∷ []) c.pop.new.self w.in-Some.part refl (sym is ∙ w.in-Some.ensures)))
+          ∙ ap (λ part. c.args.found.now ++ cond.Not part ∷ []) (w.in_ok-new-in-Not.ensures ∙ only_part_is_or (one ∷ []) c.pop.new.self w.in-Some.part refl (sym is ∙ w.in-Some.ensures)))
       | add_value-in_default w ↦
           not_checked c.args.self.now c.args.visible.now.scope c.in-Not.member c.in-Not.is c.get.ensures c.new-parts.ensures c.in_ok-add_value-in-Not.ensures.ok
           (λ one is. absurd (not_empty one w.in_default.ensures.0 is))

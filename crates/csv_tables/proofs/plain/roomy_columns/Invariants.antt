@@ -1,6 +1,0 @@
-use Rattle.std.proofs.Common.{◌≡◌, []}
-use Rattle.std.specs.Prelude.{replicate}
-use Rattle.csv_tables.proofs.plain.roomy_columns.Given as goal
-
-abbrev pub invariant-columns : goal.invariant-columns
-invariant-columns l = l.columns.items ≡ replicate l._column []

@@ -1,5 +1,0 @@
-use Rattle.sql_tokens.proofs.WholeTexts.{lexed_forms}
-use Rattle.sql_tokens.proofs.laws.forms.Goals as goal
-
-pub returns : goal.returns
-returns c = lexed_forms

@@ -1,5 +1,0 @@
-use Rattle.sql_tokens.proofs.LongestFront.{longest_token}
-use Rattle.sql_tokens.proofs.laws.longest.Goals as goal
-
-pub returns : goal.returns
-returns c = longest_token

@@ -1,5 +1,0 @@
-use Rattle.sql_tokens.proofs.WholeTexts.{lexed_in_order}
-use Rattle.sql_tokens.proofs.laws.spans.Goals as goal
-
-pub returns : goal.returns
-returns c = lexed_in_order

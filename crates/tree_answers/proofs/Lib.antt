@@ -1,4 +1,0 @@
-pub mod BestComputed
-pub mod AllTreesListed
-pub mod OneAnswer
-pub mod SmallTrees

@@ -1,5 +1,0 @@
-use Rattle.tree_answers.proofs.OneAnswer.{allowed, only, never_memory, chosen, refused}
-use Rattle.tree_answers.proofs.laws.tree_choices.Goals as goal
-
-pub returns : goal.returns
-returns c = record { allowed = allowed; only = only; never_memory = never_memory; chosen = chosen; refused = refused }

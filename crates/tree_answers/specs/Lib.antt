@@ -1,3 +1,0 @@
-pub mod AllTrees
-pub mod Promised
-pub mod TreeAnswer

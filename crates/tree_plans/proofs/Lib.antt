@@ -1,4 +1,0 @@
--- The proofs about the tree of an order. `OrderTrees`: the tree is a plan, and its right children are leaves. `Building`: its joins are made one
--- after another.
-pub mod Building
-pub mod OrderTrees

@@ -1,5 +1,0 @@
-use Rattle.std.proofs.Common.{arith}
-use Rattle.tree_plans.proofs.laws.examples.Goals as goal
-
-pub returns-clause-itself : goal.returns-clause-itself
-returns-clause-itself c h = absurd (omega (arith, h.behind.2.1))

@@ -1,8 +1,0 @@
-use Rattle.tree_plans.proofs.OrderTrees.{order_is_tree, right_leaves}
-use Rattle.tree_plans.proofs.laws.order_trees.Goals as goal
-
-pub returns-clause-trees : goal.returns-clause-trees
-returns-clause-trees c = order_is_tree
-
-pub returns-clause-leaves : goal.returns-clause-leaves
-returns-clause-leaves c = right_leaves

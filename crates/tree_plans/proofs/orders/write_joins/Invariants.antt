@@ -1,9 +1,0 @@
-use Rattle.std.proofs.Common.{◌≡◌, ◌-◌, ◌≤◌, take}
-use Rattle.tree_plans.specs.Orders.{joins_of_order}
-use Rattle.tree_plans.proofs.orders.write_joins.Given as goal
-
-abbrev pub invariant-levels : goal.invariant-levels
-invariant-levels l = record {
-  some : 1 ≤ l.k;
-  written : take (l.k - 1) l.into ≡ joins_of_order l.n (take l.k l.order) (take l.k l.levels);
-}
