@@ -41,7 +41,7 @@ extern "C" {
 
 /* The version of this header; safebound_version tells that of the library. The number rises with each version. */
 #define SAFEBOUND_VERSION_MAJOR 0
-#define SAFEBOUND_VERSION_MINOR 3
+#define SAFEBOUND_VERSION_MINOR 4
 #define SAFEBOUND_VERSION_PATCH 0
 #define SAFEBOUND_VERSION_NUMBER \
     (SAFEBOUND_VERSION_MAJOR * 1000000 + SAFEBOUND_VERSION_MINOR * 1000 + SAFEBOUND_VERSION_PATCH)
@@ -441,7 +441,7 @@ safebound_status safebound_memory(const uint64_t *rows, size_t entries, const sa
 safebound_status safebound_tree_memory(const uint64_t *rows, size_t entries, const safebound_join *joins,
                                        size_t joins_length, uint64_t *detail);
 
-/* The library's version as text, such as 0.3.0. A 0 byte ends it, and counts for the room.
+/* The library's version as text, such as 0.4.0. A 0 byte ends it, and counts for the room.
 
    SAFEBOUND_ROOM
    SAFEBOUND_OK */

@@ -80,7 +80,7 @@ uint32_t safebound_command(const safebound_text *words, size_t words_length, con
                            char *out, size_t out_room, char *notes, size_t notes_room, uint64_t *out_length,
                            uint64_t *notes_length);
 
-/* The library's version as text, such as "0.3.0". */
+/* The library's version as text, such as "0.4.0". */
 extern const char safebound_command_version[];
 
 #ifdef __cplusplus

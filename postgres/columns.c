@@ -229,7 +229,7 @@ write_codes(ColumnCoder *coder)
 }
 
 static void
-code_column(const TableCount *table_count, Column *column, Tuplesortstate *sort, TupleDesc desc, uint32 rows, const uint32 *weights)
+code_column(const TableCounting *table_count, Column *column, Tuplesortstate *sort, TupleDesc desc, uint32 rows, const uint32 *weights)
 {
 	TupleTableSlot *sorted = MakeSingleTupleTableSlot(desc, &TTSOpsMinimalTuple);
 	ColumnCoder		coder = {
@@ -256,7 +256,7 @@ end_columns(Column *columns, int length)
 }
 
 void
-read_columns(TableCount *table_count)
+read_columns(TableCounting *table_count)
 {
 	for (int i = 0; i < table_count->length; i++)
 	{
@@ -304,7 +304,7 @@ full_name(Relation relation)
 
 /* A query for columns of the referred rows, one row for each value of the referring column, in the order of these values' codes. */
 static char *
-query_along(const TableCount *table_count, const Column *along, Relation referred, const ForeignKeyCacheInfo *reference, List *numbers)
+query_along(const TableCounting *table_count, const Column *along, Relation referred, const ForeignKeyCacheInfo *reference, List *numbers)
 {
 	StringInfoData query;
 	const char *name = quote_identifier(NameStr(along->attribute->attname));
@@ -376,7 +376,7 @@ sort_referred(const char *query, int length, Tuplesortstate **sorts, TupleTableS
 
 /* How many rows have each code. */
 static uint32 *
-weights_of(const TableCount *table_count, const Column *column)
+weights_of(const TableCounting *table_count, const Column *column)
 {
 	uint32	   *weights = MemoryContextAllocExtended(CurrentMemoryContext, ((Size) column->highest + 1) * sizeof(uint32), MCXT_ALLOC_HUGE | MCXT_ALLOC_ZERO);
 
@@ -388,7 +388,7 @@ weights_of(const TableCount *table_count, const Column *column)
 
 /* Turns the codes of a column of the referred table into codes of the rows that refer to it. */
 static void
-spread_codes(const TableCount *table_count, const Column *along, Column *column)
+spread_codes(const TableCounting *table_count, const Column *along, Column *column)
 {
 	uint32	   *map = MemoryContextAllocHuge(CurrentMemoryContext, ((Size) along->highest + 1) * sizeof(uint32));
 
@@ -406,7 +406,7 @@ spread_codes(const TableCount *table_count, const Column *along, Column *column)
 
 /* The columns of the table to which a column refers, as columns of the referring rows. */
 Column *
-referred_columns(const TableCount *table_count, const Column *along, ForeignKeyCacheInfo *reference, int *length)
+referred_columns(const TableCounting *table_count, const Column *along, ForeignKeyCacheInfo *reference, int *length)
 {
 	Relation	referred = table_open(reference->confrelid, AccessShareLock);
 	List	   *numbers = columns_beside(referred, reference->confkey[0]);

@@ -64,7 +64,7 @@ typedef struct Column
 	Leaf	   *leaves;			/* NULL if the sort didn't keep its order */
 } Column;
 
-typedef struct TableCount
+typedef struct TableCounting
 {
 	Relation	relation;
 	uint32		rows;
@@ -74,19 +74,19 @@ typedef struct TableCount
 	int			length;
 	Column	   *columns;
 	int64		lists;			/* how many lists were made */
-} TableCount;
+} TableCounting;
 
 /* columns.c */
-extern void read_columns(TableCount *table_count);
-extern Column *referred_columns(const TableCount *table_count, const Column *along, ForeignKeyCacheInfo *reference, int *length);
+extern void read_columns(TableCounting *table_count);
+extern Column *referred_columns(const TableCounting *table_count, const Column *along, ForeignKeyCacheInfo *reference, int *length);
 extern void end_columns(Column *columns, int length);
 
 /* counts.c */
-extern void keep_whole(TableCount *table_count);
-extern void keep_filters(TableCount *table_count, const Column *filters, int length);
+extern void keep_whole(TableCounting *table_count);
+extern void keep_filters(TableCounting *table_count, const Column *filters, int length);
 
 /* keep.c */
 extern bool has_order(Form_pg_attribute attribute);
-extern void save_pair(const TableCount *table_count, const Column *joined, const Column *filter, StringInfo bytes);
+extern void save_pair(const TableCounting *table_count, const Column *joined, const Column *filter, StringInfo bytes);
 
 #endif

@@ -94,7 +94,7 @@ list_of_degrees(const Degrees *degrees)
 /* The lists of one joined column for the values and ranges of one filter column, while they are made. */
 typedef struct ListWriter
 {
-	TableCount *table_count;
+	TableCounting *table_count;
 	const Column *joined;		/* NULL: only numbers of rows are wanted */
 	const Column *filter;		/* NULL: only the list of all rows is wanted */
 	MemoryContext group;
@@ -197,7 +197,7 @@ fits_in_half(uint64 numbers)
 
 /* How many rows have each code. */
 static uint32 *
-count_codes(const TableCount *table_count, const Column *column)
+count_codes(const TableCounting *table_count, const Column *column)
 {
 	uint32	   *counts = MemoryContextAllocExtended(CurrentMemoryContext, ((Size) column->highest + 2) * sizeof(uint32), MCXT_ALLOC_HUGE | MCXT_ALLOC_ZERO);
 
@@ -223,7 +223,7 @@ sum_up(uint32 *counts, uint32 highest)
 }
 
 static RowOrder
-order_rows(const TableCount *table_count, const Column *joined)
+order_rows(const TableCounting *table_count, const Column *joined)
 {
 	RowOrder	row_order = {.joined = joined};
 
@@ -257,7 +257,7 @@ next_code(const Column *column)
 }
 
 static void
-sort_pairs(Pairs *pairs, const TableCount *table_count, const Column *joined, const Column *filter)
+sort_pairs(Pairs *pairs, const TableCounting *table_count, const Column *joined, const Column *filter)
 {
 	pairs->bits = bits_of(filter);
 	pairs->sorted = sorted_begin(table_count->rows, 0, bits_of(joined) + pairs->bits);
@@ -276,7 +276,7 @@ sort_pairs(Pairs *pairs, const TableCount *table_count, const Column *joined, co
 }
 
 static Pairs
-pairs_begin(const TableCount *table_count, const RowOrder *row_order, const Column *filter)
+pairs_begin(const TableCounting *table_count, const RowOrder *row_order, const Column *filter)
 {
 	Pairs		pairs = {.row_order = row_order};
 
@@ -536,7 +536,7 @@ put_row_counts(ListWriter *writer)
 }
 
 static void
-keep_pair(TableCount *table_count, const RowOrder *row_order, const Column *filter)
+keep_pair(TableCounting *table_count, const RowOrder *row_order, const Column *filter)
 {
 	MemoryContext pair = AllocSetContextCreate(CurrentMemoryContext, "safebound pair", ALLOCSET_DEFAULT_SIZES);
 	MemoryContext before = MemoryContextSwitchTo(pair);
@@ -572,7 +572,7 @@ keep_pair(TableCount *table_count, const RowOrder *row_order, const Column *filt
 /* Stores the lists of a joined column for all filter columns; if `joined` is NULL, only numbers of rows. If `filters` is NULL, stores the list of
    all rows. */
 static void
-keep_joined(TableCount *table_count, const Column *joined, const Column *filters, int length)
+keep_joined(TableCounting *table_count, const Column *joined, const Column *filters, int length)
 {
 	MemoryContext own = AllocSetContextCreate(CurrentMemoryContext, "safebound order", ALLOCSET_DEFAULT_SIZES);
 	MemoryContext before = MemoryContextSwitchTo(own);
@@ -588,7 +588,7 @@ keep_joined(TableCount *table_count, const Column *joined, const Column *filters
 }
 
 void
-keep_filters(TableCount *table_count, const Column *filters, int length)
+keep_filters(TableCounting *table_count, const Column *filters, int length)
 {
 	keep_joined(table_count, NULL, filters, length);
 	for (int i = 0; i < table_count->length; i++)
@@ -598,7 +598,7 @@ keep_filters(TableCount *table_count, const Column *filters, int length)
 
 /* Stores only the list of all rows for each joined column. */
 void
-keep_whole(TableCount *table_count)
+keep_whole(TableCounting *table_count)
 {
 	keep_filters(table_count, NULL, 0);
 }

@@ -58,7 +58,7 @@ write_own(const char *statement, int length, Oid *types, Datum *values)
 }
 
 void
-save_pair(const TableCount *table_count, const Column *joined, const Column *filter, StringInfo bytes)
+save_pair(const TableCounting *table_count, const Column *joined, const Column *filter, StringInfo bytes)
 {
 	Oid			types[] = {REGCLASSOID, INT2OID, INT2OID, INT2OID, OIDOID, INT2OID, REGTYPEOID, REGTYPEOID, OIDOID, OIDOID, BYTEAOID};
 	bytea	   *lists = palloc(VARHDRSZ + bytes->len);
@@ -91,7 +91,7 @@ has_order(Form_pg_attribute attribute)
 static Bitmapset *
 named_columns(Relation relation, ArrayType *names)
 {
-	Bitmapset  *numbers = bms_make_singleton(0);	/* 0 is a member, since NULL would mean all columns */
+	Bitmapset  *numbers = bms_make_singleton(0);	/* with 0, which is no column: an empty set would be NULL, which means all columns */
 	Datum	   *values;
 	bool	   *nulls;
 	int			length;
@@ -124,7 +124,7 @@ all_columns(Relation relation)
 }
 
 static void
-choose_columns(TableCount *table_count, Bitmapset *joined, Bitmapset *filters)
+choose_columns(TableCounting *table_count, Bitmapset *joined, Bitmapset *filters)
 {
 	Bitmapset  *all = all_columns(table_count->relation);
 	Bitmapset  *joins = joined ? joined : all;
@@ -142,10 +142,10 @@ choose_columns(TableCount *table_count, Bitmapset *joined, Bitmapset *filters)
 	}
 }
 
-/* Whether there can be lists along a reference. For this the user may read the whole referred table, and numbers for the columns' values fit in
-   memory. Both columns have the same =, which is also the = of the reference. */
+/* Whether there can be lists along a reference. The user must be allowed to read the whole referred table, and numbers for the columns' values must
+   fit in memory. Both columns must have the same =, which is also the = of the reference. */
 static bool
-may_follow(const TableCount *table_count, const Column *along, const ForeignKeyCacheInfo *reference)
+may_follow(const TableCounting *table_count, const Column *along, const ForeignKeyCacheInfo *reference)
 {
 	Relation	referred = table_open(reference->confrelid, AccessShareLock);
 	Form_pg_attribute key = TupleDescAttr(RelationGetDescr(referred), reference->confkey[0] - 1);
@@ -162,7 +162,7 @@ may_follow(const TableCount *table_count, const Column *along, const ForeignKeyC
 
 /* Makes lists of this table's rows under conditions on a table to which they refer. */
 static void
-keep_along(TableCount *table_count, const Column *along, ForeignKeyCacheInfo *reference)
+keep_along(TableCounting *table_count, const Column *along, ForeignKeyCacheInfo *reference)
 {
 	MemoryContext own = AllocSetContextCreate(CurrentMemoryContext, "safebound reference", ALLOCSET_DEFAULT_SIZES);
 	MemoryContext before = MemoryContextSwitchTo(own);
@@ -176,7 +176,7 @@ keep_along(TableCount *table_count, const Column *along, ForeignKeyCacheInfo *re
 }
 
 static void
-keep_references(TableCount *table_count)
+keep_references(TableCounting *table_count)
 {
 	List	   *references = copyObject(RelationGetFKeyList(table_count->relation));
 	ListCell   *cell;
@@ -191,7 +191,7 @@ keep_references(TableCount *table_count)
 	}
 }
 
-/* Opens a table for its owner. Nobody else may keep it. */
+/* Opens a table for its owner. Other users may not keep its statistics, and get an error. */
 Relation
 open_owned(Oid relation)
 {
@@ -216,7 +216,7 @@ forget_table(Oid relation)
 }
 
 static void
-save_table(const TableCount *table_count)
+save_table(const TableCounting *table_count)
 {
 	Oid			types[] = {REGCLASSOID, INT8OID, INT2OID, INT2OID, INT2OID};
 	Datum		values[] = {ObjectIdGetDatum(RelationGetRelid(table_count->relation)), Int64GetDatum(table_count->rows), Int16GetDatum(table_count->accuracy), Int16GetDatum(table_count->most_common), Int16GetDatum(table_count->most_leaves)};
@@ -236,7 +236,7 @@ within(int value, int least, int most, const char *name)
 int64
 keep_table(Oid relation, Bitmapset *joined, Bitmapset *filters, int most_common, int most_leaves, int accuracy, bool folding)
 {
-	TableCount	table_count = {.most_common = most_common,.most_leaves = most_leaves,.accuracy = accuracy,.relation = open_owned(relation)};
+	TableCounting	table_count = {.most_common = most_common,.most_leaves = most_leaves,.accuracy = accuracy,.relation = open_owned(relation)};
 	bool		followed;
 	KeptRow		before;
 

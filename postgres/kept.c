@@ -164,7 +164,7 @@ read_table(KeptTable *table, Relation lists, Snapshot snapshot)
 	}
 	systable_endscan(scan);
 	qsort(table->pairs, table->length, sizeof(KeptPair), by_columns);
-	table->known = kept_pair(table, 0, 0) != NULL;
+	table->valid = kept_pair(table, 0, 0) != NULL;
 }
 
 /* Reads the statistics into a memory context below the current one, so that an error leaves nothing of them in memory. */
@@ -299,7 +299,7 @@ kept_table(Oid relation)
 	if (!find_kept_row(relation, snapshot, &kept_row) || (kept_fresh_only && kept_row.sources == NIL) || is_being_written(&kept_row) || !same_parts(&kept_row))
 		return NULL;
 	table = table_of_version(&kept_row, snapshot);
-	if (!table->known)
+	if (!table->valid)
 		return NULL;
 	if (kept_row.sources != NIL)
 		take_deltas(table, &kept_row, snapshot);

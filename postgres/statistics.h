@@ -20,7 +20,7 @@ typedef struct DegreeList
 	safebound_run *runs;
 } DegreeList;
 
-/* Which rows a kept list counts, by their values in the filter column. The letters are stored in the bytes. */
+/* Which rows a kept list counts, by their values in the filter column. In the stored bytes of a list, this letter is its kind. */
 typedef enum ListKind
 {
 	LIST_ALL = 'w',				/* all rows */
@@ -29,7 +29,7 @@ typedef enum ListKind
 	LIST_OTHER = 'o',			/* dominates the list of any value that isn't common */
 	LIST_ANY = 'a',				/* dominates the list of any value */
 	LIST_LEAF = 'l',			/* a range of values in the column's order, up to `value` */
-	LIST_NODE = 'm'				/* two neighbouring ranges of the level below, or the last range of that level */
+	LIST_NODE = 'm'				/* an inner node of the tree of ranges: two neighbours one level below, or the odd last one alone */
 } ListKind;
 
 typedef struct KeptList
@@ -70,7 +70,7 @@ typedef struct KeptTable
 	int64		version;		/* the version of the statistics, a new number each time they are made */
 	Deltas	   *deltas;			/* the rows that came later; NULL if the table isn't watched */
 	List	   *unchanged;		/* for a watched table: the tables to which it refers and that haven't changed */
-	bool		known;			/* whether the statistics are valid for the table as it is now */
+	bool		valid;			/* whether the statistics are valid for the table as it is now */
 	MemoryContext context;
 	struct KeptTable *next;		/* in the list of dropped statistics, which are freed later */
 	int			length;
@@ -96,7 +96,7 @@ extern Oid	sort_collation(Oid collation);
 extern uint64 write_own(const char *statement, int length, Oid *types, Datum *values);
 extern int64 keep_table(Oid relation, Bitmapset *joined, Bitmapset *filters, int most_common, int most_leaves, int accuracy, bool folding);
 
-/* watch.c: all tables on which a statement may write rows to this table, including the table itself. */
+/* watch.c: all tables such that a statement on one of them may write rows of this table. The table itself is one of them. */
 extern List *tables_writing_to(Oid relation);
 
 /* admit.c: while this is true, no query is refused. */

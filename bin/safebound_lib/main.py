@@ -123,11 +123,11 @@ def is_explained(line: Line) -> bool:
 
 def explain(path: str, line: Line, status: int, notes: bytes) -> None:
     """Explains a fault below its line. Below a plan it writes only a sentence on entries that aren't connected."""
-    from .explain import Run, explained, not_connected
+    from .explain import Run, explained, connection_warning
     from .faults import fault_of
     run = Run(line.words, path, line.user_folder, line.is_proposed)
     fault = fault_of(notes) if status else None
-    program.say(explained(fault, run) if fault else not_connected(run) if status == 0 else "")
+    program.say(explained(fault, run) if fault else connection_warning(run) if status == 0 else "")
 
 
 def own_command(line: Line) -> int:

@@ -11,8 +11,8 @@ from typing import TYPE_CHECKING
 from safebound.plan_texts import PlanText, read_audit, read_plan
 
 from . import pages, places, program
-from .explain import Run, explained, not_connected, read
-from .explain.budgets import given_options, has_flag, most_of, with_words
+from .explain import Run, explained, connection_warning, read
+from .explain.budgets import given_options, has_flag, most_budget, with_words
 from .faults import fault_of
 from .html_page import page
 from .lists import lists_of
@@ -103,7 +103,7 @@ def valid_message(files: list[str]) -> str:
         entries = series(
             e.name if e.name == e.table.name else f"{e.name} (table {e.table.name})" for e in query.entries
         )
-        said += f"{files[1]}: right. Entries: {entries}\n" + not_connected(Run(["plan", "--", *files]))
+        said += f"{files[1]}: right. Entries: {entries}\n" + connection_warning(Run(["plan", "--", *files]))
     return said
 
 
@@ -129,7 +129,7 @@ def picture(path: str, line: Line) -> int:
 
 def refused_plan(run: Run, fault: Fault | None) -> PlanText | None:
     """The plan that the budget refuses, made again under the greatest budget. None if that budget refuses it too."""
-    if not fault or fault.kind != "budget" or fault.least > most_of(run):
+    if not fault or fault.kind != "budget" or fault.least > most_budget(run):
         return None
     plan = with_words(run, given_options(run, fault.least))
     return plan if isinstance(plan, PlanText) else None

@@ -166,7 +166,7 @@ def _function(name: str) -> Any:
 
 
 def version() -> str:
-    """The version of the loaded library as text, such as 0.3.0."""
+    """The version of the loaded library as text, such as 0.4.0."""
     status, detail, text = call("version", [], ctypes.c_char, 64)
     raise_for(status, detail)
     return str(text.value.decode())

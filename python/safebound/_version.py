@@ -1,3 +1,3 @@
 """The version of the package, and of the library that it needs."""
 
-VERSION = "0.3.0"
+VERSION = "0.4.0"

@@ -11,12 +11,12 @@ from .errors import WrongType
 
 __all__ = ["Bounds"]
 
-# At most this many sets are shown: all sets of four entries.
+# At most this many sets are shown, as many as four entries have.
 _MOST_SHOWN = 16
 
 
 def rows_text(bound: Optional[int]) -> object:
-    """A bound as tables show it."""
+    """A bound as a printed table shows it."""
     return "no bound" if bound is None else bound
 
 
@@ -48,11 +48,11 @@ class Bounds(Mapping[FrozenSet[str], Optional[int]]):
             )
         return self._bound(sum(self._bit[entry] for entry in set(entries)))
 
-    def _bound(self, number: int) -> Optional[int]:
-        return None if self._numbers[number] == NO_BOUND else self._numbers[number]
+    def _bound(self, bits: int) -> Optional[int]:
+        return None if self._numbers[bits] == NO_BOUND else self._numbers[bits]
 
-    def _names(self, number: int) -> FrozenSet[str]:
-        return frozenset(entry for entry, bit in self._bit.items() if number & bit)
+    def _names(self, bits: int) -> FrozenSet[str]:
+        return frozenset(entry for entry, bit in self._bit.items() if bits & bit)
 
     def __iter__(self) -> Iterator[FrozenSet[str]]:
         return map(self._names, range(len(self._numbers)))

@@ -122,9 +122,9 @@ def wrapped(line: str) -> str:
     )
 
 
-def not_connected(run: Run) -> str:
+def connection_warning(run: Run) -> str:
     """For a plan whose equalities don't connect all entries: a sentence that says so. A bound is then a product."""
-    from .budgets import not_connected as said
+    from .budgets import connection_warning as said
     try:
         return "" if run.command not in ("run", "plan", "audit") else wrapped_blocks([said(run)])
     except UNEXPLAINED:

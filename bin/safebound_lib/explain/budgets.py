@@ -25,7 +25,7 @@ TRIED_ACCURACY = "8"
 
 
 def explain(fault: Fault, run: Run) -> list[str]:
-    budget, most = int(option_of(run.words, BUDGET.word) or USUAL_BUDGET), most_of(run)
+    budget, most = int(option_of(run.words, BUDGET.word) or USUAL_BUDGET), most_budget(run)
     is_past_bits, least = fault.kind == "past-bits", fault.least
     shape, step = ("join tree", "node") if has_flag(run, BUSHY) else ("order", "level")
     if is_past_bits:
@@ -40,19 +40,19 @@ def explain(fault: Fault, run: Run) -> list[str]:
             f"The best {shape} has a {step} whose bound is {least:,} rows, and the budget is {budget:,}. The least"
             f" budget is --budget {least}."
         )
-    apart = not_connected(run)
+    apart = connection_warning(run)
     several = [] if has_flag(run, COUNT) else several_equalities(run)
     with saying("trying other options .."):
         past = "" if is_past_bits else at_fault(run, least, budget)
         return [first, past, apart, *several, *ways_out(run, budget, apart)]
 
 
-def most_of(run: Run) -> int:
+def most_budget(run: Run) -> int:
     """The greatest budget that the run accepts."""
     return MOST_BUDGET_OF_A_TREE if has_flag(run, BUSHY) else MOST_BUDGET
 
 
-def not_connected(run: Run) -> str:
+def connection_warning(run: Run) -> str:
     """A sentence if equalities don't connect all entries. Mostly the user forgot a condition."""
     query = run.query
     found = components(query, run.schema)
@@ -100,7 +100,7 @@ def with_words(run: Run, words: list[str]) -> int | PlanText | None:
 
 
 def planned_words(words: list[str]) -> list[str]:
-    """The words of a `plan` of the same texts, without the options that the caller tries."""
+    """The words of `plan` for the same schema and query, without the options that the caller tries."""
     found, left = ["plan"], list(words[1:])
     while left:
         word = left.pop(0)
@@ -117,7 +117,7 @@ def planned_words(words: list[str]) -> list[str]:
 
 def at_fault(run: Run, least: int, budget: int) -> str:
     """Names the levels or nodes above the budget. It plans the query under the least budget to see them."""
-    if least > most_of(run):
+    if least > most_budget(run):
         return ""
     plan = with_words(run, given_options(run, least))
     if plan is None or isinstance(plan, int):
@@ -156,7 +156,7 @@ def has_reference(run: Run) -> bool:
     return any(table is not None and table.references for table in tables)
 
 
-def other_sources(run: Run) -> list[tuple[str, tuple[str | None, Option | None]]]:
+def options_that_may_lower(run: Run) -> list[tuple[str, tuple[str | None, Option | None]]]:
     """Options that may lower the bounds, each with its name. With `--count` no other option lowers them."""
     if has_flag(run, COUNT):
         return []
@@ -175,7 +175,7 @@ def other_sources(run: Run) -> list[tuple[str, tuple[str | None, Option | None]]
 
 def ways_out(run: Run, budget: int, apart: str) -> list[str]:
     """The least budget or the bounds with other options, and other things that the user can do."""
-    ways = other_sources(run)
+    ways = options_that_may_lower(run)
     if not has_flag(run, BUSHY) and len(run.query.entries) > 3 and budget <= MOST_BUDGET_OF_A_TREE:
         ways.append((f"With {BUSHY.word}", (None, BUSHY)))
     results = [(name, with_words(run, given_options(run, budget, *how))) for name, how in ways]

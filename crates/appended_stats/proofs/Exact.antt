@@ -1,6 +1,6 @@
 -- The file that is made from the cells of new rows is equal to the file that is made from these rows' values.
 use Rattle.std.proofs.Common.{◌≡◌, ℕ, ◌+◌, ◌<◌, ◌==◌, Bool, true, false, cond, List, [], ◌∷◌, length, map, get_or, refl, ap, sym, ◌∙◌, arith, inl, inr}
-use Rattle.std.specs.List.{All, AllByRecursion, zip}
+use Rattle.std.specs.List.{AllByRecursion, zip}
 use Rattle.std.proofs.lemmas.Bool.{cases_Bool, eqb-true}
 use Rattle.std.proofs.lemmas.List.Elements.{All-from_recursion}
 use Rattle.csv_tables.specs.Cells.{IsColumn, rows_of_cells, value_of_cell}
@@ -12,11 +12,10 @@ use Rattle.schema_types.specs.declared.types.Kind.{Kind}
 use Rattle.schema_types.specs.declared.types.Kind.TheVariants as kind
 use Rattle.level_bounds.specs.Keys.{HaveDifferentCharacters}
 use Rattle.sql_meaning.specs.Databases.{AreCells, AreTables}
-use Rattle.sql_meaning.specs.Tables.{tables_of}
 use Rattle.sql_meaning.proofs.LoopFacts.{rows_are}
 use Rattle.stats_file.specs.declared.types.PairStats.{PairStats}
 use Rattle.stats_file.specs.declared.types.TableStats.{TableStats}
-use Rattle.table_stats.specs.Columns.{column_values, paired, value_of_row}
+use Rattle.table_stats.specs.Columns.{paired, value_of_row}
 use Rattle.table_stats.proofs.DatabaseColumns.{column_is, values_are}
 use Rattle.stats_file_of_query.specs.Pairs.{pair_in_cells, pair_in_table, pair_of_values}
 use Rattle.stats_file_of_query.proofs.SameValues.{pair_is}

@@ -1,16 +1,15 @@
 -- If a statistics file keeps the rules, it still keeps them after rows were appended.
-use Rattle.std.proofs.Common.{◌≡◌, ◌⊎◌, ℕ, zero, suc, ◌+◌, ◌<◌, ◌≤◌, ◌==◌, Bool, true, false, cond, eqb, List, [], ◌∷◌, length, map, get_or, Some, slice_get, inl, inr, refl, ap, sym, ◌∙◌, subst, arith}
-use Rattle.std.specs.List.{All, AllByRecursion, AllPairs, zip}
+use Rattle.std.proofs.Common.{◌≡◌, ℕ, zero, suc, ◌+◌, ◌<◌, ◌≤◌, ◌==◌, false, eqb, List, [], length, map, get_or, inl, inr, refl, ap, sym, ◌∙◌, subst, arith}
+use Rattle.std.specs.List.{All, AllByRecursion, AllPairs}
 use Rattle.std.specs.Str.{IsUtf8}
 use Rattle.std.proofs.lemmas.Bool.{cases_Bool, eqb-true, ne_eqb}
-use Rattle.std.proofs.lemmas.List.{get_or-map, length-map}
+use Rattle.std.proofs.lemmas.List.{length-map}
 use Rattle.std.proofs.lemmas.List.Elements.{All-map, recursion_from_All}
 use Rattle.std.proofs.lemmas.Option.{get_or_from_slice_get, slice_get_within}
 use Rattle.std.proofs.lemmas.Slice.Zip.{length-zip}
 use Rattle.limits.specs.Profile.{most_rows}
 use Rattle.csv_tables.specs.Cells.{AreCellsOf, IsColumn, rows_of_cells, value_of_cell}
 use Rattle.csv_tables.specs.declared.types.Cells.{Cells}
-use Rattle.cond_stats.specs.Rows.{filter_values, joined_keys}
 use Rattle.column_stats.specs.Pairs.{cells_of_column, kind_of_column, rows_of_pair}
 use Rattle.level_bounds.specs.Keys.{HaveDifferentCharacters}
 use Rattle.relabelling_laws.proofs.Rows.{zip_of_columns}

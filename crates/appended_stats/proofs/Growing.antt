@@ -1,5 +1,5 @@
 -- If a file keeps its rules and has room for the new rows, then each of its pairs may grow (`MayGrow`).
-use Rattle.std.proofs.Common.{◌≡◌, ℕ, zero, suc, ◌+◌, ◌<◌, ◌≤◌, ◌^◌, List, [], length, get_or, sum, refl, ap, sym, ◌∙◌, subst, arith}
+use Rattle.std.proofs.Common.{ℕ, zero, suc, ◌+◌, ◌<◌, ◌≤◌, ◌^◌, List, length, get_or, sum, ap, arith}
 use Rattle.std.specs.List.{All}
 use Rattle.limits.specs.Profile.{most_rows}
 use Rattle.csv_tables.specs.Cells.{AreCellsOf}
@@ -12,7 +12,7 @@ use Rattle.stats_file.specs.declared.types.PairStats.{PairStats}
 use Rattle.stats_file.specs.declared.types.StatsFile.{StatsFile}
 use Rattle.stats_file.specs.declared.types.TableStats.{TableStats}
 use Rattle.stats_file.specs.Rules.{IsPair, IsSection, IsHistogramOf}
-use Rattle.appended_stats.specs.Conditions.{MayAppend, MayGrow, MayGrowWhere, SectionMayGrow}
+use Rattle.appended_stats.specs.Conditions.{MayAppend, MayGrow, MayGrowWhere}
 use Rattle.appended_stats.proofs.PairKept.{nodes_all}
 use Rattle.appended_stats.proofs.FileKept.{has_filter, has_joined, its_cells}
 

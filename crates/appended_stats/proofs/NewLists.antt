@@ -1,23 +1,21 @@
 -- Degree lists made from appended rows keep the rule `IsList` of statistics files, and so does the rank-wise sum of two lists that keep it. Some
 -- lemmas compute the sums of these lists.
-use Rattle.std.proofs.Common.{◌≡◌, ℕ, zero, suc, ◌+◌, ◌*◌, ◌/◌, ◌<◌, ◌≤◌, Bool, eqb, min, not, List, [], ◌∷◌, ◌++◌, length, map, get_or, sum, refl, ap, sym, ◌∙◌, subst, arith}
-use Rattle.std.specs.List.{All, AllByRecursion, count_by, filter, flat_map, list_any, range_with_len, zip}
+use Rattle.std.proofs.Common.{◌≡◌, ℕ, ◌+◌, ◌*◌, ◌/◌, ◌<◌, ◌≤◌, eqb, List, [], ◌∷◌, length, map, get_or, sum, refl, ap, sym, ◌∙◌, arith}
+use Rattle.std.specs.List.{All, AllByRecursion, count_by, flat_map, range_with_len, zip}
 use Rattle.std.proofs.Math.Path.{fun_ext}
-use Rattle.std.proofs.lemmas.List.{get_or-map, length-map}
+use Rattle.std.proofs.lemmas.List.{length-map}
 use Rattle.std.proofs.lemmas.List.Elements.{All-append, All-from_recursion, All-map, recursion_from_All}
 use Rattle.std.proofs.lemmas.List.Sums.{count_by-le-length}
 use Rattle.std.proofs.lemmas.Slice.Zip.{length-zip}
 use Rattle.cond_stats.specs.Leaves.{in_node}
-use Rattle.cond_stats.specs.Lists.{compressed_degrees, greatest, keys_with, list_where, maxima, whole}
+use Rattle.cond_stats.specs.Lists.{greatest, keys_with, list_where, maxima}
 use Rattle.cond_stats.specs.Rows.{filter_values, keys_where}
 use Rattle.cond_stats.proofs.Maxima.{IsDescending-maxima, greatest-le, greatest-le-sum}
 use Rattle.cond_stats.proofs.Members.{length-keys_where}
 use Rattle.cond_stats.proofs.Sums.{sum-compressed_degrees, sum-capped_at}
 use Rattle.column_stats.specs.Nodes.{node_sizes}
 use Rattle.column_stats.proofs.NodeLists.{node_list_count}
-use Rattle.csv_tables.specs.Values.{Value}
 use Rattle.degree_sequences.specs.ByRank.{rank_sum}
-use Rattle.degree_sequences.specs.Compression.{compressed}
 use Rattle.degree_sequences.specs.Degrees.{degree, degree_list}
 use Rattle.degree_sequences.specs.Descending.{IsDescending}
 use Rattle.degree_sequences.specs.RunningSums.{capped_at}
@@ -42,7 +40,7 @@ positive_sum (x ∷ s) (y ∷ t) some also = (omega (arith, some.0), positive_su
 
 pub sum_is_valid : (n m : ℕ) (s t : List ℕ) → IsList n s → IsList m t → IsList (n + m) (rank_sum s t)
 sum_is_valid n m s t one other = record {
-  falls = IsDescending-rank_sum s t one.falls other.falls;
+  descends = IsDescending-rank_sum s t one.descends other.descends;
   positive = All-from_recursion (λ x. 0 < x) (rank_sum s t)
       (positive_sum s t (recursion_from_All (λ x. 0 < x) s one.positive) (recursion_from_All (λ x. 0 < x) t other.positive));
   within = omega (arith, sum-rank_sum s t, one.within, other.within);
@@ -71,8 +69,8 @@ module _ (k : ℕ) (rows : List (ℕ × ℕ)) where
   abbrev degrees : ℕ → List ℕ
   degrees value = degree_list (keys_with value rows)
 
-  pub falls : (values : List ℕ) → IsDescending (maxima (map degrees values))
-  falls values = IsDescending-maxima degrees (λ value. IsDescending-degree_list (keys_with value rows)) values
+  pub descends : (values : List ℕ) → IsDescending (maxima (map degrees values))
+  descends values = IsDescending-maxima degrees (λ value. IsDescending-degree_list (keys_with value rows)) values
 
   pub sum-list_for_any_of : (values : List ℕ) → sum (list_for_any_of k rows values) ≡ greatest (map (degree column) values)
   sum-list_for_any_of values =
@@ -80,7 +78,7 @@ module _ (k : ℕ) (rows : List (ℕ × ℕ)) where
       let n : ℕ = greatest (map (degree column) values) in
       omega (
         arith,
-        sum-compressed k (capped_at s n) (IsDescending-capped_at s n (falls values)),
+        sum-compressed k (capped_at s n) (IsDescending-capped_at s n (descends values)),
         sum-capped_at s n,
         greatest-le-sum degrees (degree column) (λ v. sym (sum-degree_list (keys_with v rows) ∙ length-keys_where (λ other. eqb other v) rows)) values,
       )
@@ -94,7 +92,7 @@ module _ (k : ℕ) (rows : List (ℕ × ℕ)) where
   any_list_is_valid values =
       let s : List ℕ = maxima (map degrees values) in
       let n : ℕ = greatest (map (degree column) values) in
-      is_compressed k (capped_at s n) (length rows) (IsDescending-capped_at s n (falls values)) (All-from_recursion (λ x. 0 < x) (capped_at s n) (positive-capped_at s n (falls values)))
+      is_compressed k (capped_at s n) (length rows) (IsDescending-capped_at s n (descends values)) (All-from_recursion (λ x. 0 < x) (capped_at s n) (positive-capped_at s n (descends values)))
       (omega (arith, sum-list_for_any_of values, any_degree_at_most_rows values))
 
   -- ---- the lists of nodes keep the rule

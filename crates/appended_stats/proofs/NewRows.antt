@@ -1,23 +1,20 @@
 -- Each list that is made from new rows dominates the keys of the new rows that it counts.
-use Rattle.std.proofs.Common.{◌≡◌, ◌↔◌, ℕ, zero, suc, ◌+◌, ◌*◌, ◌/◌, ◌<◌, ◌≤◌, Bool, true, false, cond, eqb, ltb, not, List, [], ◌∷◌, ◌++◌, length, map, get_or, sum, pos, refl, ap, sym, ◌∙◌, subst, arith, inl, inr}
-use Rattle.std.specs.List.{All, AllByRecursion, Contains, IsDistinct, count_by, filter, list_any, range_with_len, zip}
+use Rattle.std.proofs.Common.{◌≡◌, ℕ, zero, suc, ◌+◌, ◌<◌, ◌≤◌, Bool, true, false, cond, eqb, not, List, [], ◌∷◌, ◌++◌, length, map, refl, ap, sym, ◌∙◌, subst, arith, inl, inr}
+use Rattle.std.specs.List.{Contains, filter, range_with_len}
 use Rattle.std.proofs.Math.Path.{fun_ext}
 use Rattle.std.specs.Ordering.{is_eq}
-use Rattle.std.proofs.lemmas.Bool.{cases_Bool, cases_lt, eq-eqb, eqb-true, false≢true, ne_eqb}
+use Rattle.std.proofs.lemmas.Bool.{cases_Bool, cases_lt, eq-eqb, false≢true, ne_eqb}
 use Rattle.std.proofs.lemmas.List.{length-map}
-use Rattle.std.proofs.lemmas.List.Elements.{All-from_recursion}
 use Rattle.std.proofs.lemmas.List.Sums.{count_by-le-length, sum_by-append, sum_by-cons}
 use Rattle.csv_tables.specs.Rows.{Row}
-use Rattle.csv_tables.specs.Values.{Value, Int}
-use Rattle.cond_stats.specs.Columns.{value_le}
-use Rattle.cond_stats.specs.Leaves.{in_node, last_place}
-use Rattle.cond_stats.specs.Lists.{compressed_degrees, greatest, keys_with, list_where, maxima, whole}
+use Rattle.csv_tables.specs.Values.{Value}
+use Rattle.cond_stats.specs.Leaves.{last_place}
+use Rattle.cond_stats.specs.Lists.{greatest, keys_with, list_where, maxima, whole}
 use Rattle.cond_stats.specs.Rows.{filter_values, joined_keys, keys_where}
 use Rattle.cond_stats.proofs.Maxima.{above_by_rank, greatest-above, maxima-above}
 use Rattle.cond_stats.proofs.Members.{length-keys_where}
 use Rattle.degree_lists.proofs.OneMoreKey.{degree-none}
 use Rattle.degree_sequences.specs.ByRank.{rank_sum}
-use Rattle.degree_sequences.specs.Compression.{compressed}
 use Rattle.degree_sequences.specs.Degrees.{degree, degree_list, different}
 use Rattle.degree_sequences.specs.Domination.{DominatesKeys}
 use Rattle.degree_sequences.specs.RunningSums.{capped_at, running_sum}
@@ -34,17 +31,17 @@ use Rattle.relabelling_laws.proofs.Dominated.{passing_dominated, rows_dominated}
 use Rattle.relabelling_laws.proofs.Rows.{zip_of_columns, passing_of_rows}
 use Rattle.stats_file.specs.declared.types.Datum.{Datum}
 use Rattle.stats_file.specs.declared.types.PairStats.{PairStats}
-use Rattle.table_stats.specs.Columns.{column_values, first_row, as_first_rows, paired, value_of_row}
+use Rattle.table_stats.specs.Columns.{first_row, as_first_rows, paired, value_of_row}
 use Rattle.table_stats.specs.Keys.{SeparatesValues}
-use Rattle.table_stats.proofs.ColumnRows.{values_length, number_at, number_below, number_has, numbers_are, same_number, value_at}
-use Rattle.table_stats.proofs.EqualValues.{alike_le, alike_on_right, equal_symmetric, equal_transitive, equal_itself, is_equal}
-use Rattle.table_stats.proofs.FirstRows.{equal_firsts, first_has, first_row_exists, same_first}
+use Rattle.table_stats.proofs.ColumnRows.{values_length, number_at, number_below, number_has, numbers_are, same_number}
+use Rattle.table_stats.proofs.EqualValues.{alike_le, alike_on_right, equal_itself, is_equal}
+use Rattle.table_stats.proofs.FirstRows.{equal_firsts, first_has, same_first}
 use Rattle.stats_file_of_query.specs.Data.{value_of}
 use Rattle.stats_file_of_query.specs.Standing.{leaf_cut as cut_at_place, is_value, leaf_of_value}
 use Rattle.stats_file_of_query.proofs.Stands.{numbered_pairs}
 use Rattle.appended_stats.specs.Appended.{tables_of_rows, values_in}
-use Rattle.appended_stats.specs.Grown.{is_frequent, list_for_any_of, list_with, other_values}
-use Rattle.appended_stats.proofs.NewLists.{falls}
+use Rattle.appended_stats.specs.Grown.{is_frequent, list_for_any_of, other_values}
+use Rattle.appended_stats.proofs.NewLists.{descends}
 
 -- ---- the rank-wise sum of two lists dominates the keys of both lists together
 
@@ -85,7 +82,7 @@ any_dominates k rows values v inside picked apart =
       arith,
       degree_list_dominates (keys_with v rows) picked apart,
       any_above k rows values v inside (length picked),
-      compressed-above k (capped_at s n) (IsDescending-capped_at s n (falls k rows values)) (length picked),
+      compressed-above k (capped_at s n) (IsDescending-capped_at s n (descends k rows values)) (length picked),
     )
 
 degree-filtered : (p : ℕ → Bool) (v : ℕ) → p v ≡ true → (column : List ℕ) → degree (filter p column) v ≡ degree column v

@@ -1,12 +1,12 @@
 -- The pair after the append (the grown pair) keeps the rules of statistics files, and still agrees with the other pairs of its section.
-use Rattle.std.proofs.Common.{◌≡◌, ◌≢◌, ℕ, zero, suc, ◌+◌, ◌*◌, ◌/◌, ◌<◌, ◌≤◌, Bool, eqb, not, List, [], ◌∷◌, drop, length, map, get_or, sum, refl, ap, sym, ◌∙◌, subst, arith}
+use Rattle.std.proofs.Common.{◌≡◌, ℕ, zero, suc, ◌+◌, ◌*◌, ◌/◌, ◌<◌, not, List, [], ◌∷◌, drop, length, map, get_or, sum, refl, ap, sym, ◌∙◌, subst, arith}
 use Rattle.std.specs.Prelude.{slice_index_or}
-use Rattle.std.specs.List.{All, AllByRecursion, AllPairs, count_by, filter, flat_map, list_any, range_with_len, zip}
+use Rattle.std.specs.List.{count_by, filter, flat_map, list_any, range_with_len, zip}
 use Rattle.std.proofs.lemmas.List.{get_or-map, length-map}
 use Rattle.std.proofs.lemmas.List.Elements.{All-from_recursion, All-map, recursion_from_All}
 use Rattle.cond_stats.specs.Columns.{value_le}
 use Rattle.cond_stats.specs.Leaves.{in_node, last_place}
-use Rattle.cond_stats.specs.Lists.{compressed_degrees, greatest, list_where, whole}
+use Rattle.cond_stats.specs.Lists.{greatest, whole}
 use Rattle.cond_stats.specs.Rows.{filter_values, joined_keys, keys_where}
 use Rattle.cond_stats.proofs.Members.{length-keys_where}
 use Rattle.cond_stats.proofs.Sums.{sum-compressed_degrees, sum-whole}
@@ -21,7 +21,7 @@ use Rattle.schema_types.specs.declared.types.Table.{Table}
 use Rattle.stats_file.specs.declared.types.Datum.{Datum}
 use Rattle.stats_file.specs.declared.types.Datum.TheVariants as datum
 use Rattle.stats_file.specs.declared.types.PairStats.{PairStats}
-use Rattle.stats_file.specs.Rules.{PairsAgree, AreFrequent, HaveSameFilterCounts, IsList, IsOfKind, IsPair, IsHistogram, IsHistogramOf}
+use Rattle.stats_file.specs.Rules.{AreFrequent, HaveSameFilterCounts, IsList, IsOfKind, IsPair, IsHistogram, IsHistogramOf}
 use Rattle.stats_file_of_query.specs.Data.{value_of}
 use Rattle.stats_file_of_query.specs.Standing.{is_value, leaf_of_value}
 use Rattle.stats_file_of_query.proofs.Agreeing.{whole_same}

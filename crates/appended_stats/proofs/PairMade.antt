@@ -1,5 +1,5 @@
 -- The pair that the code makes from cells is `grown_pair`, the pair after the append.
-use Rattle.std.proofs.Common.{◌≡◌, ℕ, ◌+◌, ◌*◌, ◌/◌, ◌<◌, ◌≤◌, ◌^◌, Bool, List, [], ◌∷◌, length, map, get_or, sum, Some, slice_get, refl, ap, sym, ◌∙◌, subst, arith, inl, inr}
+use Rattle.std.proofs.Common.{◌≡◌, ℕ, ◌*◌, ◌/◌, ◌<◌, ◌^◌, Bool, List, [], ◌∷◌, length, map, sum, Some, slice_get, refl, ap, sym, ◌∙◌, subst, arith, inl, inr}
 use Rattle.std.specs.List.{All, flat_map, range_with_len, zip}
 use Rattle.std.proofs.Math.Path.{fun_ext}
 use Rattle.std.proofs.lemmas.Bool.{cases_Bool}
@@ -21,7 +21,6 @@ use Rattle.relabelling_laws.proofs.Rows.{zip_of_columns}
 use Rattle.sql_meaning.specs.Databases.{AreCells}
 use Rattle.stats_file.specs.declared.types.Datum.{Datum}
 use Rattle.stats_file.specs.declared.types.PairStats.{PairStats}
-use Rattle.stats_file.specs.Rules.{IsList}
 use Rattle.stats_file_of_query.specs.Standing.{leaf_of_value}
 use Rattle.stats_file_of_query.proofs.Made.{are_its, its_cells, column_length, its_kind}
 use Rattle.stats_file_of_query.proofs.SameValues.{same_parts}

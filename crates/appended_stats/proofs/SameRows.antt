@@ -1,5 +1,5 @@
 -- A grown pair is the same whether the new rows are given by their cells or by their values.
-use Rattle.std.proofs.Common.{◌≡◌, ℕ, ◌+◌, ◌*◌, ◌/◌, ◌<◌, Bool, true, eqb, not, List, [], ◌∷◌, length, map, get_or, pos, refl, ap, sym, ◌∙◌, subst, arith}
+use Rattle.std.proofs.Common.{◌≡◌, ℕ, ◌*◌, ◌/◌, ◌<◌, Bool, eqb, not, List, length, map, get_or, pos, refl, ap, sym, ◌∙◌, subst, arith}
 use Rattle.std.specs.List.{All, AllByRecursion, Contains, filter, flat_map, range_with_len, zip}
 use Rattle.std.proofs.Math.Path.{fun_ext}
 use Rattle.std.proofs.lemmas.List.{get_or-map, length-map}
@@ -30,7 +30,7 @@ use Rattle.table_stats.proofs.EqualValues.{equal_itself, is_equal}
 use Rattle.table_stats.proofs.FirstRows.{first_has, first_row_exists}
 use Rattle.stats_file_of_query.specs.Standing.{is_value, leaf_of_value}
 use Rattle.stats_file_of_query.proofs.SameValues.{same_parts}
-use Rattle.appended_stats.specs.Grown.{grown_pair, is_frequent, list_for_any_of, lists_of_nodes, lists_of_size, other_values, rank_sums, with_new_rows}
+use Rattle.appended_stats.specs.Grown.{grown_pair, is_frequent, list_for_any_of, lists_of_nodes, other_values, rank_sums, with_new_rows}
 
 abbrev with_list : Datum × List ℕ → List ℕ → Datum × List ℕ
 with_list found s = (found.0, s)

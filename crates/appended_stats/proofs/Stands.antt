@@ -1,49 +1,38 @@
 -- If statistics stand for some rows, the statistics after the append stand for these rows followed by the new rows. Statistics stand for rows if each
 -- list dominates the keys of the rows that it counts.
-use Rattle.std.proofs.Common.{◌≡◌, ◌↔◌, ℕ, zero, suc, ◌+◌, ◌-◌, ◌*◌, ◌/◌, ◌<◌, ◌≤◌, ◌==◌, Bool, true, false, cond, eqb, List, [], ◌∷◌, ◌++◌, length, length-append, map, get_or, sum, None, Option, Some, find, option_map, pos, refl, ap, sym, ◌∙◌, subst, arith, inl, inr}
+use Rattle.std.proofs.Common.{◌≡◌, ℕ, zero, suc, ◌+◌, ◌-◌, ◌*◌, ◌/◌, ◌<◌, Bool, true, false, eqb, List, [], ◌∷◌, ◌++◌, length, length-append, map, get_or, Option, find, pos, refl, ap, sym, ◌∙◌, subst, arith, inl, inr}
 use Rattle.std.specs.Option.{option_map_or}
-use Rattle.std.specs.List.{All, AllByRecursion, Contains, filter, flat_map, list_any, range_with_len, zip}
+use Rattle.std.specs.List.{AllByRecursion, filter, list_any, range_with_len}
 use Rattle.std.proofs.Math.Nat.{mul-div_cancel_left}
-use Rattle.std.proofs.lemmas.Bool.{cases_Bool, cases_lt, eqb-true, ne_eqb}
+use Rattle.std.proofs.lemmas.Bool.{cases_Bool}
 use Rattle.std.proofs.lemmas.List.{length-map, map-append}
 use Rattle.std.proofs.lemmas.Slice.Zip.{length-zip}
-use Rattle.std.proofs.lemmas.List.Elements.{All-map, filter-append}
+use Rattle.std.proofs.lemmas.List.Elements.{filter-append}
 use Rattle.std.proofs.lemmas.List.FromFn.{get_or-map-range_with_len, length-map-range_with_len}
 use Rattle.csv_tables.specs.Rows.{Row}
 use Rattle.csv_tables.specs.Values.{Value, Int}
 use Rattle.cond_stats.specs.Leaves.{IsNodeSize, in_node}
 use Rattle.cond_stats.specs.Lists.{list_where, whole}
 use Rattle.cond_stats.proofs.Sums.{sum-whole}
-use Rattle.column_stats.specs.Nodes.{node_place, node_sizes}
+use Rattle.column_stats.specs.Nodes.{node_place}
 use Rattle.column_stats.proofs.NodeLists.{each_size, node_list_at}
 use Rattle.degree_sequences.specs.ByRank.{rank_sum}
 use Rattle.degree_sequences.specs.Domination.{DominatesKeys}
 use Rattle.degree_sequences.proofs.ByRank.{sum-rank_sum}
 use Rattle.filtered_lists.specs.Standing.{has_value, rows_where, value_in_row}
-use Rattle.level_bounds.proofs.Lists.{map_same_on_members, map_of_map, range_within}
-use Rattle.query_types.specs.declared.types.Query.{Query}
-use Rattle.schema_types.specs.declared.types.Schema.{Schema}
-use Rattle.schema_types.specs.declared.types.Kind.{Kind}
-use Rattle.schema_types.specs.declared.types.Table.{Table}
+use Rattle.level_bounds.proofs.Lists.{map_of_map}
 use Rattle.sql_meaning.specs.Tables.{Tables, row_counts}
 use Rattle.stats_file.specs.declared.types.Datum.{Datum}
 use Rattle.stats_file.specs.declared.types.PairStats.{PairStats}
-use Rattle.stats_file.specs.declared.types.StatsFile.{StatsFile}
-use Rattle.stats_file.specs.declared.types.TableStats.{TableStats}
-use Rattle.stats_file.specs.Rules.{IsPair, IsSection, IsHistogram, IsHistogramOf, KeepsRules}
 use Rattle.table_stats.specs.Columns.{first_row, as_first_rows, paired, value_of_row}
 use Rattle.table_stats.specs.Keys.{SeparatesValues}
 use Rattle.table_stats.proofs.ColumnRows.{values_length}
 use Rattle.table_stats.proofs.EqualValues.{equal_symmetric, equal_transitive, is_equal}
 use Rattle.table_stats.proofs.FewerRows.{PassesBoth, all_in_range, fewer_dominated}
-use Rattle.stats_file_of_query.specs.Needs.{table_of}
 use Rattle.stats_file_of_query.specs.Data.{value_of}
-use Rattle.stats_file_of_query.specs.Pairs.{pair_in_table}
-use Rattle.stats_file_of_query.specs.Standing.{PairStandsFor, SectionStandsFor, StandsFor, is_in_node, is_value, leaf_of_value, list_of_node, list_of_value, section_of}
-use Rattle.stats_file_of_query.proofs.Stands.{pair_stands, seconds}
-use Rattle.appended_stats.specs.Appended.{tables_of_rows, file_after, pair_after, section_after, values_in}
-use Rattle.appended_stats.specs.Conditions.{HasNewRows}
-use Rattle.appended_stats.specs.Grown.{grown_pair, is_frequent, list_for_any_of, list_with, lists_of_nodes, lists_of_size, other_values, rank_sums, with_new_rows}
+use Rattle.stats_file_of_query.specs.Standing.{PairStandsFor, is_in_node, is_value, leaf_of_value, list_of_node, list_of_value}
+use Rattle.appended_stats.specs.Appended.{tables_of_rows, values_in}
+use Rattle.appended_stats.specs.Grown.{grown_pair, list_for_any_of, list_with, lists_of_nodes, lists_of_size, other_values, rank_sums}
 use Rattle.appended_stats.proofs.NewLists.{node_count}
 use Rattle.appended_stats.proofs.NewRows.{leaf_alike, rank_sum_dominates, rest_dominates, value_alike, where_dominates, whole_dominates}
 

@@ -1,24 +1,21 @@
 -- If a section or a file stands for some rows, it stands after the append for these rows followed by the new rows.
-use Rattle.std.proofs.Common.{◌≡◌, ℕ, zero, suc, ◌+◌, ◌<◌, ◌≤◌, ◌==◌, Bool, true, false, cond, eqb, List, [], ◌∷◌, ◌++◌, length, map, get_or, None, Option, Some, find, option_map, slice_get, inl, inr, refl, ap, sym, ◌∙◌, subst, arith}
-use Rattle.std.specs.List.{All}
-use Rattle.std.proofs.lemmas.Bool.{cases_Bool, eq-eqb, eqb-true, ne_eqb}
+use Rattle.std.proofs.Common.{◌≡◌, ℕ, zero, suc, ◌+◌, ◌==◌, Bool, true, false, cond, eqb, List, [], ◌∷◌, ◌++◌, length, map, get_or, Some, find, inl, inr, refl, ap, sym, ◌∙◌, subst, arith}
+use Rattle.std.proofs.lemmas.Bool.{cases_Bool, eqb-true, ne_eqb}
 use Rattle.std.proofs.lemmas.List.Elements.{All-map}
 use Rattle.csv_tables.specs.Rows.{Row}
 use Rattle.query_types.specs.declared.types.Query.{Query}
-use Rattle.schema_types.specs.declared.types.Kind.{Kind}
 use Rattle.schema_types.specs.declared.types.Schema.{Schema}
 use Rattle.schema_types.specs.declared.types.Table.{Table}
 use Rattle.sql_meaning.specs.Tables.{Tables, row_counts}
-use Rattle.stats_file.specs.declared.types.Datum.{Datum}
 use Rattle.stats_file.specs.declared.types.PairStats.{PairStats}
 use Rattle.stats_file.specs.declared.types.StatsFile.{StatsFile}
 use Rattle.stats_file.specs.declared.types.TableStats.{TableStats}
-use Rattle.stats_file.specs.Rules.{IsPair, IsSection, IsHistogramOf, KeepsRules}
+use Rattle.stats_file.specs.Rules.{IsPair, IsSection, KeepsRules}
 use Rattle.table_stats.specs.Columns.{paired, value_of_row}
 use Rattle.table_stats.specs.Keys.{SeparatesValues}
 use Rattle.stats_file_of_query.specs.Needs.{table_of}
 use Rattle.stats_file_of_query.specs.Pairs.{pair_in_table}
-use Rattle.stats_file_of_query.specs.Standing.{PairStandsFor, SectionStandsFor, StandsFor, section_of}
+use Rattle.stats_file_of_query.specs.Standing.{PairStandsFor, SectionStandsFor, StandsFor}
 use Rattle.stats_file_of_query.proofs.Finding.{found_in}
 use Rattle.stats_file_of_query.proofs.Stands.{pair_stands}
 use Rattle.appended_stats.specs.Appended.{tables_of_rows, file_after, pair_after, section_after, values_in}

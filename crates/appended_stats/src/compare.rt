@@ -1,5 +1,5 @@
 //! Compares values of a statistics file with the cells of new rows.
-ghost use Rattle.std.specs.Prelude.{◌≡◌, ◌<◌, ◌≤◌, All, length};
+ghost use Rattle.std.specs.Prelude.{◌≡◌, ◌<◌, ◌≤◌, length};
 ghost use Rattle.csv_tables.specs.Cells.{IsCell, value_of_cell};
 ghost use Rattle.csv_tables.specs.Values.{value_cmp};
 ghost use Rattle.cond_stats.specs.Columns.{value_le};

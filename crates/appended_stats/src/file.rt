@@ -1,5 +1,5 @@
 //! Makes the statistics file after rows were appended to one of its tables.
-ghost use Rattle.std.specs.Prelude.{◌≡◌, ◌+◌, ◌^◌, All, IfOk, length, map};
+ghost use Rattle.std.specs.Prelude.{◌≡◌, ◌+◌, All, IfOk, map};
 ghost use Rattle.csv_tables.specs.Cells.{rows_of_cells};
 ghost use Rattle.sql_meaning.specs.Databases.{AreCells};
 ghost use Rattle.stats_file.specs.Rules.{KeepsRules};

@@ -1,6 +1,6 @@
 //! After an append, the new statistics file stands for the old rows followed by the new rows. These functions compute nothing: each contract is a
 //! law.
-ghost use Rattle.std.specs.Prelude.{◌≡◌, ◌≢◌, ◌++◌, ◌<◌, ◌≤◌, ℕ, List, [], Some};
+ghost use Rattle.std.specs.Prelude.{◌≡◌, ◌++◌, ℕ, List};
 ghost use Rattle.csv_tables.specs.Rows.{Row};
 ghost use Rattle.query_types.specs.declared.types.Query.{Query};
 ghost use Rattle.schema_types.specs.declared.types.Schema.{Schema};

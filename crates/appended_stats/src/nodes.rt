@@ -1,9 +1,8 @@
 //! Makes the nodes' lists for the new rows, with the old cuts. Then adds these lists to the old lists.
-ghost use Rattle.std.specs.Prelude.{◌≡◌, ◌++◌, ◌<◌, ◌≤◌, ◌^◌, All, IfOk, OnOk, ℕ, length, map};
+ghost use Rattle.std.specs.Prelude.{◌≡◌, ◌++◌, ◌<◌, ◌≤◌, ◌^◌, All, IfOk, OnOk, length, map};
 ghost use Rattle.std.specs.List.{sum, zip};
 ghost use Rattle.csv_tables.specs.Cells.{IsCell, value_of_cell};
 ghost use Rattle.cond_stats.specs.Leaves.{IsNodeSize, in_node};
-ghost use Rattle.cond_stats.specs.Lists.{list_where};
 ghost use Rattle.cond_stats.specs.Rows.{keys_where};
 ghost use Rattle.stats_file_of_query.specs.Standing.{leaf_of_value};
 ghost use Rattle.appended_stats.specs.Grown.{lists_of_nodes, lists_of_size, rank_sums};

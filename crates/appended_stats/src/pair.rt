@@ -1,8 +1,6 @@
 //! Makes the pair after new rows of its table. A pair has the statistics of one filter column and one joined column.
-ghost use Rattle.std.specs.Prelude.{◌≡◌, ◌^◌, IfOk, length};
-ghost use Rattle.limits.specs.Profile.{most_rows};
+ghost use Rattle.std.specs.Prelude.{◌≡◌, IfOk};
 ghost use Rattle.sql_meaning.specs.Databases.{AreCells};
-ghost use Rattle.stats_file_of_query.specs.Pairs.{pair_in_cells};
 ghost use Rattle.appended_stats.specs.Cells.{grown_by_cells, pair_by_cells};
 ghost use Rattle.appended_stats.specs.Conditions.{MayGrow};
 

@@ -1,6 +1,6 @@
 //! Makes the list of the new rows whose values aren't frequent. This list is then added to the rest list.
 ghost use Rattle.std.specs.Prelude.{◌≡◌, ◌++◌, ◌∷◌, [], ◌<◌, ◌^◌, All, IfOk, OnOk, not, length, map, nat_eq, slice_index_or, slice_set};
-ghost use Rattle.std.specs.List.{IsDistinct, filter, sum, zip};
+ghost use Rattle.std.specs.List.{IsDistinct, filter, zip};
 ghost use Rattle.csv_tables.specs.Cells.{IsCell, value_of_cell};
 ghost use Rattle.cond_stats.specs.Lists.{greatest, keys_with, maxima};
 ghost use Rattle.degree_sequences.specs.Compression.{compressed};

@@ -17,9 +17,9 @@ block_appended items grown into after rest at n len e front fits within =
 first_bytes_extended : (all items into : List ℕ) (n : ℕ) → n ≤ length into → items ≡ take (length items) all → take n into ≡ take n (drop (length items) all)
     → items ++ take n into ≡ take (length (items ++ take n into)) all
 first_bytes_extended all items into n le first more =
-    let long : length (items ++ take n into) ≡ length items + n = grind (arith, common_steps) in
+    let lengths : length (items ++ take n into) ≡ length items + n = grind (arith, common_steps) in
     ap (λ x. x ++ take n into) first ∙ ap (λ x. take (length items) all ++ x) more
-    ∙ sym (take-add (length items) n all) ∙ ap (λ k. take k all) (sym long)
+    ∙ sym (take-add (length items) n all) ∙ ap (λ k. take k all) (sym lengths)
 
 pub first_bytes_after_read : (file : FileAnswer) (items into : List ℕ) (n : ℕ) → n ≤ length into → AreFirstBytes file items → MayHaveRead file (length items) n into → AreFirstBytes file (items ++ take n into)
 first_bytes_after_read Unknown items into n le front gives = tt

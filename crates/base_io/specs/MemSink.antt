@@ -1,4 +1,4 @@
--- What contracts see of a sink in memory.
+-- What a sink in memory is in contracts.
 use Rattle.std.specs.Prelude.{ℕ, List}
 
 -- the bytes taken, how many more bytes fit, the numbers of the calls that fail, and the counts of calls and faults

@@ -4,7 +4,7 @@ use crate::NoMemory;
 use std::alloc::Global;
 use std::marker::Model;
 
-/// A value on the heap. Contracts see only the value. A type may have a field that is a `Boxed` of the type itself.
+/// A value on the heap. In contracts it is only the value. A type may have a field that is a `Boxed` of the type itself.
 #[derive(Debug, Drop)]
 pub struct Boxed<T> {
     inner: Box<T>,

@@ -10,8 +10,8 @@ use std::marker::Model;
 // The buffer is large, so that a text takes few calls of the sink.
 const ROOM: usize = 8192;
 
-/// Gathers small writes, so that a sink is called once for many writes. Contracts see the bytes that wait for the sink. The buffer lies on the stack
-/// and allocates nothing. After `Failed` the buffer must not be used again.
+/// Gathers small writes, so that a sink is called once for many writes. In contracts it is the bytes that wait for the sink. The buffer lies on the
+/// stack and allocates nothing. After `Failed` the buffer must not be used again.
 #[derive(Drop)]
 pub struct Buffer {
     bytes: [u8; ROOM],

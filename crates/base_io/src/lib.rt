@@ -4,7 +4,7 @@
 //!
 //! Contracts on stores use `answer_about` (what a store tells about a name) and `ReadsFile` (the results that reading a file may have). Contracts on
 //! sinks use `appended` and `GrewByPrefix` (what a sink took), and `Wrote` and `WroteBuffered` (what a step that writes guarantees). `Rose` says that
-//! a count of faults rose. Contracts see `Seq` as the list of its items, `Boxed` as its value and `Name` as its bytes.
+//! a count of faults rose. In contracts a `Seq` is the list of its items, a `Boxed` its value and a `Name` its bytes.
 #![tactic(auto)]
 
 mod boxed;

@@ -4,7 +4,7 @@ use crate::NoMemory;
 use std::alloc::Global;
 use std::marker::Model;
 
-/// A text, which contracts see as its bytes.
+/// A text, which in contracts is its bytes.
 #[derive(Debug, Drop)]
 pub struct Name {
     text: String,

@@ -108,10 +108,10 @@ fn ten_billion_rows_are_compressed_by_their_runs(rt: HostRuntime) -> Result<(), 
 // Combines the lists [3, 1] and [2, 2, 1] rank by rank. Returns the total of the greater elements, the total of the sums, and that of the products.
 fn totals(alloc: Global) -> Result<[u128; 3], NoMemory> {
     let short = Pieces::from_list(alloc, &[3, 1])?;
-    let long = Pieces::from_list(alloc, &[2, 2, 1])?;
-    let greater = short.greater(&long)?.total();
-    let sum = short.sum(&long)?.total();
-    Ok([greater, sum, short.product(&long)?.total()])
+    let lengths = Pieces::from_list(alloc, &[2, 2, 1])?;
+    let greater = short.greater(&lengths)?.total();
+    let sum = short.sum(&lengths)?.total();
+    Ok([greater, sum, short.product(&lengths)?.total()])
 }
 
 #[test]

@@ -14,7 +14,7 @@ use std::rt::Clock;
 use std::time::Instant;
 use std::{env, io};
 
-const KEYS: u32 = 4_000_000;
+const KEY_COUNT: u32 = 4_000_000;
 
 const ROUNDS: u32 = 3;
 
@@ -52,9 +52,9 @@ fn measure_kind(rt: &HostRuntime, kind: Kind, count: u32, rounds: u32) -> io::Re
 }
 
 fn write_time(rt: &HostRuntime, kind: Kind) -> io::Result<()> {
-    let (name, keys) = (kind.name(), KEYS);
-    let Measure { len, nanos } = measure_kind(rt, kind, keys, ROUNDS)?;
-    println!(rt; "{name} {keys} {len} {nanos}")
+    let (name, count) = (kind.name(), KEY_COUNT);
+    let Measure { len, nanos } = measure_kind(rt, kind, count, ROUNDS)?;
+    println!(rt; "{name} {count} {len} {nanos}")
 }
 
 fn main(rt: HostRuntime) -> io::Result<()> {

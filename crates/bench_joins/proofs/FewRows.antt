@@ -1,4 +1,4 @@
--- If the right table has each key at most `times` times, a join has at most `times` rows for each row of the left table.
+-- If the right table has each key at most `repeats` times, a join has at most `repeats` rows for each row of the left table.
 use Rattle.std.proofs.Common.{◌≡◌, ℕ, zero, suc, ◌+◌, ◌-◌, ◌*◌, ◌/◌, ◌%◌, ◌<◌, ◌≤◌, ◌^◌, Bool, true, false, not, eqb, ◌||◌, Option, Some, None, List, [], ◌∷◌, ◌++◌, length, map, get_or, refl, ap, sym, ◌∙◌, subst, arith, inl, inr}
 use Rattle.std.specs.Prelude.{All, IsUtf8}
 use Rattle.std.specs.List.{filter, range_with_len, AllByRecursion, count_by}
@@ -65,22 +65,22 @@ numbers_that_pass_are_at_most p a m near (suc n) s = elim (cases_lt s a) [
 ]
 
 -- if a row of `each_repeated` has a key, its row number is from key * times to below key * times + times
-rows_with_key_are_in_range : (key times row : ℕ) → 0 < times → eqb (row / times) key ≡ true → (key * times ≤ row) × (row < key * times + times)
-rows_with_key_are_in_range key times row some hit =
-    let same : row / times ≡ key = eqb-true (row / times) key hit in
-    let whole : row / times * times + row % times ≡ row = div-add-mod' row times in
-    let at : key * times + row % times ≡ row = ap (λ (q : ℕ). q * times + row % times) (sym same) ∙ whole in
-    let less : row % times < times = omega arith in
+rows_with_key_are_in_range : (key repeats row : ℕ) → 0 < repeats → eqb (row / repeats) key ≡ true → (key * repeats ≤ row) × (row < key * repeats + repeats)
+rows_with_key_are_in_range key repeats row some hit =
+    let same : row / repeats ≡ key = eqb-true (row / repeats) key hit in
+    let whole : row / repeats * repeats + row % repeats ≡ row = div-add-mod' row repeats in
+    let at : key * repeats + row % repeats ≡ row = ap (λ (q : ℕ). q * repeats + row % repeats) (sym same) ∙ whole in
+    let less : row % repeats < repeats = omega arith in
     (omega (arith, at), omega (arith, at, less))
 
 filter_agree_on : (p q : ℕ → Bool) (xs : List ℕ) → AllByRecursion (λ x. p x ≡ q x) xs → filter p xs ≡ filter q xs
 filter_agree_on p q [] same = refl
 filter_agree_on p q (x ∷ xs) same = rw (same.0, filter_agree_on p q xs same.1) refl
 
-repeated_at : (rows times row : ℕ) → row < rows → get_or (each_repeated rows times) row 0 ≡ row / times
-repeated_at rows times row low =
-    get_or-map (λ r. r / times) (range_with_len 0 rows) row 0 0 (omega (arith, length-range_with_len 0 rows))
-    ∙ ap (λ (r : ℕ). r / times) (get_or-range_with_len 0 rows row 0 low ∙ omega arith)
+repeated_at : (rows repeats row : ℕ) → row < rows → get_or (each_repeated rows repeats) row 0 ≡ row / repeats
+repeated_at rows repeats row low =
+    get_or-map (λ r. r / repeats) (range_with_len 0 rows) row 0 0 (omega (arith, length-range_with_len 0 rows))
+    ∙ ap (λ (r : ℕ). r / repeats) (get_or-range_with_len 0 rows row 0 low ∙ omega arith)
 
 filtered_twice : (p q : ℕ → Bool) (xs : List ℕ) → length (filter p (filter q xs)) ≤ length (filter p xs)
 filtered_twice p q [] = omega arith
@@ -97,14 +97,14 @@ filtered_twice p q (x ∷ xs) =
       ]
     ]
 
--- of the rows that pass a test `own`, at most `times` rows have the key
-at_most_times_rows_have_key : (rows times key : ℕ) (own : ℕ → Bool) → 0 < times → length (filter (λ row. eqb (get_or (each_repeated rows times) row 0) key) (filter own (range_with_len 0 rows))) ≤ times
-at_most_times_rows_have_key rows times key own some =
-    let p : ℕ → Bool = λ row. eqb (get_or (each_repeated rows times) row 0) key in
-    let q : ℕ → Bool = λ row. eqb (row / times) key in
+-- of the rows that pass a test `own`, at most `repeats` rows have the key
+at_most_times_rows_have_key : (rows repeats key : ℕ) (own : ℕ → Bool) → 0 < repeats → length (filter (λ row. eqb (get_or (each_repeated rows repeats) row 0) key) (filter own (range_with_len 0 rows))) ≤ repeats
+at_most_times_rows_have_key rows repeats key own some =
+    let p : ℕ → Bool = λ row. eqb (get_or (each_repeated rows repeats) row 0) key in
+    let q : ℕ → Bool = λ row. eqb (row / repeats) key in
     let same : filter p (range_with_len 0 rows) ≡ filter q (range_with_len 0 rows) =
-    filter_agree_on p q (range_with_len 0 rows) (weaken_each (λ x. x < rows) (λ x. p x ≡ q x) (λ x low. ap (λ (n : ℕ). eqb n key) (repeated_at rows times x low)) (range_with_len 0 rows) (range_is_below 0 rows rows (omega arith))) in
-    let few : length (filter q (range_with_len 0 rows)) ≤ times = numbers_that_pass_are_at_most q (key * times) times (λ x hit. rows_with_key_are_in_range key times x some hit) rows 0 in
+    filter_agree_on p q (range_with_len 0 rows) (weaken_each (λ x. x < rows) (λ x. p x ≡ q x) (λ x low. ap (λ (n : ℕ). eqb n key) (repeated_at rows repeats x low)) (range_with_len 0 rows) (range_is_below 0 rows rows (omega arith))) in
+    let few : length (filter q (range_with_len 0 rows)) ≤ repeats = numbers_that_pass_are_at_most q (key * repeats) repeats (λ x hit. rows_with_key_are_in_range key repeats x some hit) rows 0 in
     omega (arith, filtered_twice p own (range_with_len 0 rows), ap (λ (s : List ℕ). length s) same, few)
 
 -- ---- how many rows continue each choice of the level before
@@ -124,14 +124,14 @@ continuations_are_at_most_rows p q Q choice only (row ∷ list) all =
       ]
     ]
 
-continuations_of_all_are_at_most : (p : List ℕ → Bool) (list : List ℕ) (times : ℕ) (P : List ℕ → Type 0) → ((choice : List ℕ) → P choice → length (filter p (map (λ row. choice ++ row ∷ []) list)) ≤ times) → (above : List (List ℕ)) → AllByRecursion P above
-    → length (filter p (extended above list)) ≤ times * length above
-continuations_of_all_are_at_most p list times P each [] all = omega arith
-continuations_of_all_are_at_most p list times P each (choice ∷ above) all =
-    let rest : length (filter p (extended above list)) ≤ times * length above = continuations_of_all_are_at_most p list times P each above all.1 in
+continuations_of_all_are_at_most : (p : List ℕ → Bool) (list : List ℕ) (repeats : ℕ) (P : List ℕ → Type 0) → ((choice : List ℕ) → P choice → length (filter p (map (λ row. choice ++ row ∷ []) list)) ≤ repeats) → (above : List (List ℕ)) → AllByRecursion P above
+    → length (filter p (extended above list)) ≤ repeats * length above
+continuations_of_all_are_at_most p list repeats P each [] all = omega arith
+continuations_of_all_are_at_most p list repeats P each (choice ∷ above) all =
+    let rest : length (filter p (extended above list)) ≤ repeats * length above = continuations_of_all_are_at_most p list repeats P each above all.1 in
     let splits : length (filter p (extended (choice ∷ above) list)) ≡ length (filter p (map (λ row. choice ++ row ∷ []) list)) + length (filter p (extended above list)) =
     ap (λ (s : List (List ℕ)). length s) (filter-append p (map (λ row. choice ++ row ∷ []) list) (extended above list)) ∙ length-append (filter p (map (λ row. choice ++ row ∷ []) list)) (filter p (extended above list)) in
-    let product : times * suc (length above) ≡ times * length above + times = mul-suc times (length above) in
+    let product : repeats * suc (length above) ≡ repeats * length above + repeats = mul-suc repeats (length above) in
     omega (arith, splits, rest, each choice all.0, product)
 
 le_product : (a n : ℕ) → 0 < n → a ≤ a * n
@@ -151,12 +151,12 @@ at_most_transitive a b c low lower = omega (arith, low, lower)
 
 -- ---- the two tables
 
-module _ (left right times : ℕ) (values : Option Op) (left_keys left_values right_values : List ℕ) (are_left_keys : AreNumbers left left_keys) (are_left_values : AreNumbers left left_values) (are_right_values : AreNumbers right right_values) (some : 0 < times) (few_right : right ≤ 4000000) (few_left : left ≤ 4000000) where
+module _ (left right repeats : ℕ) (comparison : Option Op) (left_keys left_values right_values : List ℕ) (are_left_keys : AreNumbers left left_keys) (are_left_values : AreNumbers left left_values) (are_right_values : AreNumbers right right_values) (some : 0 < repeats) (few_right : right ≤ 4000000) (few_left : left ≤ 4000000) where
   abbrev db : Database
-  db = tables_of_two (table_of left left_keys left_values) (table_of right (each_repeated right times) right_values)
+  db = tables_of_two (table_of left left_keys left_values) (table_of right (each_repeated right repeats) right_values)
 
   abbrev q : Query
-  q = join_of values
+  q = join_of comparison
 
   abbrev conjuncts : List Conjunct
   conjuncts = conjuncts_of q (tables_of db)
@@ -180,21 +180,21 @@ module _ (left right times : ℕ) (values : Option Op) (left_keys left_values ri
   comparison_is_well_typed : (o : Op) (column : ℕ) → column < 2 → IsWellTyped db (compared o column)
   comparison_is_well_typed o column within = same_kinds_are_well_typed db o (operand.Column (col 0 column)) (operand.Column (col 1 column)) (record { text = false; left_kind = column_is_of_numbers 0 column (omega arith) within; right_kind = column_is_of_numbers 1 column (omega arith) within })
 
-  conjuncts_are_well_typed : (values : Option Op) → AllByRecursion (IsWellTyped db) (join_of values).conjuncts
+  conjuncts_are_well_typed : (comparison : Option Op) → AllByRecursion (IsWellTyped db) (join_of comparison).conjuncts
   conjuncts_are_well_typed (Some o) = (comparison_is_well_typed op.Eq 0 (omega arith), (comparison_is_well_typed o 1 (omega arith), tt))
   conjuncts_are_well_typed None = (comparison_is_well_typed op.Eq 0 (omega arith), tt)
 
-  conjuncts_within_limit : (values : Option Op) → length (join_of values).conjuncts ≤ 2
+  conjuncts_within_limit : (comparison : Option Op) → length (join_of comparison).conjuncts ≤ 2
   conjuncts_within_limit (Some o) = omega arith
   conjuncts_within_limit None = omega arith
 
-  quotient_is_below_2_64 : (x : ℕ) → x < right → x / times < 2 ^ 64
-  quotient_is_below_2_64 x low = let whole : x / times * times + x % times ≡ x = div-add-mod' x times in let at_least : x / times ≤ x / times * times = le_product (x / times) times some in omega (arith, whole, at_least)
+  quotient_is_below_2_64 : (x : ℕ) → x < right → x / repeats < 2 ^ 64
+  quotient_is_below_2_64 x low = let whole : x / repeats * repeats + x % repeats ≡ x = div-add-mod' x repeats in let at_least : x / repeats ≤ x / repeats * repeats = le_product (x / repeats) repeats some in omega (arith, whole, at_least)
 
-  are_right_keys : AreNumbers right (each_repeated right times)
+  are_right_keys : AreNumbers right (each_repeated right repeats)
   are_right_keys = record {
-    long = length-map (range_with_len 0 right) (λ row. row / times) ∙ length-range_with_len 0 right;
-    small = All-map (λ cell. cell < 2 ^ 64) (λ row. row / times) (range_with_len 0 right) (All-from_recursion (λ row. row / times < 2 ^ 64) (range_with_len 0 right) (weaken_each (λ x. x < right) (λ x. x / times < 2 ^ 64) quotient_is_below_2_64 (range_with_len 0 right) (range_is_below 0 right right (omega arith))));
+    lengths = length-map (range_with_len 0 right) (λ row. row / repeats) ∙ length-range_with_len 0 right;
+    small = All-map (λ cell. cell < 2 ^ 64) (λ row. row / repeats) (range_with_len 0 right) (All-from_recursion (λ row. row / repeats < 2 ^ 64) (range_with_len 0 right) (weaken_each (λ x. x < right) (λ x. x / repeats < 2 ^ 64) quotient_is_below_2_64 (range_with_len 0 right) (range_is_below 0 right right (omega arith))));
   }
 
   tables_are_within_limit : (entry : ℕ) → entry < 2 → row_counts (tables_of db) entry ≤ 4000000
@@ -206,18 +206,18 @@ module _ (left right times : ℕ) (values : Option Op) (left_keys left_values ri
   fits = record {
     some = omega arith;
     few = omega arith;
-    conjuncts_within_limit = omega (arith, conjuncts_within_limit values);
+    conjuncts_within_limit = omega (arith, conjuncts_within_limit comparison);
     entries = refl;
     tables = record {
       cells = All-from_recursion (AreCells []) db.cells (
-        (record { height = are_left_keys.long; cells = are_left_keys.small }, (record { height = are_left_values.long; cells = are_left_values.small }, tt)),
-        ((record { height = are_right_keys.long; cells = are_right_keys.small }, (record { height = are_right_values.long; cells = are_right_values.small }, tt)), tt),
+        (record { height = are_left_keys.lengths; cells = are_left_keys.small }, (record { height = are_left_values.lengths; cells = are_left_values.small }, tt)),
+        ((record { height = are_right_keys.lengths; cells = are_right_keys.small }, (record { height = are_right_values.lengths; cells = are_right_values.small }, tt)), tt),
       );
       slots = All-from_recursion (λ slot. slot < 2) (0 ∷ 1 ∷ []) (omega arith, (omega arith, tt));
     };
     rows_within_limit = tables_are_within_limit;
     same_slot = λ i j low high same. same;
-    conjuncts = All-from_recursion (IsWellTyped db) q.conjuncts (conjuncts_are_well_typed values);
+    conjuncts = All-from_recursion (IsWellTyped db) q.conjuncts (conjuncts_are_well_typed comparison);
     outputs = All-from_recursion (λ out. IsColumnOf db out.column) q.select tt;
   }
 
@@ -245,7 +245,7 @@ module _ (left right times : ℕ) (values : Option Op) (left_keys left_values ri
   first_level = omega (arith, at_most_listed_rows q (tables_of db) scans 0, first_scan)
 
   -- a right row that is joined with a left row has the left row's key
-  has_key : (x row : ℕ) → x < row_counts (tables_of db) 0 → row < row_counts (tables_of db) 1 → completed_hold conjuncts (0 ∷ []) 1 (x ∷ row ∷ []) ≡ true → eqb (get_or (each_repeated right times) row 0) (get_or left_keys x 0) ≡ true
+  has_key : (x row : ℕ) → x < row_counts (tables_of db) 0 → row < row_counts (tables_of db) 1 → completed_hold conjuncts (0 ∷ []) 1 (x ∷ row ∷ []) ≡ true → eqb (get_or (each_repeated right repeats) row 0) (get_or left_keys x 0) ≡ true
   has_key x row low_x low_row hit =
       let row_of : ℕ → ℕ = row_in (0 ∷ 1 ∷ []) (x ∷ row ∷ []) in
       let a : ColumnRef = col 0 0 in
@@ -258,33 +258,33 @@ module _ (left right times : ℕ) (values : Option Op) (left_keys left_values ri
       let none : All IsUtf8 [] = All-from_recursion IsUtf8 [] tt in
       sym (key_holds db row_of (0 ∷ []) (1 ∷ []) 0 (compared op.Eq 0) key is_key fits.tables (λ i j d low high same. absurd (omega arith)) none (comparison_is_well_typed op.Eq 0 (omega arith)) (omega (arith, low_x, rows_are db 0)) (omega (arith, low_row, rows_are db 1))) ∙ holds
 
-  -- each left row is joined with at most `times` right rows
-  matches_of_choice_are_at_most_times : (choice : List ℕ) → IsChoiceOf (row_counts (tables_of db)) (0 ∷ []) choice → length (filter (completed_hold conjuncts (0 ∷ []) 1) (map (λ row. choice ++ row ∷ []) (scan_of q db 1))) ≤ times
+  -- each left row is joined with at most `repeats` right rows
+  matches_of_choice_are_at_most_times : (choice : List ℕ) → IsChoiceOf (row_counts (tables_of db)) (0 ∷ []) choice → length (filter (completed_hold conjuncts (0 ∷ []) 1) (map (λ row. choice ++ row ∷ []) (scan_of q db 1))) ≤ repeats
   matches_of_choice_are_at_most_times [] p = absurd p
   matches_of_choice_are_at_most_times (x ∷ y ∷ choice) p = absurd p.1
   matches_of_choice_are_at_most_times (x ∷ []) p =
       at_most_transitive (length (filter (completed_hold conjuncts (0 ∷ []) 1) (map (λ row. (x ∷ []) ++ row ∷ []) (scan_of q db 1))))
-      (length (filter (λ row. eqb (get_or (each_repeated right times) row 0) (get_or left_keys x 0)) (scan_of q db 1))) times
-      (continuations_are_at_most_rows (completed_hold conjuncts (0 ∷ []) 1) (λ row. eqb (get_or (each_repeated right times) row 0) (get_or left_keys x 0)) (λ row. row < row_counts (tables_of db) 1) (x ∷ []) (λ row low hit. has_key x row p.0 low hit)
+      (length (filter (λ row. eqb (get_or (each_repeated right repeats) row 0) (get_or left_keys x 0)) (scan_of q db 1))) repeats
+      (continuations_are_at_most_rows (completed_hold conjuncts (0 ∷ []) 1) (λ row. eqb (get_or (each_repeated right repeats) row 0) (get_or left_keys x 0)) (λ row. row < row_counts (tables_of db) 1) (x ∷ []) (λ row low hit. has_key x row p.0 low hit)
       (scan_of q db 1) (recursion_from_All (λ row. row < row_counts (tables_of db) 1) (scan_of q db 1) (listed_rows_exist conjuncts (row_counts (tables_of db)) 1 (scan_of q db 1) (scanned 1 (omega arith)))))
-      (subst (λ (n : ℕ). length (filter (λ row. eqb (get_or (each_repeated right times) row 0) (get_or left_keys x 0)) (filter (passes_own conjuncts 1) (range_with_len 0 n))) ≤ times) (sym (rows_are db 1))
-      (at_most_times_rows_have_key right times (get_or left_keys x 0) (passes_own conjuncts 1) some))
+      (subst (λ (n : ℕ). length (filter (λ row. eqb (get_or (each_repeated right repeats) row 0) (get_or left_keys x 0)) (filter (passes_own conjuncts 1) (range_with_len 0 n))) ≤ repeats) (sym (rows_are db 1))
+      (at_most_times_rows_have_key right repeats (get_or left_keys x 0) (passes_own conjuncts 1) some))
 
-  second_level : length (chosen_rows q (tables_of db) (scans_of q (tables_of db)) (0 ∷ 1 ∷ [])) ≤ times * left
+  second_level : length (chosen_rows q (tables_of db) (scans_of q (tables_of db)) (0 ∷ 1 ∷ [])) ≤ repeats * left
   second_level =
       let above : List (List ℕ) = chosen_rows q (tables_of db) scans (0 ∷ []) in
       let next : chosen_rows q (tables_of db) scans (0 ∷ 1 ∷ []) ≡ filter (completed_hold conjuncts (0 ∷ []) 1) (extended above (scan_of q db 1)) =
       next_level_over conjuncts (list_at scans) (0 ∷ []) 1 (depend_on_named (tables_of db) q.conjuncts) refl
       ∙ ap (λ (s : List ℕ). filter (completed_hold conjuncts (0 ∷ []) 1) (extended above s)) (list_passes_own conjuncts (row_counts (tables_of db)) 1 (scan_of q db 1) (scanned 1 (omega arith))) in
-      let few_all = continuations_of_all_are_at_most (completed_hold conjuncts (0 ∷ []) 1) (scan_of q db 1) times (IsChoiceOf (row_counts (tables_of db)) (0 ∷ [])) matches_of_choice_are_at_most_times above
+      let few_all = continuations_of_all_are_at_most (completed_hold conjuncts (0 ∷ []) 1) (scan_of q db 1) repeats (IsChoiceOf (row_counts (tables_of db)) (0 ∷ [])) matches_of_choice_are_at_most_times above
       (are_choices q db scans (scans_are_of_scans q (tables_of db)) (0 ∷ []) (omega arith, tt)) in
       let few_above : length above ≤ left = first_level in
-      omega (arith, ap (λ (s : List (List ℕ)). length s) next, few_all, product_keeps_order times (length above) left few_above)
+      omega (arith, ap (λ (s : List (List ℕ)). length s) next, few_all, product_keeps_order repeats (length above) left few_above)
 
   -- ---- the plan
 
   abbrev plan : BushyPlan
-  plan = plan_of left right times
+  plan = plan_of left right repeats
 
   is_tree : IsTreePlan 2 plan
   is_tree = record { few = omega arith; scans = refl; joins = refl; behind = (omega arith, omega arith, tt); once = each_once }
@@ -294,7 +294,7 @@ module _ (left right times : ℕ) (values : Option Op) (left_keys left_values ri
       each_once (suc zero) low = refl
       each_once (suc (suc node)) low = absurd (omega arith)
 
-  fits_buffers : times * left ≤ 20000000 → BoundsFitBuffers plan
+  fits_buffers : repeats * left ≤ 20000000 → BoundsFitBuffers plan
   fits_buffers few_joined = record {
     all = record { scans = (omega arith, (omega arith, tt)); joins = (omega arith, tt) };
     rights = (omega arith, tt);
@@ -311,6 +311,6 @@ module _ (left right times : ℕ) (values : Option Op) (left_keys left_values ri
   node_fits (suc (suc zero)) low = second_level
   node_fits (suc (suc (suc node))) low = absurd (omega arith)
 
-  pub planned : times * left ≤ 20000000 → IsTreePlanOf (join_of values) (tables_of (tables_of_two (table_of left left_keys left_values) (table_of right (each_repeated right times) right_values)))
-      (scans_of (join_of values) (tables_of (tables_of_two (table_of left left_keys left_values) (table_of right (each_repeated right times) right_values)))) (plan_of left right times)
+  pub planned : repeats * left ≤ 20000000 → IsTreePlanOf (join_of comparison) (tables_of (tables_of_two (table_of left left_keys left_values) (table_of right (each_repeated right repeats) right_values)))
+      (scans_of (join_of comparison) (tables_of (tables_of_two (table_of left left_keys left_values) (table_of right (each_repeated right repeats) right_values)))) (plan_of left right repeats)
   planned few_joined = record { for_each_entry = is_tree; small = fits_buffers few_joined; scans = scan_fits; nodes = node_fits }

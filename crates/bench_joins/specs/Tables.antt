@@ -22,9 +22,9 @@ values_compared (Some operator) = compared operator 1 ∷ []
 
 -- the query FROM L, R WHERE L.K = R.K. With an operator it goes on with AND and the comparison of L.V with R.V
 abbrev pub join_of : Option Op → Query
-join_of values = record {
+join_of comparison = record {
   from = record { table = 0; alias = [] } ∷ record { table = 1; alias = [] } ∷ [];
-  conjuncts = compared op.Eq 0 ∷ values_compared values;
+  conjuncts = compared op.Eq 0 ∷ values_compared comparison;
   select = [];
 }
 
@@ -32,16 +32,16 @@ join_of values = record {
 abbrev pub table_of : ℕ → List ℕ → List ℕ → Cells
 table_of rows keys values = record { kinds = kind.Int ∷ kind.Int ∷ []; columns = keys ∷ values ∷ []; rows = rows }
 
--- `rows` numbers: 0 `times` times, then 1 `times` times, and so on
+-- `rows` numbers: the first `repeats` numbers are 0, the next `repeats` numbers are 1, and so on
 abbrev pub each_repeated : ℕ → ℕ → List ℕ
-each_repeated rows times = map (λ row. row / times) (range_with_len 0 rows)
+each_repeated rows repeats = map (λ row. row / repeats) (range_with_len 0 rows)
 
 abbrev pub tables_of_two : Cells → Cells → Database
 tables_of_two left right = record { pool = []; cells = left ∷ right ∷ []; slots = 0 ∷ 1 ∷ [] }
 
 -- `rows` numbers of 64 bits
 pub record AreNumbers (rows : ℕ) (cells : List ℕ) : Type 0 where
-  pub long : length cells ≡ rows
+  pub lengths : length cells ≡ rows
   pub small : All (λ cell. cell < 2 ^ 64) cells
 
 -- two columns of numbers
@@ -53,37 +53,37 @@ pub record IsTableOfNumbers (rows : ℕ) (cells : Cells) : Type 0 where
   pub are_values : AreNumbers rows values
 
 -- a table whose keys are `each_repeated rows times`
-pub record HasRepeatedKeys (rows times : ℕ) (cells : Cells) : Type 0 where
+pub record HasRepeatedKeys (rows repeats : ℕ) (cells : Cells) : Type 0 where
   pub values : List ℕ
-  pub is : cells ≡ table_of rows (each_repeated rows times) values
+  pub is : cells ≡ table_of rows (each_repeated rows repeats) values
   pub are_values : AreNumbers rows values
 
--- two tables of these sizes; the right table has each key at most `times` times
-pub record AreTwoTables (left right times : ℕ) (db : Database) : Type 0 where
+-- two tables of these sizes; the right table has each key at most `repeats` times
+pub record AreTwoTables (left right repeats : ℕ) (db : Database) : Type 0 where
   pub first : Cells
   pub second : Cells
   pub is : db ≡ tables_of_two first second
   pub is_first : IsTableOfNumbers left first
-  pub is_second : HasRepeatedKeys right times second
+  pub is_second : HasRepeatedKeys right repeats second
 
--- the plan of the query. The join has at most `times` rows for each row of the left table
+-- the plan of the query. The join has at most `repeats` rows for each row of the left table
 abbrev pub plan_of : ℕ → ℕ → ℕ → BushyPlan
-plan_of left right times = record {
-  joins = record { left = 0; right = 1; bound = times * left } ∷ [];
+plan_of left right repeats = record {
+  joins = record { left = 0; right = 1; bound = repeats * left } ∷ [];
   scans = left ∷ right ∷ [];
-  cost = times * left;
+  cost = repeats * left;
 }
 
 -- two tables, the query that joins them, and its plan. The sizes of the tables and of the join are within the limits of tables and plans
 pub record IsJoinOfTwo (plan : BushyPlan) (query : Query) (db : Database) : Type 0 where
   pub left : ℕ
   pub right : ℕ
-  pub times : ℕ
-  pub values : Option Op
-  pub is_plan : plan ≡ plan_of left right times
-  pub is_query : query ≡ join_of values
-  pub are_two : AreTwoTables left right times db
-  pub some : 0 < times
+  pub repeats : ℕ
+  pub comparison : Option Op
+  pub is_plan : plan ≡ plan_of left right repeats
+  pub is_query : query ≡ join_of comparison
+  pub are_two : AreTwoTables left right repeats db
+  pub some : 0 < repeats
   pub few_left : left ≤ 4000000
   pub few_right : right ≤ 4000000
-  pub few_joined : times * left ≤ 20000000
+  pub few_joined : repeats * left ≤ 20000000

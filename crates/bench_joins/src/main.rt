@@ -104,16 +104,16 @@ fn fastest_of(
     rt: &impl Clock,
     alloc: Global,
     sizes: Sizes,
-    values: Option<Op>,
+    comparison: Option<Op>,
     rounds: u32,
 ) -> io::Result<Joined>
-    requires some { 0 < sizes.times }
+    requires some { 0 < sizes.repeats }
     requires left { sizes.left ≤ 4000000 }
     requires right { sizes.right ≤ 4000000 }
-    requires joined { sizes.times * sizes.left ≤ 20000000 }
+    requires joined { sizes.repeats * sizes.left ≤ 20000000 }
 {
     let db = database(alloc, sizes).map_err(out_of_memory)?;
-    let query = query(alloc, values).map_err(out_of_memory)?;
+    let query = query(alloc, comparison).map_err(out_of_memory)?;
     let plan = plan(alloc, sizes).map_err(out_of_memory)?;
     let mut least = timed_execution(rt, alloc, &plan, &query, &db)?;
     for _ in 1..rounds {
@@ -153,12 +153,22 @@ fn fastest_of_case(
     case: Case<'_>,
     rounds: u32,
 ) -> io::Result<Joined> {
-    let Case(_, left, right, times, values) = case;
-    let most = u64::from(times) * u64::from(left);
-    if times == 0 || left > 4_000_000 || right > 4_000_000 || most > 20_000_000 {
+    let Case(_, left, right, repeats, comparison) = case;
+    let most = u64::from(repeats) * u64::from(left);
+    if repeats == 0 || left > 4_000_000 || right > 4_000_000 || most > 20_000_000 {
         return Err(io::Error::from(io::ErrorKind::InvalidInput));
     }
-    fastest_of(rt, alloc, Sizes { left, right, times }, values, rounds)
+    fastest_of(
+        rt,
+        alloc,
+        Sizes {
+            left,
+            right,
+            repeats,
+        },
+        comparison,
+        rounds,
+    )
 }
 
 fn show(rt: &HostRuntime, case: Case<'_>, rounds: u32) -> io::Result<()> {

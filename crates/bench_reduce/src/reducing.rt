@@ -1,7 +1,6 @@
 //! The reduction that is measured.
-ghost use Rattle.std.specs.Prelude.{◌≡◌, ◌<◌, IfOk, OnOk};
+ghost use Rattle.std.specs.Prelude.{◌<◌};
 ghost use Rattle.sql_meaning.specs.Databases.{IsDatabaseOf};
-ghost use Rattle.join_steps.specs.Lists.{scan_of, list_at, lists_of};
 
 use crate::failed::Failed;
 use base_io::NoMemory;

@@ -8,7 +8,7 @@ use base_io::{NoMemory, Seq};
 use std::alloc::Global;
 use std::marker::Model;
 
-/// Equalities, with the classes of columns that they make. Contracts see only the equalities.
+/// Equalities, with the classes of columns that they make. In contracts it stands for the equalities alone.
 #[derive(Drop)]
 pub struct ColumnClasses {
     edges: Seq<Edge>,

@@ -30,7 +30,7 @@ list_descends lists entry column None e h = absurd (cc h)
 list_descends lists entry column (Some list) e h = (lists.sums entry column list e).0
 
 pub has_list : (lists : EntryLists) (entry column : ℕ) → IsSome (list_of lists entry column) → HasList (bounds_of lists) entry column
-has_list lists entry column h = record { falls = list_descends lists entry column (list_of lists entry column) refl h; total = list_total lists entry column h }
+has_list lists entry column h = record { descends = list_descends lists entry column (list_of lists entry column) refl h; total = list_total lists entry column h }
 
 has_lists : (lists : EntryLists) (t : BergeTree) → TreeHasBounds lists t → TreeHasLists (bounds_of lists) t
 has_lists lists t listed =

@@ -49,11 +49,11 @@ rows_after old new lists entry n are none (inr up) e c list h = ((are e c list h
 
 pub lists_after : (rows : MapOf ℕ ℕ) (old new : MapOf (ℕ × ℕ) (List ℕ)) (entry column : ℕ) (list : List ℕ) → AreListsOf rows old → IsDescending list → row_bound_in rows entry ≡ Some (sum list)
     → PutOrFailed same_pair old new (entry, column) list → AreListsOf rows new
-lists_after rows old new entry column list are falls total (inl same) e c other h = are e c other (sym (same (e, c)) ∙ h)
-lists_after rows old new entry column list are falls total (inr up) e c other h =
+lists_after rows old new entry column list are descends total (inl same) e c other h = are e c other (sym (same (e, c)) ∙ h)
+lists_after rows old new entry column list are descends total (inr up) e c other h =
     elim (at_key (same_pair (entry, column) (e, c)) list (list_in old e c) other (sym (up (e, c)) ∙ h)) [
       | inl now ↦ (
-        subst IsDescending now.1 falls,
+        subst IsDescending now.1 descends,
         ap (row_bound_in rows) (sym (same_pair_is_equal (entry, column) (e, c) now.0).0) ∙ total ∙ ap (λ (s : List ℕ). Some (sum s)) now.1,
       )
       | inr was ↦ are e c other was.1

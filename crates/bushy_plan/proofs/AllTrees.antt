@@ -8,7 +8,7 @@ use Rattle.std.proofs.lemmas.Nat.Bits.{bit_at-lt, bit_at-pow_other, bit_at_above
 use Rattle.entry_sets.proofs.Bits.{bit_without_other, bit_without_same, power_within, power_of_next}
 use Rattle.order_search.proofs.Tested.{both_true}
 use Rattle.bushy_plan.specs.BestTree.{full_set}
-use Rattle.bushy_plan.specs.PlanTrees.{IsFirstEntry, IsSplit, IsTreeOver, PlanTree, leaf, node, leaf_set}
+use Rattle.bushy_plan.specs.PlanTrees.{IsFirstEntry, IsSplit, IsTreeOver, PlanTree, leaf, node, leaf_bits}
 use Rattle.bushy_plan.proofs.LeftDeep.{tree_first}
 use Rattle.bushy_plan.proofs.Splitting.{no_split_of_one, same_power, split_sum, tree_set}
 
@@ -95,16 +95,16 @@ split_without_left set left right last fits split has more = record {
     in_set = omega (arith, split.apart last, bit_at-lt set last)
 
 -- if the left side of a split has the last entry, it has another entry too, the first entry of the set
-left_has_more : (set last : ℕ) (left right : PlanTree) → set < 2 ^ suc last → IsTreeOver set (node left right) → bit_at (leaf_set left) last ≡ 1 → 0 < leaf_set left - 2 ^ last
-left_has_more set last left right fits is_tree has = elim (cases_lt (2 ^ last) (leaf_set left)) [
+left_has_more : (set last : ℕ) (left right : PlanTree) → set < 2 ^ suc last → IsTreeOver set (node left right) → bit_at (leaf_bits left) last ≡ 1 → 0 < leaf_bits left - 2 ^ last
+left_has_more set last left right fits is_tree has = elim (cases_lt (2 ^ last) (leaf_bits left)) [
   | inl more ↦ omega arith
-  | inr within ↦ (let alone : leaf_set left ≡ 2 ^ last = omega (arith, power_within last (leaf_set left) has) in
+  | inr within ↦ (let alone : leaf_bits left ≡ 2 ^ last = omega (arith, power_within last (leaf_bits left) has) in
       let of_set : (first : ℕ) × IsFirstEntry set first = tree_first set (node left right) is_tree in
-      let of_right : (first : ℕ) × IsFirstEntry (leaf_set right) first = tree_first (leaf_set right) right is_tree.2 in
+      let of_right : (first : ℕ) × IsFirstEntry (leaf_bits right) first = tree_first (leaf_bits right) right is_tree.2 in
       let is_last : of_set.0 ≡ last = only_bit of_set.0 alone (is_tree.0.first_left of_set.0 of_set.1) in
       let in_set : bit_at set of_right.0 ≡ 1 = omega (arith, is_tree.0.apart of_right.0, of_right.1.is_in, bit_at-lt set of_right.0) in
       elim (cases_order of_right.0 last) [
-        | inl same ↦ absurd (omega (arith, is_tree.0.apart last, has, ap (bit_at (leaf_set right)) same, of_right.1.is_in, bit_at-lt set last))
+        | inl same ↦ absurd (omega (arith, is_tree.0.apart last, has, ap (bit_at (leaf_bits right)) same, of_right.1.is_in, bit_at-lt set last))
         | inr apart ↦ elim apart [
           | inl below ↦ absurd (omega (arith, of_set.1.none_before of_right.0 (omega (arith, is_last)), in_set))
           | inr above ↦ absurd (omega (arith, bit_at_above set (suc last) of_right.0 fits (omega arith), in_set))
@@ -112,7 +112,7 @@ left_has_more set last left right fits is_tree has = elim (cases_lt (2 ^ last) (
       ])
 ]
   where
-    only_bit : (first : ℕ) → leaf_set left ≡ 2 ^ last → bit_at (leaf_set left) first ≡ 1 → first ≡ last
+    only_bit : (first : ℕ) → leaf_bits left ≡ 2 ^ last → bit_at (leaf_bits left) first ≡ 1 → first ≡ last
     only_bit first alone is = elim (cases_eq first last) [
       | inl same ↦ same
       | inr apart ↦ absurd (omega (arith, bit_at-pow_other last first apart, ap (λ k. bit_at k first) alone, is))
@@ -154,20 +154,20 @@ tested_with last test (node left right) tree is_with h = elim is_with [
 
 pub only_last : (last : ℕ) (tree : PlanTree) → IsTreeOver (2 ^ last) tree → tree ≡ leaf last
 only_last last (leaf entry) is_tree = ap leaf (sym (same_power last entry is_tree))
-only_last last (node left right) is_tree = absurd (no_split_of_one last (leaf_set left) (leaf_set right) is_tree.0)
+only_last last (node left right) is_tree = absurd (no_split_of_one last (leaf_bits left) (leaf_bits right) is_tree.0)
 
 remove_last : (set last : ℕ) (tree : PlanTree) → set < 2 ^ suc last → bit_at set last ≡ 1 → 0 < set - 2 ^ last → IsTreeOver set tree → TreeWithoutLast set last tree
 remove_last set last (leaf entry) fits has more is_tree = elim (cases_eq last entry) [
   | inl same ↦ absurd (omega (arith, is_tree, ap (λ k. 2 ^ k) same))
   | inr apart ↦ absurd (omega (arith, bit_at-pow_other entry last apart, ap (λ k. bit_at k last) is_tree, has))
 ]
-remove_last set last (node left right) fits has more is_tree = elim (cases_eq (bit_at (leaf_set right) last) 1) [
-  | inr out ↦ (let in_left : bit_at (leaf_set left) last ≡ 1 = omega (arith, is_tree.0.apart last, bit_at-lt (leaf_set right) last, bit_at-lt (leaf_set left) last) in
-      let some : 0 < leaf_set left - 2 ^ last = left_has_more set last left right fits is_tree in_left in
-      in_the_left in_left some (remove_last (leaf_set left) last left (omega (arith, whole)) in_left some is_tree.1))
-  | inl in_right ↦ elim (cases_lt (2 ^ last) (leaf_set right)) [
-    | inl some ↦ in_the_right in_right (omega arith) (remove_last (leaf_set right) last right (omega (arith, whole)) in_right (omega arith) is_tree.2)
-    | inr within ↦ (let alone : leaf_set right ≡ 2 ^ last = omega (arith, power_within last (leaf_set right) in_right) in
+remove_last set last (node left right) fits has more is_tree = elim (cases_eq (bit_at (leaf_bits right) last) 1) [
+  | inr out ↦ (let in_left : bit_at (leaf_bits left) last ≡ 1 = omega (arith, is_tree.0.apart last, bit_at-lt (leaf_bits right) last, bit_at-lt (leaf_bits left) last) in
+      let some : 0 < leaf_bits left - 2 ^ last = left_has_more set last left right fits is_tree in_left in
+      in_the_left in_left some (remove_last (leaf_bits left) last left (omega (arith, whole)) in_left some is_tree.1))
+  | inl in_right ↦ elim (cases_lt (2 ^ last) (leaf_bits right)) [
+    | inl some ↦ in_the_right in_right (omega arith) (remove_last (leaf_bits right) last right (omega (arith, whole)) in_right (omega arith) is_tree.2)
+    | inr within ↦ (let alone : leaf_bits right ≡ 2 ^ last = omega (arith, power_within last (leaf_bits right) in_right) in
         record {
           rest = left;
           is_tree = subst (λ (k : ℕ). IsTreeOver k left) (omega (arith, whole, alone)) is_tree.1;
@@ -176,29 +176,29 @@ remove_last set last (node left right) fits has more is_tree = elim (cases_eq (b
   ]
 ]
   where
-    whole : leaf_set left + leaf_set right ≡ set
-    whole = split_sum set (leaf_set left) (leaf_set right) is_tree.0
+    whole : leaf_bits left + leaf_bits right ≡ set
+    whole = split_sum set (leaf_bits left) (leaf_bits right) is_tree.0
 
-    in_the_left : bit_at (leaf_set left) last ≡ 1 → 0 < leaf_set left - 2 ^ last → TreeWithoutLast (leaf_set left) last left → TreeWithoutLast set last (node left right)
+    in_the_left : bit_at (leaf_bits left) last ≡ 1 → 0 < leaf_bits left - 2 ^ last → TreeWithoutLast (leaf_bits left) last left → TreeWithoutLast set last (node left right)
     in_the_left in_left some rest =
-        let rest_set : leaf_set rest.rest ≡ leaf_set left - 2 ^ last = tree_set (leaf_set left - 2 ^ last) rest.rest rest.is_tree in
+        let rest_set : leaf_bits rest.rest ≡ leaf_bits left - 2 ^ last = tree_set (leaf_bits left - 2 ^ last) rest.rest rest.is_tree in
         record {
           rest = node rest.rest right;
           is_tree = (
-            subst (λ (k : ℕ). IsSplit (set - 2 ^ last) k (leaf_set right)) (sym rest_set) (split_without_left set (leaf_set left) (leaf_set right) last fits is_tree.0 in_left some),
+            subst (λ (k : ℕ). IsSplit (set - 2 ^ last) k (leaf_bits right)) (sym rest_set) (split_without_left set (leaf_bits left) (leaf_bits right) last fits is_tree.0 in_left some),
             subst (λ (k : ℕ). IsTreeOver k rest.rest) (sym rest_set) rest.is_tree,
             is_tree.2,
           );
           is_with = inr (inl (left, rest.is_with, refl));
         }
 
-    in_the_right : bit_at (leaf_set right) last ≡ 1 → 0 < leaf_set right - 2 ^ last → TreeWithoutLast (leaf_set right) last right → TreeWithoutLast set last (node left right)
+    in_the_right : bit_at (leaf_bits right) last ≡ 1 → 0 < leaf_bits right - 2 ^ last → TreeWithoutLast (leaf_bits right) last right → TreeWithoutLast set last (node left right)
     in_the_right in_right some rest =
-        let rest_set : leaf_set rest.rest ≡ leaf_set right - 2 ^ last = tree_set (leaf_set right - 2 ^ last) rest.rest rest.is_tree in
+        let rest_set : leaf_bits rest.rest ≡ leaf_bits right - 2 ^ last = tree_set (leaf_bits right - 2 ^ last) rest.rest rest.is_tree in
         record {
           rest = node left rest.rest;
           is_tree = (
-            subst (λ (k : ℕ). IsSplit (set - 2 ^ last) (leaf_set left) k) (sym rest_set) (split_without_right set (leaf_set left) (leaf_set right) last fits is_tree.0 in_right some),
+            subst (λ (k : ℕ). IsSplit (set - 2 ^ last) (leaf_bits left) k) (sym rest_set) (split_without_right set (leaf_bits left) (leaf_bits right) last fits is_tree.0 in_right some),
             is_tree.1,
             subst (λ (k : ℕ). IsTreeOver k rest.rest) (sym rest_set) rest.is_tree,
           );

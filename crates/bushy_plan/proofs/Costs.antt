@@ -6,7 +6,7 @@ use Rattle.std.proofs.lemmas.Nat.Bits.{bit_at_ones}
 use Rattle.entry_sets.proofs.Bits.{power_of_next}
 use Rattle.bushy_plan.specs.declared.weight.Weighing.TheVariants as weight
 use Rattle.bushy_plan.specs.BestTree.{full_set, cost, inner_greatest, inner_sum, total}
-use Rattle.bushy_plan.specs.PlanTrees.{IsFirstEntry, IsTreeOver, PlanTree, leaf, node, leaf_set, inner_count}
+use Rattle.bushy_plan.specs.PlanTrees.{IsFirstEntry, IsTreeOver, PlanTree, leaf, node, leaf_bits, inner_count}
 use Rattle.bushy_plan.specs.Splits.{weight_of}
 use Rattle.bushy_plan.proofs.Lightest.{combined-beyond, combined-within}
 use Rattle.bushy_plan.proofs.Splitting.{no_leaf}
@@ -19,7 +19,7 @@ pub weighs_sum : (most : ℕ) (bounds : List ℕ) (tree : PlanTree) → inner_gr
     → weight_of (weight.SumIfBoundsAtMost most) bounds tree ≡ min (inner_sum bounds tree) (2 ^ 128 - 1)
 weighs_sum most bounds (leaf entry) low = refl
 weighs_sum most bounds (node left right) low =
-    let bound : ℕ = get_or bounds (leaf_set left + leaf_set right) 0 in
+    let bound : ℕ = get_or bounds (leaf_bits left + leaf_bits right) 0 in
     omega (
       arith,
       combined-within most bound (weight_of (weight.SumIfBoundsAtMost most) bounds left) (weight_of (weight.SumIfBoundsAtMost most) bounds right) (omega arith),
@@ -30,7 +30,7 @@ weighs_sum most bounds (node left right) low =
 pub weighs_most : (most : ℕ) (bounds : List ℕ) (tree : PlanTree) → most < inner_greatest bounds tree → weight_of (weight.SumIfBoundsAtMost most) bounds tree ≡ 2 ^ 128 - 1
 weighs_most most bounds (leaf entry) high = absurd (omega arith)
 weighs_most most bounds (node left right) high =
-    let bound : ℕ = get_or bounds (leaf_set left + leaf_set right) 0 in
+    let bound : ℕ = get_or bounds (leaf_bits left + leaf_bits right) 0 in
     elim (cases_lt most bound) [
       | inl beyond ↦ combined-beyond most bound (weight_of (weight.SumIfBoundsAtMost most) bounds left) (weight_of (weight.SumIfBoundsAtMost most) bounds right) beyond
       | inr within ↦ elim (cases_lt most (inner_greatest bounds left)) [

@@ -9,7 +9,7 @@ use Rattle.plans.specs.declared.bushy.Join.{Join}
 use Rattle.bushy_plan.specs.declared.weight.Weighing.{Weighing}
 use Rattle.bushy_plan.specs.declared.weight.Weighing.TheVariants as weight
 use Rattle.bushy_plan.specs.BestTree.{AreOfBest, IsTreeBefore, IsBest, IsLeastCost, full_set, cost, inner_greatest, inner_sum, total}
-use Rattle.bushy_plan.specs.PlanTrees.{IsFirstEntry, IsSplit, IsTreeOver, PlanTree, leaf, node, leaf_set, inner_count, joins_from, root_number}
+use Rattle.bushy_plan.specs.PlanTrees.{IsFirstEntry, IsSplit, IsTreeOver, PlanTree, leaf, node, leaf_bits, inner_count, joins_from, root_number}
 use Rattle.bushy_plan.specs.Splits.{IsWithoutFirst, IsFirstLightest, IsLeastWeight, AppendsFirstLightest, HasLeastWeights, weight_of}
 use Rattle.bushy_plan.proofs.Costs.{cost_inside, greatest_at_most_cost, sum_at_most, total_inside, weighs_greatest, weighs_most, weighs_sum}
 use Rattle.bushy_plan.proofs.Lightest.{right_in_table}
@@ -29,7 +29,7 @@ read_node w bounds next set right_set old middle all new left_root right_root nu
     omega (arith, left_count, ap length left.joins, length-append {A = Join} old (joins_from bounds (next + length old) left.tree)) in
     let all_count : next + length all ≡ next + length old + inner_count left.tree + inner_count right.tree =
     omega (arith, middle_count, ap length right.joins, length-append {A = Join} middle (joins_from bounds (next + length middle) right.tree), length-joins_from bounds (next + length middle) right.tree) in
-    let whole : set ≡ leaf_set left.tree + leaf_set right.tree = sym (tree_set set (node left.tree right.tree) is_first.is_tree) in
+    let whole : set ≡ leaf_bits left.tree + leaf_bits right.tree = sym (tree_set set (node left.tree right.tree) is_first.is_tree) in
     let right_joins : all ≡ middle ++ joins_from bounds (next + length old + inner_count left.tree) right.tree =
     right.joins ∙ ap (λ k. middle ++ joins_from bounds k right.tree) middle_count in
     let right_number : right_root ≡ root_number (next + length old + inner_count left.tree) right.tree = right.number ∙ ap (λ k. root_number k right.tree) middle_count in
@@ -140,15 +140,15 @@ best_if_one_entry bounds tree is_tree = record {
   where
     cost_is : (t : PlanTree) → IsTreeOver 1 t → cost bounds t ≡ get_or bounds 1 0
     cost_is (leaf entry) over = ap (λ k. get_or bounds k 0) (sym over)
-    cost_is (node left right) over = absurd (no_split_of_one 0 (leaf_set left) (leaf_set right) over.0)
+    cost_is (node left right) over = absurd (no_split_of_one 0 (leaf_bits left) (leaf_bits right) over.0)
 
     total_is : (t : PlanTree) → IsTreeOver 1 t → total bounds t ≡ get_or bounds 1 0
     total_is (leaf entry) over = ap (λ k. get_or bounds k 0) (sym over)
-    total_is (node left right) over = absurd (no_split_of_one 0 (leaf_set left) (leaf_set right) over.0)
+    total_is (node left right) over = absurd (no_split_of_one 0 (leaf_bits left) (leaf_bits right) over.0)
 
     not_before : (other : PlanTree) → IsTreeOver 1 other → ¬ IsTreeBefore other tree
     not_before (leaf entry) over before = before
-    not_before (node left right) over before = absurd (no_split_of_one 0 (leaf_set left) (leaf_set right) over.0)
+    not_before (node left right) over before = absurd (no_split_of_one 0 (leaf_bits left) (leaf_bits right) over.0)
 
 best_if_more_entries : (bounds : List ℕ) (n least : ℕ) (tree : PlanTree) → 1 < n → n ≤ greatest_entries → least ≤ 2 ^ 59 → IsLeastCost bounds n least
     → IsFirstLightest (weight.SumIfBoundsAtMost least) bounds (full_set n) tree → IsBest bounds n tree × (cost bounds tree ≡ least)
@@ -212,4 +212,4 @@ least_cost_alone bounds = record {
   where
     at : (other : PlanTree) → IsTreeOver 1 other → get_or bounds 1 0 ≤ cost bounds other
     at (leaf entry) is_tree = omega (arith, ap (λ k. get_or bounds k 0) is_tree)
-    at (node left right) is_tree = absurd (no_split_of_one 0 (leaf_set left) (leaf_set right) is_tree.0)
+    at (node left right) is_tree = absurd (no_split_of_one 0 (leaf_bits left) (leaf_bits right) is_tree.0)

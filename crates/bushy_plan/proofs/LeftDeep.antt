@@ -12,7 +12,7 @@ use Rattle.order_search.proofs.Prefixes.{cost_is, levels_after}
 use Rattle.order_search.proofs.WholeWays.{way_from_order}
 use Rattle.plans.specs.LeftDeep.{IsOrder}
 use Rattle.bushy_plan.specs.BestTree.{full_set, cost, inner_greatest}
-use Rattle.bushy_plan.specs.PlanTrees.{IsFirstEntry, IsSplit, IsTreeOver, PlanTree, leaf, node, leaf_set}
+use Rattle.bushy_plan.specs.PlanTrees.{IsFirstEntry, IsSplit, IsTreeOver, PlanTree, leaf, node, leaf_bits}
 use Rattle.bushy_plan.proofs.Splitting.{first_of_power, one_first, some_entries, tree_set}
 
 pub bit_with : (set x entry : ℕ) → bit_at set x ≡ 0 → bit_at (set + 2 ^ x) entry ≡ bit_at set entry + bit_at (2 ^ x) entry
@@ -33,13 +33,13 @@ first_of_both set left right a b apart first_a first_b h = record {
 pub tree_first : (set : ℕ) (tree : PlanTree) → IsTreeOver set tree → (first : ℕ) × IsFirstEntry set first
 tree_first set (leaf entry) is_tree = (entry, subst (λ (k : ℕ). IsFirstEntry k entry) (sym is_tree) (first_of_power entry))
 tree_first set (node left right) is_tree =
-    let a : (first : ℕ) × IsFirstEntry (leaf_set left) first = tree_first (leaf_set left) left is_tree.1 in
-    let b : (first : ℕ) × IsFirstEntry (leaf_set right) first = tree_first (leaf_set right) right is_tree.2 in
+    let a : (first : ℕ) × IsFirstEntry (leaf_bits left) first = tree_first (leaf_bits left) left is_tree.1 in
+    let b : (first : ℕ) × IsFirstEntry (leaf_bits right) first = tree_first (leaf_bits right) right is_tree.2 in
     elim (cases_order a.0 b.0) [
-      | inl same ↦ absurd (omega (arith, is_tree.0.apart a.0, a.1.is_in, b.1.is_in, ap (bit_at (leaf_set right)) same, bit_at-lt set a.0))
+      | inl same ↦ absurd (omega (arith, is_tree.0.apart a.0, a.1.is_in, b.1.is_in, ap (bit_at (leaf_bits right)) same, bit_at-lt set a.0))
       | inr apart ↦ elim apart [
-        | inl below ↦ (a.0, first_of_both set (leaf_set left) (leaf_set right) a.0 b.0 is_tree.0.apart a.1 b.1 below)
-        | inr above ↦ (b.0, first_of_both set (leaf_set right) (leaf_set left) b.0 a.0 (λ entry. omega (arith, is_tree.0.apart entry)) b.1 a.1 above)
+        | inl below ↦ (a.0, first_of_both set (leaf_bits left) (leaf_bits right) a.0 b.0 is_tree.0.apart a.1 b.1 below)
+        | inr above ↦ (b.0, first_of_both set (leaf_bits right) (leaf_bits left) b.0 a.0 (λ entry. omega (arith, is_tree.0.apart entry)) b.1 a.1 above)
       ]
     ]
 
@@ -92,16 +92,16 @@ tree_with_entry bounds placed x tree is_tree out = elim (cases_order first.0 x) 
     first : (first : ℕ) × IsFirstEntry placed first
     first = tree_first placed tree is_tree
 
-    set_is : leaf_set tree ≡ placed
+    set_is : leaf_bits tree ≡ placed
     set_is = tree_set placed tree is_tree
 
     some : 0 < placed
     some = omega (arith, some_entries tree, set_is)
 
-    itself : IsTreeOver (leaf_set tree) tree
+    itself : IsTreeOver (leaf_bits tree) tree
     itself = subst (λ (k : ℕ). IsTreeOver k tree) (sym set_is) is_tree
 
-    turned : 2 ^ x + leaf_set tree ≡ placed + 2 ^ x
+    turned : 2 ^ x + leaf_bits tree ≡ placed + 2 ^ x
     turned = omega (arith, set_is)
 
 record TreeWithinCost (bounds : List ℕ) (set most : ℕ) : Type 0 where

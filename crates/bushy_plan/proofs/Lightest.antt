@@ -4,7 +4,7 @@ use Rattle.std.specs.Prelude.{◌⊎◌, bit_and}
 use Rattle.std.proofs.lemmas.Bool.{cases_lt, cases_order, le-leb, lt-leb}
 use Rattle.bushy_plan.specs.declared.weight.Weighing.{Weighing}
 use Rattle.bushy_plan.specs.declared.weight.Weighing.TheVariants as weight
-use Rattle.bushy_plan.specs.PlanTrees.{IsFirstEntry, IsSplit, IsTreeOver, PlanTree, leaf, node, leaf_set}
+use Rattle.bushy_plan.specs.PlanTrees.{IsFirstEntry, IsSplit, IsTreeOver, PlanTree, leaf, node, leaf_bits}
 use Rattle.bushy_plan.specs.Splits.{IsLeastWeight, HasLeastWeights, combined, weight_of, weight_through}
 use Rattle.bushy_plan.proofs.Parts.{IsPart, is_part_of_itself, common_part, none_between, part_le}
 use Rattle.bushy_plan.proofs.Splitting.{no_leaf, only_leaf, part_of_split, some_entries, split_of_part, split_right_le, tree_set}
@@ -72,13 +72,13 @@ pub record TreeWithRightSet (w : Weighing) (bounds table : List ℕ) (set right 
 pub tree_through : (w : Weighing) (bounds table : List ℕ) (set right : ℕ) → IsSplit set (set - right) right
     → IsLeastWeight w bounds (set - right) (get_or table (set - right) 0) → IsLeastWeight w bounds right (get_or table right 0) → TreeWithRightSet w bounds table set right
 tree_through w bounds table set right split left_side right_side =
-    let left_set : leaf_set left_side.tree ≡ set - right = tree_set (set - right) left_side.tree left_side.is_tree in
-    let right_set : leaf_set right_side.tree ≡ right = tree_set right right_side.tree right_side.is_tree in
-    let whole : leaf_set left_side.tree + leaf_set right_side.tree ≡ set = omega (arith, left_set, right_set, split_right_le set (set - right) right split) in
+    let left_set : leaf_bits left_side.tree ≡ set - right = tree_set (set - right) left_side.tree left_side.is_tree in
+    let right_set : leaf_bits right_side.tree ≡ right = tree_set right right_side.tree right_side.is_tree in
+    let whole : leaf_bits left_side.tree + leaf_bits right_side.tree ≡ set = omega (arith, left_set, right_set, split_right_le set (set - right) right split) in
     record {
       tree = node left_side.tree right_side.tree;
       is_tree = (
-        subst (λ (k : ℕ). IsSplit set k (leaf_set right_side.tree)) (sym left_set) (subst (λ (k : ℕ). IsSplit set (set - right) k) (sym right_set) split),
+        subst (λ (k : ℕ). IsSplit set k (leaf_bits right_side.tree)) (sym left_set) (subst (λ (k : ℕ). IsSplit set (set - right) k) (sym right_set) split),
         subst (λ (k : ℕ). IsTreeOver k left_side.tree) (sym left_set) left_side.is_tree,
         subst (λ (k : ℕ). IsTreeOver k right_side.tree) (sym right_set) right_side.is_tree,
       );
@@ -88,17 +88,17 @@ tree_through w bounds table set right split left_side right_side =
     }
 
 pub through_is_least : (w : Weighing) (bounds table : List ℕ) (set end : ℕ) (left right : PlanTree) → set ≤ end → HasLeastWeights w bounds table end → IsTreeOver set (node left right)
-    → weight_through w bounds table set (leaf_set right) ≤ weight_of w bounds (node left right)
+    → weight_through w bounds table set (leaf_bits right) ≤ weight_of w bounds (node left right)
 through_is_least w bounds table set end left right h is_table is_tree =
-    let whole : leaf_set left + leaf_set right ≡ set = tree_set set (node left right) is_tree in
-    let left_set : set - leaf_set right ≡ leaf_set left = omega arith in
-    let left_least : get_or table (leaf_set left) 0 ≤ weight_of w bounds left =
-    (is_table (leaf_set left) (some_entries left) (omega (arith, some_entries right))).none_lighter left is_tree.1 in
-    let right_least : get_or table (leaf_set right) 0 ≤ weight_of w bounds right =
-    (is_table (leaf_set right) (some_entries right) (omega (arith, some_entries left))).none_lighter right is_tree.2 in
+    let whole : leaf_bits left + leaf_bits right ≡ set = tree_set set (node left right) is_tree in
+    let left_set : set - leaf_bits right ≡ leaf_bits left = omega arith in
+    let left_least : get_or table (leaf_bits left) 0 ≤ weight_of w bounds left =
+    (is_table (leaf_bits left) (some_entries left) (omega (arith, some_entries right))).none_lighter left is_tree.1 in
+    let right_least : get_or table (leaf_bits right) 0 ≤ weight_of w bounds right =
+    (is_table (leaf_bits right) (some_entries right) (omega (arith, some_entries left))).none_lighter right is_tree.2 in
     omega (
       arith,
-      combined-mono w (get_or bounds set 0) (get_or table (set - leaf_set right) 0) (get_or table (leaf_set right) 0) (weight_of w bounds left) (weight_of w bounds right)
+      combined-mono w (get_or bounds set 0) (get_or table (set - leaf_bits right) 0) (get_or table (leaf_bits right) 0) (weight_of w bounds left) (weight_of w bounds right)
           (omega (arith, left_least, ap (λ k. get_or table k 0) left_set)) right_least,
       ap (λ k. combined w (get_or bounds k 0) (weight_of w bounds left) (weight_of w bounds right)) whole,
     )
@@ -127,7 +127,7 @@ least_of_tried w bounds table set first least is_first more is_table tried = eli
     none_lighter (node left right) is_tree =
         omega (
           arith,
-          (tried.above (leaf_set right) (part_of_split set first (leaf_set left) (leaf_set right) is_first is_tree.0) (some_entries right)).0,
+          (tried.above (leaf_bits right) (part_of_split set first (leaf_bits left) (leaf_bits right) is_first is_tree.0) (some_entries right)).0,
           through_is_least w bounds table set set left right (omega arith) is_table is_tree,
         )
 

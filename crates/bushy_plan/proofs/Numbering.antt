@@ -14,7 +14,7 @@ use Rattle.order_search.proofs.Bits.{size_below, size-none, size-whole, size-wit
 use Rattle.plans.specs.TreePlans.{HaveHigherNumbers, joined_nodes}
 use Rattle.plans.specs.declared.bushy.Join.{Join}
 use Rattle.bushy_plan.specs.BestTree.{full_set, inner_greatest}
-use Rattle.bushy_plan.specs.PlanTrees.{IsSplit, IsTreeOver, PlanTree, leaf, node, leaf_set, inner_count, joins_from, root_number}
+use Rattle.bushy_plan.specs.PlanTrees.{IsSplit, IsTreeOver, PlanTree, leaf, node, leaf_bits, inner_count, joins_from, root_number}
 use Rattle.bushy_plan.proofs.Splitting.{split_sum}
 
 -- ---- the number of joins
@@ -27,7 +27,7 @@ length-joins_from bounds next (node left right) =
       length-append {A = Join} (joins_from bounds next left ++ joins_from bounds (next + inner_count left) right) (record {
         left = root_number next left;
         right = root_number (next + inner_count left) right;
-        bound = get_or bounds (leaf_set left + leaf_set right) 0;
+        bound = get_or bounds (leaf_bits left + leaf_bits right) 0;
       } ∷ []),
       length-append {A = Join} (joins_from bounds next left) (joins_from bounds (next + inner_count left) right),
       length-joins_from bounds next left,
@@ -48,12 +48,12 @@ inner_count_by_size n set (leaf entry) fits is_tree =
     let below : entry < n = entry_below n (2 ^ entry) entry (omega arith) (bit_at-pow_same entry) in
     omega (arith, size-one n entry below, ap (size_below n) is_tree)
 inner_count_by_size n set (node left right) fits is_tree =
-    let whole : leaf_set left + leaf_set right ≡ set = split_sum set (leaf_set left) (leaf_set right) is_tree.0 in
+    let whole : leaf_bits left + leaf_bits right ≡ set = split_sum set (leaf_bits left) (leaf_bits right) is_tree.0 in
     omega (
       arith,
-      size-split n set (leaf_set left) (leaf_set right) is_tree.0,
-      inner_count_by_size n (leaf_set left) left (omega arith) is_tree.1,
-      inner_count_by_size n (leaf_set right) right (omega arith) is_tree.2,
+      size-split n set (leaf_bits left) (leaf_bits right) is_tree.0,
+      inner_count_by_size n (leaf_bits left) left (omega arith) is_tree.1,
+      inner_count_by_size n (leaf_bits right) right (omega arith) is_tree.2,
     )
 
 pub count_of_all : (n : ℕ) (tree : PlanTree) → IsTreeOver (full_set n) tree → inner_count tree + 1 ≡ n
@@ -74,15 +74,15 @@ root_below n set next (node left right) fits h is_tree = omega arith
 pub have_higher_numbers : (bounds : List ℕ) (n set next : ℕ) (tree : PlanTree) → set < 2 ^ n → n ≤ next → IsTreeOver set tree → HaveHigherNumbers next (joins_from bounds next tree)
 have_higher_numbers bounds n set next (leaf entry) fits h is_tree = tt
 have_higher_numbers bounds n set next (node left right) fits h is_tree =
-    let whole : leaf_set left + leaf_set right ≡ set = split_sum set (leaf_set left) (leaf_set right) is_tree.0 in
-    let left_root : root_number next left < next + inner_count left = root_below n (leaf_set left) next left (omega arith) h is_tree.1 in
+    let whole : leaf_bits left + leaf_bits right ≡ set = split_sum set (leaf_bits left) (leaf_bits right) is_tree.0 in
+    let left_root : root_number next left < next + inner_count left = root_below n (leaf_bits left) next left (omega arith) h is_tree.1 in
     let right_root : root_number (next + inner_count left) right < next + inner_count left + inner_count right =
-    root_below n (leaf_set right) (next + inner_count left) right (omega arith) (omega arith) is_tree.2 in
+    root_below n (leaf_bits right) (next + inner_count left) right (omega arith) (omega arith) is_tree.2 in
     higher_numbers-append next (next + inner_count left + inner_count right) (joins_from bounds next left ++ joins_from bounds (next + inner_count left) right) _
     (higher_numbers-append next (next + inner_count left) (joins_from bounds next left) (joins_from bounds (next + inner_count left) right)
-    (have_higher_numbers bounds n (leaf_set left) next left (omega arith) h is_tree.1)
+    (have_higher_numbers bounds n (leaf_bits left) next left (omega arith) h is_tree.1)
     (omega (arith, length-joins_from bounds next left))
-    (have_higher_numbers bounds n (leaf_set right) (next + inner_count left) right (omega arith) (omega arith) is_tree.2))
+    (have_higher_numbers bounds n (leaf_bits right) (next + inner_count left) right (omega arith) (omega arith) is_tree.2))
     (omega (
       arith,
       length-append {A = Join} (joins_from bounds next left) (joins_from bounds (next + inner_count left) right),
@@ -180,8 +180,8 @@ named_with_root bounds set next k (node left right) is_tree =
     omega (
       arith,
       times_in_node bounds next k left right,
-      named_with_root bounds (leaf_set left) next k left is_tree.1,
-      named_with_root bounds (leaf_set right) (next + inner_count left) k right is_tree.2,
+      named_with_root bounds (leaf_bits left) next k left is_tree.1,
+      named_with_root bounds (leaf_bits right) (next + inner_count left) k right is_tree.2,
       is_tree.0.apart k,
       inside_parts next (inner_count left) (inner_count right) k,
     )

@@ -7,25 +7,25 @@ use Rattle.order_search.specs.declared.refusal.PlanError.TheVariants as error
 use Rattle.order_search.proofs.OneBest.{none_refused, one_refusal}
 use Rattle.bushy_plan.specs.BestTree.{IsTreeBefore, IsBest, IsLeastCost, cost, total}
 use Rattle.bushy_plan.specs.Causes.{IsCause}
-use Rattle.bushy_plan.specs.PlanTrees.{IsSplit, IsTreeOver, PlanTree, leaf, node, leaf_set}
+use Rattle.bushy_plan.specs.PlanTrees.{IsSplit, IsTreeOver, PlanTree, leaf, node, leaf_bits}
 use Rattle.bushy_plan.proofs.Splitting.{no_split_of_one, same_power, tree_set}
 
 trees_are_comparable : (set : ℕ) (a b : PlanTree) → IsTreeOver set a → IsTreeOver set b → (a ≡ b) ⊎ (IsTreeBefore a b ⊎ IsTreeBefore b a)
 trees_are_comparable set (leaf x) (leaf y) p q = inl (ap leaf (same_power x y (sym p ∙ q)))
-trees_are_comparable set (leaf x) (node l r) p q = absurd (no_split_of_one x (leaf_set l) (leaf_set r) (subst (λ (k : ℕ). IsSplit k (leaf_set l) (leaf_set r)) p q.0))
-trees_are_comparable set (node l r) (leaf y) p q = absurd (no_split_of_one y (leaf_set l) (leaf_set r) (subst (λ (k : ℕ). IsSplit k (leaf_set l) (leaf_set r)) q p.0))
-trees_are_comparable set (node l r) (node l' r') p q = elim (cases_order (leaf_set l) (leaf_set l')) [
+trees_are_comparable set (leaf x) (node l r) p q = absurd (no_split_of_one x (leaf_bits l) (leaf_bits r) (subst (λ (k : ℕ). IsSplit k (leaf_bits l) (leaf_bits r)) p q.0))
+trees_are_comparable set (node l r) (leaf y) p q = absurd (no_split_of_one y (leaf_bits l) (leaf_bits r) (subst (λ (k : ℕ). IsSplit k (leaf_bits l) (leaf_bits r)) q p.0))
+trees_are_comparable set (node l r) (node l' r') p q = elim (cases_order (leaf_bits l) (leaf_bits l')) [
   | inr apart ↦ elim apart [
     | inl below ↦ inr (inl (inl below))
     | inr above ↦ inr (inr (inl above))
   ]
-  | inl same ↦ (let right_same : leaf_set r' ≡ leaf_set r = omega (arith, tree_set set (node l r) p, tree_set set (node l' r') q, same) in
-      elim (trees_are_comparable (leaf_set l) l l' p.1 (subst (λ (k : ℕ). IsTreeOver k l') (sym same) q.1)) [
+  | inl same ↦ (let right_same : leaf_bits r' ≡ leaf_bits r = omega (arith, tree_set set (node l r) p, tree_set set (node l' r') q, same) in
+      elim (trees_are_comparable (leaf_bits l) l l' p.1 (subst (λ (k : ℕ). IsTreeOver k l') (sym same) q.1)) [
         | inr left_apart ↦ elim left_apart [
           | inl before ↦ inr (inl (inr (same, inl before)))
           | inr all_but_first ↦ inr (inr (inr (sym same, inl all_but_first)))
         ]
-        | inl left_same ↦ elim (trees_are_comparable (leaf_set r) r r' p.2 (subst (λ (k : ℕ). IsTreeOver k r') right_same q.2)) [
+        | inl left_same ↦ elim (trees_are_comparable (leaf_bits r) r r' p.2 (subst (λ (k : ℕ). IsTreeOver k r') right_same q.2)) [
           | inr right_apart ↦ elim right_apart [
             | inl before ↦ inr (inl (inr (same, inr (left_same, before))))
             | inr all_but_first ↦ inr (inr (inr (sym same, inr (sym left_same, all_but_first))))

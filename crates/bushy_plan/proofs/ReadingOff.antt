@@ -8,7 +8,7 @@ use Rattle.entry_sets.proofs.Bits.{power_within}
 use Rattle.bushy_plan.specs.declared.weight.Weighing.{Weighing}
 use Rattle.bushy_plan.specs.declared.weight.Weighing.TheVariants as weight
 use Rattle.bushy_plan.specs.BestTree.{IsTreeBefore}
-use Rattle.bushy_plan.specs.PlanTrees.{IsFirstEntry, IsSplit, IsTreeOver, PlanTree, leaf, node, leaf_set}
+use Rattle.bushy_plan.specs.PlanTrees.{IsFirstEntry, IsSplit, IsTreeOver, PlanTree, leaf, node, leaf_bits}
 use Rattle.bushy_plan.specs.Splits.{IsWithoutFirst, IsFirstLightest, IsFirstLightestSplit, IsLeastWeight, HasLeastWeights, combined, weight_of, weight_through}
 use Rattle.bushy_plan.proofs.Parts.{IsPart, is_part_of_itself, common_part, none_between, part_le}
 use Rattle.bushy_plan.proofs.Splitting.{no_leaf, only_leaf, part_of_split, split_of_part, split_by_right, split_sum, tree_set}
@@ -30,13 +30,13 @@ through_at_least w bounds table set end right h is_table split =
     omega (arith, through.weighs, (is_table set not_empty h).none_lighter through.tree through.is_tree)
 
 through_of_tree : (w : Weighing) (bounds table : List ℕ) (set end : ℕ) (left right : PlanTree) → set < end → HasLeastWeights w bounds table end → IsTreeOver set (node left right)
-    → weight_of w bounds (node left right) ≡ get_or table set 0 → weight_through w bounds table set (leaf_set right) ≡ get_or table set 0
+    → weight_of w bounds (node left right) ≡ get_or table set 0 → weight_through w bounds table set (leaf_bits right) ≡ get_or table set 0
 through_of_tree w bounds table set end left right h is_table is_tree weighs =
     omega (
       arith,
       weighs,
       through_is_least w bounds table set end left right (omega arith) is_table is_tree,
-      through_at_least w bounds table set end (leaf_set right) h is_table (split_by_right set (leaf_set left) (leaf_set right) is_tree.0),
+      through_at_least w bounds table set end (leaf_bits right) h is_table (split_by_right set (leaf_bits left) (leaf_bits right) is_tree.0),
     )
 
 some_lightest_split : (w : Weighing) (bounds table : List ℕ) (set end first : ℕ) → IsFirstEntry set first → 0 < set - 2 ^ first → set < end → HasLeastWeights w bounds table end → LightestSplit w bounds table set
@@ -48,8 +48,8 @@ some_lightest_split w bounds table set end first is_first more h is_table = at l
     at : (tree : PlanTree) → IsTreeOver set tree → weight_of w bounds tree ≡ get_or table set 0 → LightestSplit w bounds table set
     at (leaf entry) is_tree weighs = absurd (no_leaf set first entry is_first more is_tree)
     at (node left right) is_tree weighs = record {
-      right = leaf_set right;
-      is_split = split_by_right set (leaf_set left) (leaf_set right) is_tree.0;
+      right = leaf_bits right;
+      is_split = split_by_right set (leaf_bits left) (leaf_bits right) is_tree.0;
       lightest = through_of_tree w bounds table set end left right h is_table is_tree weighs;
     }
 
@@ -151,9 +151,9 @@ weighs_table w bounds table set end tree not_empty h is_table is_first =
 
 pub node_over : (set right_set : ℕ) (left right : PlanTree) → IsSplit set (set - right_set) right_set → IsTreeOver (set - right_set) left → IsTreeOver right_set right → IsTreeOver set (node left right)
 node_over set right_set left right split left_tree right_tree =
-    let left_is : leaf_set left ≡ set - right_set = tree_set (set - right_set) left left_tree in
-    let right_is : leaf_set right ≡ right_set = tree_set right_set right right_tree in (
-      subst (λ (k : ℕ). IsSplit set k (leaf_set right)) (sym left_is) (subst (λ (k : ℕ). IsSplit set (set - right_set) k) (sym right_is) split),
+    let left_is : leaf_bits left ≡ set - right_set = tree_set (set - right_set) left left_tree in
+    let right_is : leaf_bits right ≡ right_set = tree_set right_set right right_tree in (
+      subst (λ (k : ℕ). IsSplit set k (leaf_bits right)) (sym left_is) (subst (λ (k : ℕ). IsSplit set (set - right_set) k) (sym right_is) split),
       subst (λ (k : ℕ). IsTreeOver k left) (sym left_is) left_tree,
       subst (λ (k : ℕ). IsTreeOver k right) (sym right_is) right_tree,
     )
@@ -177,10 +177,10 @@ first_of_sides most bounds table set end right_set left right h is_table is_ligh
     is_tree : IsTreeOver set (node left right)
     is_tree = node_over set right_set left right split.is_split first_left.is_tree first_right.is_tree
 
-    left_set : leaf_set left ≡ set - right_set
+    left_set : leaf_bits left ≡ set - right_set
     left_set = tree_set (set - right_set) left first_left.is_tree
 
-    right_is : leaf_set right ≡ right_set
+    right_is : leaf_bits right ≡ right_set
     right_is = tree_set right_set right first_right.is_tree
 
     left_weighs : weight_of (weight.SumIfBoundsAtMost most) bounds left ≡ get_or table (set - right_set) 0
@@ -200,12 +200,12 @@ first_of_sides most bounds table set end right_set left right h is_table is_ligh
     sums = light_sides most bounds table set right_set split.lightest is_light
 
     -- the tree that is read off has the sides `left` and `right`, and another tree has `left'` and `right'`. Their sides can be compared
-    sides_weigh : (left' right' : PlanTree) → IsTreeOver set (node left' right') → weight_of (weight.SumIfBoundsAtMost most) bounds (node left' right') ≡ get_or table set 0 → leaf_set left' ≡ set - right_set
+    sides_weigh : (left' right' : PlanTree) → IsTreeOver set (node left' right') → weight_of (weight.SumIfBoundsAtMost most) bounds (node left' right') ≡ get_or table set 0 → leaf_bits left' ≡ set - right_set
         → IsTreeOver (set - right_set) left' × IsTreeOver right_set right'
         × (weight_of (weight.SumIfBoundsAtMost most) bounds left' ≡ weight_of (weight.SumIfBoundsAtMost most) bounds left) × (weight_of (weight.SumIfBoundsAtMost most) bounds right' ≡ weight_of (weight.SumIfBoundsAtMost most) bounds right)
     sides_weigh left' right' other_tree equal left_same =
-        let whole : leaf_set left' + leaf_set right' ≡ set = tree_set set (node left' right') other_tree in
-        let right_same : leaf_set right' ≡ right_set = omega (arith, split.is_split.some_left, split.is_split.some_right, whole, left_same) in
+        let whole : leaf_bits left' + leaf_bits right' ≡ set = tree_set set (node left' right') other_tree in
+        let right_same : leaf_bits right' ≡ right_set = omega (arith, split.is_split.some_left, split.is_split.some_right, whole, left_same) in
         let left_tree : IsTreeOver (set - right_set) left' = subst (λ (k : ℕ). IsTreeOver k left') left_same other_tree.1 in
         let right_tree : IsTreeOver right_set right' = subst (λ (k : ℕ). IsTreeOver k right') right_same other_tree.2 in
         let at_set : combined (weight.SumIfBoundsAtMost most) (get_or bounds set 0) (weight_of (weight.SumIfBoundsAtMost most) bounds left') (weight_of (weight.SumIfBoundsAtMost most) bounds right') ≡ get_or table set 0 =
@@ -223,8 +223,8 @@ first_of_sides most bounds table set end right_set left right h is_table is_ligh
     not_before : (other : PlanTree) → IsTreeOver set other → weight_of (weight.SumIfBoundsAtMost most) bounds other ≡ get_or table set 0 → ¬ IsTreeBefore other (node left right)
     not_before (leaf entry) other_tree equal before = before
     not_before (node left' right') other_tree equal before = elim before [
-      | inl less ↦ split.first (leaf_set right') (split_by_right set (leaf_set left') (leaf_set right') other_tree.0)
-          (omega (arith, split_sum set (leaf_set left') (leaf_set right') other_tree.0, left_set, less))
+      | inl less ↦ split.first (leaf_bits right') (split_by_right set (leaf_bits left') (leaf_bits right') other_tree.0)
+          (omega (arith, split_sum set (leaf_bits left') (leaf_bits right') other_tree.0, left_set, less))
           (through_of_tree (weight.SumIfBoundsAtMost most) bounds table set end left' right' h is_table other_tree equal)
       | inr here ↦ (let sides : IsTreeOver (set - right_set) left' × IsTreeOver right_set right'
           × (weight_of (weight.SumIfBoundsAtMost most) bounds left' ≡ weight_of (weight.SumIfBoundsAtMost most) bounds left) × (weight_of (weight.SumIfBoundsAtMost most) bounds right' ≡ weight_of (weight.SumIfBoundsAtMost most) bounds right) =

@@ -10,7 +10,7 @@ use Rattle.entry_sets.proofs.Bits.{power_of_next}
 use Rattle.order_search.specs.Orders.{IsNotAfter}
 use Rattle.order_search.proofs.NoWorse.{lexical_total, lexical_transitive}
 use Rattle.bushy_plan.specs.BestTree.{IsTreeBefore, IsBest, full_set, cost, total}
-use Rattle.bushy_plan.specs.PlanTrees.{IsFirstEntry, IsSplit, IsTreeOver, PlanTree, leaf, node, leaf_set, inner_count}
+use Rattle.bushy_plan.specs.PlanTrees.{IsFirstEntry, IsSplit, IsTreeOver, PlanTree, leaf, node, leaf_bits, inner_count}
 use Rattle.bushy_plan.proofs.AllTrees.{IsWith, only_last, without_last}
 use Rattle.bushy_plan.proofs.LeftDeep.{bit_with, split_with_first, tree_first}
 use Rattle.bushy_plan.proofs.Numbering.{inner_count_by_size}
@@ -29,7 +29,7 @@ first_below set last first fits is_first = elim (cases_lt first last) [
 
 pub at_root : (set last : ℕ) (tree : PlanTree) → set < 2 ^ last → IsTreeOver set tree → IsTreeOver (set + 2 ^ last) (node tree (leaf last))
 at_root set last tree fits is_tree =
-    let set_is : leaf_set tree ≡ set = tree_set set tree is_tree in
+    let set_is : leaf_bits tree ≡ set = tree_set set tree is_tree in
     let first : (first : ℕ) × IsFirstEntry set first = tree_first set tree is_tree in (
       subst (λ (k : ℕ). IsSplit (set + 2 ^ last) k (2 ^ last)) (sym set_is)
           (split_with_first (set + 2 ^ last) set (2 ^ last) first.0 last (λ entry. sym (bit_with set last entry (no_last set last fits))) (omega (arith, set_is, some_entries tree)) (pow_pos last)
@@ -87,25 +87,25 @@ with_over set last (leaf entry) tree fits is_tree is_with = subst (λ (t : PlanT
 with_over set last (node left right) tree fits is_tree is_with = elim is_with [
   | inl root ↦ subst (λ (t : PlanTree). IsTreeOver (set + 2 ^ last) t) (sym root) (at_root set last (node left right) fits is_tree)
   | inr inner ↦ elim inner [
-    | inl l ↦ (let grown : IsTreeOver (leaf_set left + 2 ^ last) l.0 = with_over (leaf_set left) last left l.0 (omega (arith, whole)) is_tree.1 l.1 in
-        let grown_set : leaf_set l.0 ≡ leaf_set left + 2 ^ last = tree_set (leaf_set left + 2 ^ last) l.0 grown in
+    | inl l ↦ (let grown : IsTreeOver (leaf_bits left + 2 ^ last) l.0 = with_over (leaf_bits left) last left l.0 (omega (arith, whole)) is_tree.1 l.1 in
+        let grown_set : leaf_bits l.0 ≡ leaf_bits left + 2 ^ last = tree_set (leaf_bits left + 2 ^ last) l.0 grown in
         subst (λ (t : PlanTree). IsTreeOver (set + 2 ^ last) t) (sym l.2) (
-          subst (λ (k : ℕ). IsSplit (set + 2 ^ last) k (leaf_set right)) (sym grown_set) (split_left_with set (leaf_set left) (leaf_set right) last first.0 fits (omega (arith, whole)) first.1 is_tree.0),
+          subst (λ (k : ℕ). IsSplit (set + 2 ^ last) k (leaf_bits right)) (sym grown_set) (split_left_with set (leaf_bits left) (leaf_bits right) last first.0 fits (omega (arith, whole)) first.1 is_tree.0),
           subst (λ (k : ℕ). IsTreeOver k l.0) (sym grown_set) grown,
           is_tree.2,
         ))
-    | inr r ↦ (let grown : IsTreeOver (leaf_set right + 2 ^ last) r.0 = with_over (leaf_set right) last right r.0 (omega (arith, whole)) is_tree.2 r.1 in
-        let grown_set : leaf_set r.0 ≡ leaf_set right + 2 ^ last = tree_set (leaf_set right + 2 ^ last) r.0 grown in
+    | inr r ↦ (let grown : IsTreeOver (leaf_bits right + 2 ^ last) r.0 = with_over (leaf_bits right) last right r.0 (omega (arith, whole)) is_tree.2 r.1 in
+        let grown_set : leaf_bits r.0 ≡ leaf_bits right + 2 ^ last = tree_set (leaf_bits right + 2 ^ last) r.0 grown in
         subst (λ (t : PlanTree). IsTreeOver (set + 2 ^ last) t) (sym r.2) (
-          subst (λ (k : ℕ). IsSplit (set + 2 ^ last) (leaf_set left) k) (sym grown_set) (split_right_with set (leaf_set left) (leaf_set right) last first.0 fits (omega (arith, whole)) first.1 is_tree.0),
+          subst (λ (k : ℕ). IsSplit (set + 2 ^ last) (leaf_bits left) k) (sym grown_set) (split_right_with set (leaf_bits left) (leaf_bits right) last first.0 fits (omega (arith, whole)) first.1 is_tree.0),
           is_tree.1,
           subst (λ (k : ℕ). IsTreeOver k r.0) (sym grown_set) grown,
         ))
   ]
 ]
   where
-    whole : leaf_set left + leaf_set right ≡ set
-    whole = split_sum set (leaf_set left) (leaf_set right) is_tree.0
+    whole : leaf_bits left + leaf_bits right ≡ set
+    whole = split_sum set (leaf_bits left) (leaf_bits right) is_tree.0
 
     first : (first : ℕ) × IsFirstEntry set first
     first = tree_first set (node left right) is_tree
@@ -203,11 +203,11 @@ least_of_all R order (suc (suc n)) some =
     least_next R order n
     (least_of_all (λ a b. R (least_with_next R order (suc n) a) (least_with_next R order (suc n) b)) (preorder_of_images R (λ t. least_with_next R order (suc n) t) order) (suc n) (omega arith))
 
--- ---- the order of trees by cost, then by sum, then by the left sets, read from the root down
+-- ---- the order of trees by cost, then by sum, then by the leaf sets of left subtrees, from the root down
 
 abbrev left_sets : PlanTree → List ℕ
 left_sets (leaf entry) = []
-left_sets (node left right) = leaf_set left ∷ (left_sets left ++ left_sets right)
+left_sets (node left right) = leaf_bits left ∷ (left_sets left ++ left_sets right)
 
 abbrev LowerThen : (PlanTree → ℕ) → (PlanTree → PlanTree → Type 0) → PlanTree → PlanTree → Type 0
 LowerThen f Then a b = (f a < f b) ⊎ ((f a ≡ f b) × Then a b)
@@ -265,7 +265,7 @@ not_after_behind (x ∷ a) c d h = elim h [
   | inr here ↦ not_after_behind a c d here.1
 ]
 
--- the tree whose list of left sets is least is the first tree
+-- the tree whose list `left_sets` is least is the first tree
 before_placed : (n set : ℕ) (a b : PlanTree) → set < 2 ^ n → IsTreeOver set a → IsTreeOver set b → IsTreeBefore a b → HasLesserLeftSets b a → ⊥
 before_placed n set (leaf x) b fits p q before h = before
 before_placed n set (node l r) (leaf y) fits p q before h = before
@@ -277,20 +277,20 @@ before_placed n set (node l r) (node l' r') fits p q before h = elim before [
   | inr here ↦ elim h [
     | inl above ↦ omega (arith, here.0, above)
     | inr same ↦ elim here.1 [
-      | inl left_before ↦ (let left_tree : IsTreeOver (leaf_set l) l' = subst (λ (k : ℕ). IsTreeOver k l') (sym here.0) q.1 in
-          before_placed n (leaf_set l) l l' (omega (arith, split_sum set (leaf_set l) (leaf_set r) p.0)) p.1 left_tree left_before
+      | inl left_before ↦ (let left_tree : IsTreeOver (leaf_bits l) l' = subst (λ (k : ℕ). IsTreeOver k l') (sym here.0) q.1 in
+          before_placed n (leaf_bits l) l l' (omega (arith, split_sum set (leaf_bits l) (leaf_bits r) p.0)) p.1 left_tree left_before
           (not_after_front (left_sets l) (left_sets l') (left_sets r) (left_sets r')
           (omega (
             arith,
             length-left_sets l,
             length-left_sets l',
-            inner_count_by_size n (leaf_set l) l (omega (arith, split_sum set (leaf_set l) (leaf_set r) p.0)) p.1,
-            inner_count_by_size n (leaf_set l) l' (omega (arith, split_sum set (leaf_set l) (leaf_set r) p.0)) left_tree,
+            inner_count_by_size n (leaf_bits l) l (omega (arith, split_sum set (leaf_bits l) (leaf_bits r) p.0)) p.1,
+            inner_count_by_size n (leaf_bits l) l' (omega (arith, split_sum set (leaf_bits l) (leaf_bits r) p.0)) left_tree,
           )) same.1))
-      | inr right_here ↦ (let right_same : leaf_set r' ≡ leaf_set r =
-          omega (arith, split_sum set (leaf_set l) (leaf_set r) p.0, split_sum set (leaf_set l') (leaf_set r') q.0, here.0) in
-          let right_tree : IsTreeOver (leaf_set r) r' = subst (λ (k : ℕ). IsTreeOver k r') right_same q.2 in
-          before_placed n (leaf_set r) r r' (omega (arith, split_sum set (leaf_set l) (leaf_set r) p.0)) p.2 right_tree right_here.1
+      | inr right_here ↦ (let right_same : leaf_bits r' ≡ leaf_bits r =
+          omega (arith, split_sum set (leaf_bits l) (leaf_bits r) p.0, split_sum set (leaf_bits l') (leaf_bits r') q.0, here.0) in
+          let right_tree : IsTreeOver (leaf_bits r) r' = subst (λ (k : ℕ). IsTreeOver k r') right_same q.2 in
+          before_placed n (leaf_bits r) r r' (omega (arith, split_sum set (leaf_bits l) (leaf_bits r) p.0)) p.2 right_tree right_here.1
           (not_after_behind (left_sets l) (left_sets r) (left_sets r')
           (subst (λ (t : PlanTree). IsNotAfter (left_sets t ++ left_sets r') (left_sets l ++ left_sets r)) (sym right_here.0) same.1)))
     ]

@@ -6,7 +6,7 @@ use Rattle.std.proofs.lemmas.Nat.{pow_pos}
 use Rattle.std.proofs.lemmas.Nat.Bits.{bit_at-lt, bit_at-pow_same, bit_at-pow_other, same_from_bits, bit_at-trailing_zeros}
 use Rattle.std.proofs.lemmas.Bool.{cases_eq, cases_order}
 use Rattle.entry_sets.proofs.Bits.{bit_without_other, bit_without_same, power_within}
-use Rattle.bushy_plan.specs.PlanTrees.{IsFirstEntry, IsSplit, IsTreeOver, PlanTree, leaf, node, leaf_set}
+use Rattle.bushy_plan.specs.PlanTrees.{IsFirstEntry, IsSplit, IsTreeOver, PlanTree, leaf, node, leaf_bits}
 use Rattle.bushy_plan.proofs.Parts.{IsPart, bits_without, part_le}
 
 pub one_first : (set a b : ℕ) → IsFirstEntry set a → IsFirstEntry set b → a ≡ b
@@ -68,11 +68,11 @@ split_by_right set left right split = subst (λ (k : ℕ). IsSplit set k right) 
 
 -- ---- trees and their sets
 
-pub tree_set : (set : ℕ) (tree : PlanTree) → IsTreeOver set tree → leaf_set tree ≡ set
+pub tree_set : (set : ℕ) (tree : PlanTree) → IsTreeOver set tree → leaf_bits tree ≡ set
 tree_set set (leaf entry) is_tree = sym is_tree
-tree_set set (node left right) is_tree = split_sum set (leaf_set left) (leaf_set right) is_tree.0
+tree_set set (node left right) is_tree = split_sum set (leaf_bits left) (leaf_bits right) is_tree.0
 
-pub some_entries : (tree : PlanTree) → 0 < leaf_set tree
+pub some_entries : (tree : PlanTree) → 0 < leaf_bits tree
 some_entries (leaf entry) = pow_pos entry
 some_entries (node left right) = omega (arith, some_entries left)
 

@@ -3,7 +3,7 @@ use Rattle.std.proofs.Common.{◌≡◌, ℕ, ◌<◌, Bool, true, false, eqb, c
 use Rattle.std.specs.Prelude.{◌⊎◌}
 use Rattle.order_search.proofs.Tested.{both_true, first_test, first_from_test}
 use Rattle.bushy_plan.specs.BestTree.{IsTreeBefore, IsBest, full_set, cost, total}
-use Rattle.bushy_plan.specs.PlanTrees.{IsTreeOver, PlanTree, leaf, node, leaf_set}
+use Rattle.bushy_plan.specs.PlanTrees.{IsTreeOver, PlanTree, leaf, node, leaf_bits}
 use Rattle.bushy_plan.proofs.AllTrees.{at_tree, each_tree}
 
 -- ---- the definition of the test
@@ -23,12 +23,12 @@ abbrev pub not_before : PlanTree → PlanTree → Bool
 not_before (leaf a) other = true
 not_before (node left right) (leaf b) = true
 not_before (node left right) (node left' right') =
-    first_test (leaf_set left') (leaf_set left) (cond (not_before left left') (cond (same_tree left left') (not_before right right') true) false)
+    first_test (leaf_bits left') (leaf_bits left) (cond (not_before left left') (cond (same_tree left left') (not_before right right') true) false)
 
 not_before_from_test : (a b : PlanTree) → not_before a b ≡ true → ¬ IsTreeBefore a b
 not_before_from_test (leaf x) b h before = before
 not_before_from_test (node left right) (leaf y) h before = before
-not_before_from_test (node left right) (node left' right') h before = elim (first_from_test (leaf_set left') (leaf_set left) _ h) [
+not_before_from_test (node left right) (node left' right') h before = elim (first_from_test (leaf_bits left') (leaf_bits left) _ h) [
   | inl less ↦ elim before [
     | inl above ↦ omega (arith, less, above)
     | inr here ↦ omega (arith, less, here.0)

@@ -2,18 +2,18 @@
 use Rattle.std.specs.Prelude.{◌≡◌, ℕ, ◌+◌, ◌-◌, ◌^◌, ◌<◌, ◌≤◌, ◌⊎◌, max, List, slice_index}
 use Rattle.plans.specs.declared.bushy.BushyPlan.{BushyPlan}
 use Rattle.plans.specs.declared.bushy.Join.{Join}
-use Rattle.bushy_plan.specs.PlanTrees.{PlanTree, leaf, node, IsTreeOver, leaf_set, joins_from}
+use Rattle.bushy_plan.specs.PlanTrees.{PlanTree, leaf, node, IsTreeOver, leaf_bits, joins_from}
 
 -- the greatest bound of an inner node
 abbrev pub inner_greatest : List ℕ → PlanTree → ℕ
 inner_greatest bounds (leaf entry) = 0
 inner_greatest bounds (node left right) =
-    max (slice_index bounds (leaf_set left + leaf_set right)) (max (inner_greatest bounds left) (inner_greatest bounds right))
+    max (slice_index bounds (leaf_bits left + leaf_bits right)) (max (inner_greatest bounds left) (inner_greatest bounds right))
 
 -- the sum of the inner nodes' bounds
 abbrev pub inner_sum : List ℕ → PlanTree → ℕ
 inner_sum bounds (leaf entry) = 0
-inner_sum bounds (node left right) = slice_index bounds (leaf_set left + leaf_set right) + inner_sum bounds left
+inner_sum bounds (node left right) = slice_index bounds (leaf_bits left + leaf_bits right) + inner_sum bounds left
     + inner_sum bounds right
 
 -- the cost of a tree over all entries: the greatest bound of its inner nodes. A tree with one leaf costs the leaf's bound
@@ -26,14 +26,14 @@ abbrev pub total : List ℕ → PlanTree → ℕ
 total bounds (leaf entry) = slice_index bounds (2 ^ entry)
 total bounds (node left right) = inner_sum bounds (node left right)
 
--- the order of trees over the same set. The first tree comes before the other if its left set at the root has the lower number. If the left sets are
--- the same, the left trees decide. If the left trees are the same too, the right trees decide
+-- the order of trees over the same set. The first tree comes before the other if the leaf set of its left subtree has the lower number. If these sets
+-- are the same, the left subtrees decide. If the left subtrees are the same too, the right subtrees decide
 abbrev pub IsTreeBefore : PlanTree → PlanTree → Type 0
 IsTreeBefore (leaf a) other = ⊥
 IsTreeBefore (node left right) (leaf b) = ⊥
 IsTreeBefore (node left right) (node left' right') =
-    (leaf_set left < leaf_set left')
-    ⊎ ((leaf_set left ≡ leaf_set left') × (IsTreeBefore left left' ⊎ ((left ≡ left') × IsTreeBefore right right')))
+    (leaf_bits left < leaf_bits left')
+    ⊎ ((leaf_bits left ≡ leaf_bits left') × (IsTreeBefore left left' ⊎ ((left ≡ left') × IsTreeBefore right right')))
 
 -- the set of all n entries
 abbrev pub full_set : ℕ → ℕ

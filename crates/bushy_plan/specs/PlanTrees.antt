@@ -9,9 +9,9 @@ pub data PlanTree : Type 0 where
   node : PlanTree → PlanTree → PlanTree
 
 -- the set of the entries at a tree's leaves
-abbrev pub leaf_set : PlanTree → ℕ
-leaf_set (leaf entry) = 2 ^ entry
-leaf_set (node left right) = leaf_set left + leaf_set right
+abbrev pub leaf_bits : PlanTree → ℕ
+leaf_bits (leaf entry) = 2 ^ entry
+leaf_bits (node left right) = leaf_bits left + leaf_bits right
 
 -- the entry `first` is in the set, and no entry with a lower number is
 pub record IsFirstEntry (set first : ℕ) : Type 0 where
@@ -29,8 +29,8 @@ pub record IsSplit (set left right : ℕ) : Type 0 where
 -- the tree is a tree over the set: the leaf of its only entry, or a split of the set with a tree over each side
 abbrev pub IsTreeOver : ℕ → PlanTree → Type 0
 IsTreeOver set (leaf entry) = set ≡ 2 ^ entry
-IsTreeOver set (node left right) = IsSplit set (leaf_set left) (leaf_set right) × IsTreeOver (leaf_set left) left
-    × IsTreeOver (leaf_set right) right
+IsTreeOver set (node left right) = IsSplit set (leaf_bits left) (leaf_bits right) × IsTreeOver (leaf_bits left) left
+    × IsTreeOver (leaf_bits right) right
 
 -- the number of a tree's inner nodes
 abbrev pub inner_count : PlanTree → ℕ
@@ -52,5 +52,5 @@ joins_from bounds next (node left right) =
     ++ record {
       left = root_number next left;
       right = root_number (next + inner_count left) right;
-      bound = slice_index bounds (leaf_set left + leaf_set right);
+      bound = slice_index bounds (leaf_bits left + leaf_bits right);
     } ∷ []

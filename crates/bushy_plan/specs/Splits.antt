@@ -3,7 +3,7 @@ use Rattle.std.specs.Prelude.{◌≡◌, ◌≢◌, ℕ, ◌+◌, ◌-◌, ◌^�
 use Rattle.limits.specs.Profile.{top_bound}
 use Rattle.plans.specs.declared.bushy.Join.{Join}
 use Rattle.bushy_plan.specs.BestTree.{IsTreeBefore}
-use Rattle.bushy_plan.specs.PlanTrees.{PlanTree, leaf, node, IsFirstEntry, IsSplit, IsTreeOver, leaf_set, joins_from, root_number}
+use Rattle.bushy_plan.specs.PlanTrees.{PlanTree, leaf, node, IsFirstEntry, IsSplit, IsTreeOver, leaf_bits, joins_from, root_number}
 use Rattle.bushy_plan.specs.declared.weight.Weighing.{Weighing}
 use Rattle.bushy_plan.specs.declared.weight.Weighing.TheVariants as weight
 
@@ -21,8 +21,8 @@ combined (weight.SumIfBoundsAtMost most) bound left right = if nat_le bound most
 -- the weight of a tree, from the bounds of its inner nodes; a leaf weighs nothing
 abbrev pub weight_of : Weighing → List ℕ → PlanTree → ℕ
 weight_of w bounds (leaf entry) = 0
-weight_of w bounds (node left right) = combined w (slice_index bounds (leaf_set left
-    + leaf_set right)) (weight_of w bounds left) (weight_of w bounds right)
+weight_of w bounds (node left right) = combined w (slice_index bounds (leaf_bits left
+    + leaf_bits right)) (weight_of w bounds left) (weight_of w bounds right)
 
 -- some tree over the set has this weight, and no tree over the set is lighter
 pub record IsLeastWeight (w : Weighing) (bounds : List ℕ) (set least : ℕ) : Type 0 where

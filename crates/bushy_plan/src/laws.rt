@@ -5,7 +5,7 @@ ghost use Rattle.plans.specs.TreeExamples.{join};
 ghost use Rattle.bushy_plan.specs.BestTree.{IsTreeBefore, IsBest, cost, total};
 ghost use Rattle.bushy_plan.specs.Causes.{IsCause};
 ghost use Rattle.bushy_plan.specs.Examples.{one_pair, triangle};
-ghost use Rattle.bushy_plan.specs.PlanTrees.{PlanTree, leaf_set, joins_from, leaf, node};
+ghost use Rattle.bushy_plan.specs.PlanTrees.{PlanTree, leaf_bits, joins_from, leaf, node};
 ghost use Rattle.order_search.specs.declared.refusal.PlanError.{PlanError};
 ghost use Rattle.order_search.specs.declared.refusal.PlanError.TheVariants as error;
 
@@ -27,7 +27,7 @@ pub fn one_answer()
 
 /// The definitions, computed for one, two and three entries.
 pub fn examples()
-    ensures entries { leaf_set (node (leaf 0) (leaf 2)) ≡ 5 }
+    ensures entries { leaf_bits (node (leaf 0) (leaf 2)) ≡ 5 }
     ensures one_entry { cost one_pair (leaf 0) ≡ 6 }
     ensures pair { joins_from one_pair 2 (node (leaf 0) (leaf 1)) ≡ join 0 1 12 ∷ [] }
     ensures triangle { joins_from triangle 3 (node (leaf 0) (node (leaf 1) (leaf 2))) ≡ join 1 2 5 ∷ join 0 3 9 ∷ [] }

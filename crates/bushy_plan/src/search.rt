@@ -1,7 +1,7 @@
 //! Searches for the best join tree.
-ghost use Rattle.std.specs.Prelude.{◌≡◌, ◌-◌, ◌≤◌, ◌<◌, ◌^◌, ℕ, List, length, slice_index, IfErr, IfOk};
+ghost use Rattle.std.specs.Prelude.{◌≡◌, ◌-◌, ◌≤◌, ◌<◌, ◌^◌, ℕ, List, length, IfErr, IfOk};
 ghost use Rattle.std.specs.List.{AllByRecursion};
-ghost use Rattle.limits.specs.Profile.{greatest_budget, greatest_entries, most_entries, top_bound};
+ghost use Rattle.limits.specs.Profile.{greatest_budget, greatest_entries, most_entries};
 ghost use Rattle.order_search.specs.Orders.{cost as left_deep_cost};
 ghost use Rattle.plans.specs.LeftDeep.{IsOrder};
 ghost use Rattle.plans.specs.TreePlans.{IsTreePlan};

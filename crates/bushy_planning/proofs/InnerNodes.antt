@@ -15,7 +15,7 @@ use Rattle.tree_rows.specs.Rooms.{bound_at, bound_in}
 use Rattle.tree_rows.specs.Trees.{entries_at, node_entries, singles, with_joins}
 use Rattle.tree_rows.proofs.Once.{plan_once, singles_at, singles_length}
 use Rattle.bushy_plan.specs.BestTree.{full_set, IsBestPlan}
-use Rattle.bushy_plan.specs.PlanTrees.{IsTreeOver, PlanTree, leaf, leaf_set}
+use Rattle.bushy_plan.specs.PlanTrees.{IsTreeOver, PlanTree, leaf, leaf_bits}
 use Rattle.bushy_planning.proofs.Subtrees.{all_trees_over_leaves, bound_of, bounds_are, joins_are, leaves, set_of_leaves, subtrees, with_tree, HaveLeaves, IsTreeOverLeaves}
 
 all_at : (P : PlanTree → Type 0) (trees : List PlanTree) (k : ℕ) (d : PlanTree) → AllByRecursion P trees → k < length trees
@@ -79,7 +79,7 @@ module _ (n : ℕ) (sets : List ℕ) (plan : BushyPlan) (is : IsTreePlan n plan)
         ∙ ap (λ (s : List ℕ). get_or s k 0) all_bounds
         ∙ get_or-map (bound_of sets) (subtrees best.tree) k (leaf 0) 0 (omega (arith, k_in_range, one_join_for_each_subtree))
 
-    its_set : set_of (entries_at plan (n + k)) ≡ leaf_set subtree
+    its_set : set_of (entries_at plan (n + k)) ≡ leaf_bits subtree
     its_set = ap set_of its_entries ∙ set_of_leaves subtree
 
     -- ---- the set of the node's entries, and the node's bound

@@ -6,7 +6,6 @@ use Rattle.entry_sets.specs.Sets.{set_of}
 use Rattle.query_types.specs.declared.types.Query.{Query}
 use Rattle.sql_meaning.specs.Tables.{Tables}
 use Rattle.plans.specs.declared.bushy.BushyPlan.{BushyPlan}
-use Rattle.plans.specs.declared.bushy.Join.{Join}
 use Rattle.plans.specs.TreePlans.{IsTreePlan}
 use Rattle.tree_rows.specs.Rooms.{bound_at}
 use Rattle.tree_rows.specs.Trees.{entries_at, node_count}

@@ -7,7 +7,7 @@ use Rattle.entry_sets.specs.Sets.{set_of}
 use Rattle.entry_sets.proofs.Bits.{entry_below}
 use Rattle.berge_tree.proofs.Separate.{all_append}
 use Rattle.plans.specs.declared.bushy.Join.{Join}
-use Rattle.bushy_plan.specs.PlanTrees.{IsTreeOver, PlanTree, leaf, node, leaf_set, inner_count, joins_from, root_number}
+use Rattle.bushy_plan.specs.PlanTrees.{IsTreeOver, PlanTree, leaf, node, leaf_bits, inner_count, joins_from, root_number}
 use Rattle.bushy_plan.proofs.Splitting.{split_sum}
 use Rattle.tree_rows.specs.Trees.{with_joins}
 use Rattle.tree_rows.proofs.Once.{at, joins_more, sides}
@@ -35,7 +35,7 @@ length-subtrees (node left right) =
 -- ---- the bounds of the nodes
 
 abbrev pub bound_of : List ℕ → PlanTree → ℕ
-bound_of bounds tree = get_or bounds (leaf_set tree) 0
+bound_of bounds tree = get_or bounds (leaf_bits tree) 0
 
 pub bounds_are : (bounds : List ℕ) (next : ℕ) (tree : PlanTree)
     → map (λ join. join.bound) (joins_from bounds next tree) ≡ map (bound_of bounds) (subtrees tree)
@@ -58,23 +58,23 @@ bounds_are bounds next (node left right) =
 -- ---- the sets of the nodes' entries
 
 pub record IsTreeOverLeaves (n : ℕ) (tree : PlanTree) : Type 0 where
-  pub over : IsTreeOver (leaf_set tree) tree
-  pub fits : leaf_set tree < 2 ^ n
+  pub over : IsTreeOver (leaf_bits tree) tree
+  pub fits : leaf_bits tree < 2 ^ n
 
 pub all_trees_over_leaves : (n set : ℕ) (tree : PlanTree) → set < 2 ^ n → IsTreeOver set tree → AllByRecursion (IsTreeOverLeaves n) (subtrees tree)
 all_trees_over_leaves n set (leaf entry) fits is_tree = tt
 all_trees_over_leaves n set (node left right) fits is_tree =
-    let whole : leaf_set left + leaf_set right ≡ set = split_sum set (leaf_set left) (leaf_set right) is_tree.0 in
+    let whole : leaf_bits left + leaf_bits right ≡ set = split_sum set (leaf_bits left) (leaf_bits right) is_tree.0 in
     all_append (IsTreeOverLeaves n) (subtrees left ++ subtrees right) (node left right ∷ [])
-    (all_append (IsTreeOverLeaves n) (subtrees left) (subtrees right) (all_trees_over_leaves n (leaf_set left) left (omega arith) is_tree.1)
-    (all_trees_over_leaves n (leaf_set right) right (omega arith) is_tree.2))
+    (all_append (IsTreeOverLeaves n) (subtrees left) (subtrees right) (all_trees_over_leaves n (leaf_bits left) left (omega arith) is_tree.1)
+    (all_trees_over_leaves n (leaf_bits right) right (omega arith) is_tree.2))
     (record { over = subst (λ (s : ℕ). IsTreeOver s (node left right)) (sym whole) is_tree; fits = omega arith }, tt)
 
 set_of_both : (xs ys : List ℕ) → set_of (xs ++ ys) ≡ set_of xs + set_of ys
 set_of_both [] ys = omega arith
 set_of_both (x ∷ xs) ys = omega (arith, set_of_both xs ys)
 
-pub set_of_leaves : (tree : PlanTree) → set_of (leaves tree) ≡ leaf_set tree
+pub set_of_leaves : (tree : PlanTree) → set_of (leaves tree) ≡ leaf_bits tree
 set_of_leaves (leaf entry) = omega arith
 set_of_leaves (node left right) = omega (arith, set_of_both (leaves left) (leaves right), set_of_leaves left, set_of_leaves right)
 
@@ -139,7 +139,7 @@ pub joins_are : (bounds : List ℕ) (n set next : ℕ) (nodes : List (List ℕ))
     → set < 2 ^ n → IsTreeOver set tree → with_joins nodes (joins_from bounds next tree) ≡ with_tree nodes tree
 joins_are bounds n set next nodes (leaf entry) has_length have fits is_tree = sym (append-nil nodes)
 joins_are bounds n set next nodes (node left right) has_length have fits is_tree =
-    let whole : leaf_set left + leaf_set right ≡ set = split_sum set (leaf_set left) (leaf_set right) is_tree.0 in
+    let whole : leaf_bits left + leaf_bits right ≡ set = split_sum set (leaf_bits left) (leaf_bits right) is_tree.0 in
     let of_left = joins_from bounds next left in
     let of_right = joins_from bounds (next + inner_count left) right in
     let own : Join = record {
@@ -154,13 +154,13 @@ joins_are bounds n set next nodes (node left right) has_length have fits is_tree
     let both : with_joins nodes (of_left ++ of_right) ≡ third =
     joins_both nodes of_left of_right
     ∙ ap (λ (s : List (List ℕ)). with_joins s of_right)
-    (joins_are bounds n (leaf_set left) next nodes left has_length have (omega arith) is_tree.1)
-    ∙ joins_are bounds n (leaf_set right) (next + inner_count left) second right second_has_length have_second (omega arith) is_tree.2 in
+    (joins_are bounds n (leaf_bits left) next nodes left has_length have (omega arith) is_tree.1)
+    ∙ joins_are bounds n (leaf_bits right) (next + inner_count left) second right second_has_length have_second (omega arith) is_tree.2 in
     let left_side : at third own.left ≡ leaves left =
     root_later nodes (map leaves (subtrees right)) next left
-    (root_stands n (leaf_set left) next nodes left has_length have (omega arith) is_tree.1) in
+    (root_stands n (leaf_bits left) next nodes left has_length have (omega arith) is_tree.1) in
     let right_side : at third own.right ≡ leaves right =
-    (root_stands n (leaf_set right) (next + inner_count left) second right second_has_length have_second (omega arith) is_tree.2).entries in
+    (root_stands n (leaf_bits right) (next + inner_count left) second right second_has_length have_second (omega arith) is_tree.2).entries in
     joins_more nodes (of_left ++ of_right) own
     ∙ ap (λ (s : List (List ℕ)). s ++ sides s own ∷ []) both
     ∙ ap (λ (s : List ℕ). third ++ (s ++ at third own.right) ∷ []) left_side

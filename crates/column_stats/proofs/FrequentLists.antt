@@ -1,5 +1,5 @@
 -- The statistics keep one list for each frequent value, and these values are different. For any value the statistics give the list that cond_stats
--- makes on demand.
+-- makes of the rows.
 use Rattle.std.proofs.Common.{◌≡◌, ℕ, ◌≤◌, Bool, true, false, eqb, List, [], ◌∷◌, map, length, take, Option, None, Some, refl, ap, sym, ◌∙◌, inl, inr}
 use Rattle.std.specs.Prelude.{find}
 use Rattle.std.specs.List.{AllByRecursion, IsDistinct, list_any, zip}

@@ -45,7 +45,7 @@ module _ (texts : List (List ℕ)) (kind : Kind) (k : ℕ) where
     parts = inr (valid_with_rows row rows);
   }
 
-  -- the list that the statistics give for a range is the list that cond_stats makes for it on demand
+  -- the list that the statistics give for a range is the list that cond_stats makes of the rows
   pub range_is : (rows : List (ℕ × ℕ)) (low high : Option ℕ) → IfSome low (λ leaf. leaf < 32) → list_for_range (stats_of texts kind k rows) low high ≡ list_of_range at_most k rows low high
   range_is rows None high from = node_is at_most k rows (node_size 0 (unwrap_or high 31)) 0 (node_size-is 0 (unwrap_or high 31)) (omega arith)
   range_is rows (Some low) high from = node_is at_most k rows (node_size low (unwrap_or high 31)) low (node_size-is low (unwrap_or high 31)) from

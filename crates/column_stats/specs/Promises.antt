@@ -1,5 +1,5 @@
--- What statistics of rows promise. They give the lists that cond_stats makes on demand. Each list dominates the joined keys of the
--- rows that it is for. A row is a filter value and a joined key. `at_most` says how values compare.
+-- What statistics of rows promise. A list that they give is equal to the list that cond_stats makes of the rows. Each list dominates the joined keys
+-- of the rows that it is for. A row is a filter value and a joined key. `at_most` says how values compare.
 use Rattle.std.specs.Prelude.{ℕ, ◌≡◌, ◌<◌, ◌&&◌, nat_le, Bool, List, Option, Some, IfSome}
 use Rattle.degree_sequences.specs.Domination.{DominatesKeys}
 use Rattle.cond_stats.specs.Leaves.{IsNodeSize, in_node, leaf_of}
@@ -8,11 +8,11 @@ use Rattle.cond_stats.specs.Rows.{filter_values, joined_keys, keys_where}
 use Rattle.column_stats.specs.declared.stats.ColumnStats.{ColumnStats}
 use Rattle.column_stats.specs.Stats.{list_for_node, list_for_range, list_for_value}
 
--- for each value, and for None, the statistics give the list that is made on demand
+-- for each value the statistics give the list that cond_stats makes of the rows. None stands for a value in no row
 abbrev pub GivesValueLists : ℕ → List (ℕ × ℕ) → ColumnStats → Type 0
 GivesValueLists accuracy rows stats = (value : Option ℕ) → list_for_value stats value ≡ list_of_value accuracy rows value
 
--- for each range of leaves the statistics give the list that is made on demand
+-- for each range of leaves the statistics give the list that cond_stats makes of the rows
 abbrev pub GivesRangeLists : (ℕ → ℕ → Bool) → ℕ → List (ℕ × ℕ) → ColumnStats → Type 0
 GivesRangeLists at_most accuracy rows stats =
     (low high : Option ℕ) → IfSome low (λ leaf. leaf < 32) → IfSome high (λ leaf. leaf < 32)

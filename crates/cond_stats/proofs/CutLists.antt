@@ -14,14 +14,14 @@ use Rattle.piece_math.proofs.Cutting.{positive-capped_at}
 
 -- `list` has the first i elements of the capped list, and `left` is what is left of the number `most`
 pub record IsCappedSoFar (falling : List ℕ) (most : ℕ) (i left : ℕ) (list : List ℕ) : Type 0 where
-  pub long : length list ≡ i
+  pub lengths : length list ≡ i
   pub sums : (r : ℕ) → r ≤ i → running_sum list r ≡ min (running_sum falling r) most
   pub positive : AllByRecursion (λ x. 0 < x) list
   pub left_over : left + running_sum list i ≡ most
 
 pub capped_none_yet : (falling : List ℕ) (most : ℕ) → IsCappedSoFar falling most 0 most []
 capped_none_yet falling most = record {
-  long = refl;
+  lengths = refl;
   sums = λ r is_below. (let none : r ≡ 0 = omega arith in rw none (omega arith));
   positive = tt;
   left_over = omega arith;
@@ -45,14 +45,14 @@ pub cap_step : (falling : List ℕ) (most i left taken : ℕ) (list : List ℕ) 
 cap_step falling most i left taken list to is some =
     let next : suc i ≡ i + 1 = omega arith in
     let last : running_sum (list ++ taken ∷ []) (i + 1) ≡ running_sum list i + taken =
-    (let place : i + 1 ≡ suc (length list) = omega (arith, to.long) in ap (running_sum (list ++ taken ∷ [])) place) ∙ running_sum-push list taken ∙ ap (λ m. running_sum list m + taken) to.long in
+    (let place : i + 1 ≡ suc (length list) = omega (arith, to.lengths) in ap (running_sum (list ++ taken ∷ [])) place) ∙ running_sum-push list taken ∙ ap (λ m. running_sum list m + taken) to.lengths in
     record {
-      long = length_push list taken ∙ ap (λ n. n + 1) to.long;
+      lengths = length_push list taken ∙ ap (λ n. n + 1) to.lengths;
       sums = λ r is_below. elim (cases_lt i r) [
         | inl h ↦ (let at : r ≡ i + 1 = omega arith in
             let up : running_sum falling (i + 1) ≡ running_sum falling i + get_or falling i 0 = ap (running_sum falling) (sym next) ∙ running_sum-suc falling i in
             rw at (omega (arith, last, up, to.sums i (omega arith), to.left_over, is)))
-        | inr h ↦ running_sum-front list (taken ∷ []) r (omega (arith, to.long)) ∙ to.sums r h
+        | inr h ↦ running_sum-front list (taken ∷ []) r (omega (arith, to.lengths)) ∙ to.sums r h
       ];
       positive = positive-push list taken to.positive some;
       left_over = omega (arith, last, to.left_over, is);
@@ -60,8 +60,8 @@ cap_step falling most i left taken list to is some =
 
 pub cap_done : (falling : List ℕ) (most i left : ℕ) (list : List ℕ) → IsDescending falling → IsCappedSoFar falling most i left list → min left (get_or falling i 0) ≡ 0
     → list ≡ capped_at falling most
-cap_done falling most i left list falls to nothing =
-    same_by_sums list (capped_at falling most) to.positive (positive-capped_at falling most falls)
+cap_done falling most i left list descends to nothing =
+    same_by_sums list (capped_at falling most) to.positive (positive-capped_at falling most descends)
     (λ r. whole r ∙ sym (running_sum-capped_at falling most r))
   where
     flat : (n : ℕ) → get_or falling i 0 ≡ 0 → running_sum falling (i + n) ≡ running_sum falling i
@@ -69,7 +69,7 @@ cap_done falling most i left list falls to nothing =
     flat (suc n) none =
         let up : running_sum falling (i + suc n) ≡ running_sum falling (i + n) + get_or falling (i + n) 0 =
         (let place : i + suc n ≡ suc (i + n) = omega arith in ap (running_sum falling) place) ∙ running_sum-suc falling (i + n) in
-        omega (arith, up, flat n none, descends_to falling falls i (i + n) (omega arith), none)
+        omega (arith, up, flat n none, descends_to falling descends i (i + n) (omega arith), none)
 
     stays : (r : ℕ) → i ≤ r → min (running_sum falling i) most ≡ min (running_sum falling r) most
     stays r over = elim (cases_lt 0 left) [
@@ -82,7 +82,7 @@ cap_done falling most i left list falls to nothing =
 
     whole : (r : ℕ) → running_sum list r ≡ min (running_sum falling r) most
     whole r = elim (cases_lt i r) [
-      | inl h ↦ running_sum-past list r (omega (arith, to.long)) ∙ sym (running_sum-past list i (omega (arith, to.long))) ∙ to.sums i (omega arith) ∙ stays r (omega arith)
+      | inl h ↦ running_sum-past list r (omega (arith, to.lengths)) ∙ sym (running_sum-past list i (omega (arith, to.lengths))) ∙ to.sums i (omega arith) ∙ stays r (omega arith)
       | inr h ↦ to.sums r h
     ]
 
@@ -114,11 +114,11 @@ pub raised_more : (s t list next : List ℕ) (i : ℕ) → i < length t → list
 raised_more s t list next i within is inside past =
     let d : ℕ = get_or t i 0 in
     let front : List ℕ = take i t in
-    let long : length front ≡ i = omega (arith, length-take i t) in
-    let size : length list ≡ max (length s) i = ap length is ∙ length-rank_maximum s front ∙ ap (max (length s)) long in
+    let lengths : length front ≡ i = omega (arith, length-take i t) in
+    let size : length list ≡ max (length s) i = ap length is ∙ length-rank_maximum s front ∙ ap (max (length s)) lengths in
     let more : rank_maximum s (front ++ d ∷ []) ≡ rank_maximum s (take (i + 1) t) = ap (rank_maximum s) (sym (take_more t i 0 within)) in
     elim (cases_lt i (length s)) [
       | inl h ↦ inside (omega (arith, size)) ∙ ap (λ l. set l i (max (get_or l i 0) d)) is
-          ∙ ap (λ n. set (rank_maximum s front) n (max (get_or (rank_maximum s front) n 0) d)) (sym long) ∙ sym (raised_within s front d (omega (arith, long))) ∙ more
-      | inr h ↦ past (omega (arith, size)) ∙ ap (λ l. l ++ d ∷ []) is ∙ sym (raised_past s front d (omega (arith, long))) ∙ more
+          ∙ ap (λ n. set (rank_maximum s front) n (max (get_or (rank_maximum s front) n 0) d)) (sym lengths) ∙ sym (raised_within s front d (omega (arith, lengths))) ∙ more
+      | inr h ↦ past (omega (arith, size)) ∙ ap (λ l. l ++ d ∷ []) is ∙ sym (raised_past s front d (omega (arith, lengths))) ∙ more
     ]

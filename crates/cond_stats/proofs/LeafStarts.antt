@@ -106,8 +106,8 @@ module _ {numbers places : List ℕ} {runs : List ValueRun} (are_runs : AreRunsO
 
 pub starts-push : (numbers starts : List ℕ) (leaf start : ℕ) → length starts ≡ leaf → ((k : ℕ) → k < leaf → IsLeafStart numbers k (get_or starts k 0)) → IsLeafStart numbers leaf start
     → (k : ℕ) → k < leaf + 1 → IsLeafStart numbers k (get_or (starts ++ start ∷ []) k 0)
-starts-push numbers starts leaf start long each is k low = elim (cases_lt k leaf) [
+starts-push numbers starts leaf start lengths each is k low = elim (cases_lt k leaf) [
   | inl h ↦ subst (IsLeafStart numbers k) (sym (get_or_append_left starts (start ∷ []) 0 k (omega arith))) (each k h)
   | inr h ↦ (let here : leaf ≡ k = omega arith in
-      subst (λ m. IsLeafStart numbers m (get_or (starts ++ start ∷ []) m 0)) here (subst (IsLeafStart numbers leaf) (sym (get_or_push starts start 0 leaf long)) is))
+      subst (λ m. IsLeafStart numbers m (get_or (starts ++ start ∷ []) m 0)) here (subst (IsLeafStart numbers leaf) (sym (get_or_push starts start 0 leaf lengths)) is))
 ]

@@ -32,8 +32,8 @@ greatest-above g (w ∷ vs) v inside = elim (cases_Bool (eqb v w)) [
 ]
 
 pub IsDescending-maxima : {X : Type 0} (f : X → List ℕ) → ((v : X) → IsDescending (f v)) → (vs : List X) → IsDescending (maxima (map f vs))
-IsDescending-maxima f falls [] = λ r. omega arith
-IsDescending-maxima f falls (v ∷ vs) = IsDescending-rank_maximum (f v) (maxima (map f vs)) (falls v) (IsDescending-maxima f falls vs)
+IsDescending-maxima f descends [] = λ r. omega arith
+IsDescending-maxima f descends (v ∷ vs) = IsDescending-rank_maximum (f v) (maxima (map f vs)) (descends v) (IsDescending-maxima f descends vs)
 
 pub greatest-le-sum : (f : ℕ → List ℕ) (g : ℕ → ℕ) → ((v : ℕ) → g v ≡ sum (f v)) → (vs : List ℕ) → greatest (map g vs) ≤ sum (maxima (map f vs))
 greatest-le-sum f g same [] = omega arith

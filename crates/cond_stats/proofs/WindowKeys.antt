@@ -89,10 +89,10 @@ pub window_count : (column places : List ℕ) (p : ℕ → Bool) (from count : �
 window_count column places p from count moved window =
     let h : ℕ → ℕ = λ i. if_true (p (get_or column i 0)) in
     let inner : List ℕ = take count (drop from places) in
-    let long : length inner ≡ count = omega (arith, window.ends, length-take count (drop from places), length-drop from places) in
+    let lengths : length inner ≡ count = omega (arith, window.ends, length-take count (drop from places), length-drop from places) in
     let counted : sum_by (λ x. if_true (p (get_or column x 0) && true)) places ≡ sum_by (λ x. if_true true) inner =
     counted_within places from count (λ i. p (get_or column i 0)) (λ i. true) window.ends window.inside window.before window.after in
-    sym long ∙ sym (all-count inner) ∙ sym counted
+    sym lengths ∙ sym (all-count inner) ∙ sym counted
     ∙ sum_by-same (λ x. if_true (p (get_or column x 0) && true)) h (λ x. ap if_true (and-true (p (get_or column x 0)))) places
     ∙ sum_by-IsPermutation h (range_with_len 0 (length column)) places moved
     ∙ sym (sum_by-places (λ v. if_true (p v)) column)

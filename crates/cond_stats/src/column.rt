@@ -1,4 +1,4 @@
-//! A filter column, sorted once, and the lists that it makes on demand.
+//! A filter column, sorted once, and the lists that it makes when a caller asks for one.
 ghost use Rattle.std.specs.Prelude.{◌≡◌, ◌/◌, ◌==◌, ◌<◌, ◌^◌, true, false, length, All, IfOk, IfSome, MatchOption};
 ghost use Rattle.std.specs.List.{zip};
 ghost use Rattle.csv_tables.specs.Cells.{IsCell};
@@ -21,8 +21,8 @@ use schema_types::Kind;
 use std::alloc::Global;
 use std::marker::Model;
 
-/// A filter column whose rows are kept in the order of their values. One `FilterColumn` serves for every joined column of its table. Contracts see
-/// the cells in the order of the table's rows, their kind and the texts of the pool.
+/// A filter column whose rows are kept in the order of their values. One `FilterColumn` serves for every joined column of its table. In
+/// contracts it stands for the cells in the order of the table's rows, their kind and the texts of the pool.
 #[derive(Drop)]
 pub struct FilterColumn<'a> {
     pool: &'a Pool,

@@ -1,5 +1,5 @@
-//! Finds the leaf of a value among the cuts of a column.
-ghost use Rattle.std.specs.Prelude.{◌≡◌, ◌<◌, ◌≤◌, [], ℕ, List, length, slice_index_or, IsTrue};
+//! Finds the leaf of a value among the cuts of a column. A cut is the value at which a leaf begins.
+ghost use Rattle.std.specs.Prelude.{◌≡◌, ◌<◌, ◌≤◌, [], ℕ, List, length, slice_index_or};
 ghost use Rattle.csv_tables.specs.Cells.{value_of_cell};
 ghost use Rattle.csv_tables.specs.Numbers.{number_in};
 ghost use Rattle.csv_tables.specs.Values.{Int, Text};
@@ -20,7 +20,7 @@ pub(crate) fn text_at(pool: &Pool, cell: u64) -> &str
     }
 }
 
-// Whether a cell's value is at most the number of another cell. A text is above every number.
+// Whether a cell's value is at most the number that another cell holds. A text is above every number.
 fn is_at_most_int(kind: Kind, cell: u64, number: u64) -> bool
     ensures { (texts : List (List ℕ)) → result ≡ value_le (value_of_cell texts kind cell) (Int (number_in number)) }
 {

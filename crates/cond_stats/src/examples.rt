@@ -3,7 +3,7 @@ ghost use Rattle.std.specs.Prelude.{◌≡◌, ◌++◌, nat_le, true, false, []
 ghost use Rattle.std.specs.List.{zip, range_with_len, flat_map};
 ghost use Rattle.cond_stats.specs.Frequency.{remaining};
 ghost use Rattle.cond_stats.specs.Leaves.{cuts, leaf_of, node_size};
-ghost use Rattle.cond_stats.specs.Lists.{whole, rest, is_frequent, list_of_value, list_of_range};
+ghost use Rattle.cond_stats.specs.Lists.{rest, is_frequent, list_of_value, list_of_range};
 
 /// The list of an absent value in a column of 40 different values, in a column of three, and without rows. Of 33 values in one row each, the
 /// first 32 are frequent.

@@ -1,5 +1,5 @@
 //! Laws: what the lists dominate, and what they sum to. The functions do nothing; their contracts are the laws.
-ghost use Rattle.std.specs.Prelude.{◌≡◌, ℕ, ◌≤◌, ◌&&◌, ◌==◌, nat_le, Bool, List, length, map, Option, Some, if◌then◌else◌};
+ghost use Rattle.std.specs.Prelude.{◌≡◌, ℕ, ◌≤◌, ◌&&◌, nat_le, Bool, List, length, map, Option, Some, if◌then◌else◌};
 ghost use Rattle.std.specs.List.{sum, count_by};
 ghost use Rattle.schema_types.specs.declared.types.Kind.{Kind};
 ghost use Rattle.csv_tables.specs.Values.{Value};

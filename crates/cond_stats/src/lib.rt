@@ -7,8 +7,8 @@
 //!
 //! In contracts `compressed_degrees`, `list_of_value`, `rest`, `list_of_range` and `list_of_node` (in `specs/Lists.antt`) are the lists.
 //! `frequent` has the values that have lists of their own, and `cuts` the values at which leaves begin. `leaf_of_value`, `list_between` and
-//! `is_between` (in `specs/Columns.antt`) are about the ends of a range. `laws` says what the lists dominate and sum to. Contracts see a
-//! `FilterColumn` as a `CellColumn`.
+//! `is_between` (in `specs/Columns.antt`) are about the ends of a range. `laws` says what the lists dominate and sum to. In contracts a
+//! `FilterColumn` is a `CellColumn`.
 //!
 //! ```text
 //! let column = FilterColumn::new(alloc, &pool, kind, filter)?;

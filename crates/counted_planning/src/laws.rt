@@ -17,8 +17,8 @@ ghost use Rattle.reduced_scans.specs.Rounds.{reduced_of};
 ghost use Rattle.planning.specs.ListedBounds.{set_bounds_over};
 ghost use Rattle.planning.specs.Standing.{BoundLevels};
 
-/// No level over the lists has more rows than its set's bound, whichever conjuncts are used for counting. A bound of 2^128 - 1, the top bound,
-/// promises nothing. So no bound of a plan over lists of scanned rows is too low.
+/// No level over the lists has more rows than its set's bound, whichever conjuncts are used for counting. Only the top bound, 2^128 - 1, promises
+/// nothing. No bound of a plan over lists of scanned rows is too low.
 pub fn counts_are_never_under()
     ensures sets { (counted : CountsMade) (query : Query) (tables : Tables) (lists : List (List ℕ))
         → BoundLevels query tables lists (counted_bounds_of_sets counted query tables lists) }
@@ -29,8 +29,8 @@ pub fn counts_are_never_under()
 {}
 
 /// Suppose that each part of a set is counted under all of its conjuncts, and that each constant conjunct, such as 1 = 1, holds. Then the bound of
-/// the set is the number of rows of each level over its entries, or 2^128 - 1 if this number is larger. If the set of a plan's level is counted in
-/// this way, the level has exactly as many rows as the plan says.
+/// the set is the number of rows of the level over its entries, in whatever order they are joined, or 2^128 - 1 if this number is larger. If the set
+/// of a plan's level is counted in this way, the level has exactly as many rows as the plan says.
 pub fn counts_are_exact()
     ensures sets { (counted : CountsMade) (query : Query) (tables : Tables) (lists : List (List ℕ)) (subset : ℕ) (order : List ℕ)
         → subset < 2 ^ length query.from → IsOrderOfSet (entries_of_set subset) order → AllPartsAreCounted counted query tables subset

@@ -1,8 +1,7 @@
 //! Links the uses of each item, or the uses that need each slot, from the last use back to the first.
 ghost use Rattle.std.specs.Prelude.{◌≡◌, ◌+◌, ◌^◌, ◌<◌, ◌≤◌, All, IfOk, ℕ, length, slice_index};
-ghost use Rattle.counted_sets.specs.UseChains.{AreUseChains, last_before};
+ghost use Rattle.counted_sets.specs.UseChains.{AreUseChains};
 ghost use Rattle.counted_sets.specs.Counts.{item_at, need_at};
-ghost use Rattle.counted_sets.specs.Sets.{IsUseOf};
 
 use crate::uses::Use;
 use base_io::NoMemory;

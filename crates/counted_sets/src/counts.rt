@@ -1,7 +1,7 @@
 //! Counts how many uses give each slot, and lists the slots whose count is 0. A use belongs to an item; it gives one slot and needs another one.
 ghost use Rattle.std.specs.Prelude.{◌≡◌, ◌==◌, ◌+◌, ◌-◌, ◌^◌, ◌<◌, ◌≤◌, ℕ, All, IfOk, length, slice_index, slice_set, true};
 ghost use Rattle.counted_sets.specs.UseChains.{AreUseChains};
-ghost use Rattle.counted_sets.specs.Counts.{EmptySlotsAreListed, Extends, IsWorkOf, item_at, giver_count};
+ghost use Rattle.counted_sets.specs.Counts.{Extends, IsWorkOf, item_at, giver_count};
 
 use crate::chains::UseChains;
 use crate::uses::Use;

@@ -32,8 +32,8 @@ apart columns (k ∷ key) (suc at) column i j l c other =
 
 pub ascending_apart : (columns : List (List ℕ)) (key cells : List ℕ) (at column rows : ℕ) → at < length key → column ≡ get_or key at 0 → cells ≡ get_or columns column []
     → length cells ≡ rows → Ascend cells (length cells) → (i j : ℕ) → j < i → i < rows → have_same_cells columns key i j ≡ false
-ascending_apart columns key cells at column rows l c is long up i j m n =
-    let less : get_or cells j 0 < get_or cells i 0 = up j i m (omega (arith, long, n)) in
+ascending_apart columns key cells at column rows l c is lengths up i j m n =
+    let less : get_or cells j 0 < get_or cells i 0 = up j i m (omega (arith, lengths, n)) in
     let ne : get_or cells i 0 ≡ get_or cells j 0 → ⊥ = λ e. omega (arith, e, less) in
     apart columns key at column i j l c (ap (λ xs. nat_eq (get_or xs i 0) (get_or xs j 0)) (sym is) ∙ ne_eqb (get_or cells i 0) (get_or cells j 0) ne)
 
@@ -52,7 +52,7 @@ no_repeat at (suc n) = rw (same_itself at) (no_repeat (at + 1) n)
 pub none_repeats : (columns : List (List ℕ)) (key : List ℕ) (rows : ℕ) → ((i j : ℕ) → j < i → i < rows → have_same_cells columns key i j ≡ false) → IsRepeat columns key rows None
 none_repeats columns key rows differ = record {
   first_places = range_with_len 0 rows;
-  long = length-range_with_len 0 rows;
+  lengths = length-range_with_len 0 rows;
   firsts = λ i l.
       let within : i < rows = omega (arith, l, length-range_with_len 0 rows) in
       let here : get_or (range_with_len 0 rows) i 0 ≡ i = let e = get_or-range_with_len 0 rows i 0 within in omega (arith, e) in

@@ -61,9 +61,9 @@ pub digits_all : (bytes : List ℕ) (first end size : ℕ) → DigitsSoFar bytes
 digits_all bytes first end size d stops some few =
     let f = field_of bytes first end d.field stops in
     let within : end - first ≤ length (drop first bytes) = omega (arith, length-drop first bytes, d.field.within) in
-    let long : length (first_field (drop first bytes)) ≡ end - first = ap (λ (t : List ℕ). length t) f.is ∙ length-take-le (end - first) (drop first bytes) within in
+    let lengths : length (first_field (drop first bytes)) ≡ end - first = ap (λ (t : List ℕ). length t) f.is ∙ length-take-le (end - first) (drop first bytes) within in
     record {
-      some = omega (arith, long, some);
+      some = omega (arith, lengths, some);
       digits_are = d.digits ∙ ap all_ascii_digits stops;
       spelled = d.spelled ∙ ap (decimal_after size) stops;
       small = less_than (end - first) size d.small (omega (arith, few));

@@ -29,7 +29,7 @@ IsKept old cells at q None = (j : ℕ) → j < at → same_pair q (get_or old j 
 IsKept old cells at q (Some v) = IsFirst (λ i j. same_pair q (get_or old j 0, get_or cells j 0)) at v × (v < at)
 
 pub record AreNumberedUpTo (old cells first_places : List ℕ) (kept_for : ℕ × ℕ → Option ℕ) (at : ℕ) : Type 0 where
-  pub long : length first_places ≡ length old
+  pub lengths : length first_places ≡ length old
   pub done : (i : ℕ) → i < at → IsFirst (are_alike old cells) i (get_or first_places i 0)
   pub rest : (i : ℕ) → at ≤ i → get_or first_places i 0 ≡ get_or old i 0
   pub kept : (q : ℕ × ℕ) → IsKept old cells at q (kept_for q)
@@ -64,13 +64,13 @@ pub numbered_more : (old cells first_places : List ℕ) (before after : ℕ × �
     → ((q : ℕ × ℕ) → after q ≡ (if same_pair (get_or first_places at 0, get_or cells at 0) q then Some first else before q))
     → AreNumberedUpTo old cells (set first_places at first) after (at + 1)
 numbered_more old cells first_places before after at first l so_far f a =
-    let within : at < length first_places = omega (arith, so_far.long, l) in
+    let within : at < length first_places = omega (arith, so_far.lengths, l) in
     let same : get_or first_places at 0 ≡ get_or old at 0 = so_far.rest at (omega arith) in
     let pair : ◌≡◌ {A = ℕ × ℕ} (get_or first_places at 0, get_or cells at 0) (get_or old at 0, get_or cells at 0) = λ i. (same i, get_or cells at 0) in
     let is : first ≡ unwrap_or (before (get_or old at 0, get_or cells at 0)) at = f ∙ ap (λ p. unwrap_or (before p) at) pair in
     let this : IsFirst (are_alike old cells) at first = subst (IsFirst (are_alike old cells) at) (sym is) (first_at old cells at _ (so_far.kept (get_or old at 0, get_or cells at 0))) in
     record {
-      long = length-set first_places at first ∙ so_far.long;
+      lengths = length-set first_places at first ∙ so_far.lengths;
       done = λ i h. elim (cases_lt i at) [
         | inl lt ↦ let ne : i ≡ at → ⊥ = λ e. omega (arith, e, lt) in subst (IsFirst (are_alike old cells) i) (sym (get_or-set_other first_places at i first 0 ne)) (so_far.done i lt)
         | inr ge ↦ let e : i ≡ at = omega (arith, h, ge) in
@@ -146,9 +146,9 @@ list_all-push p (y ∷ xs) x = ap (λ b. p y && b) (list_all-push p xs x) ∙ as
 pub one_more_column : (columns : List (List ℕ)) (key : List ℕ) (at column : ℕ) (old new cells : List ℕ) → at < length key → column ≡ get_or key at 0
     → cells ≡ get_or columns column [] → length new ≡ length old
     → AreFirsts (have_same_cells columns (take at key)) old → AreFirsts (are_alike old cells) new → AreFirsts (have_same_cells columns (take (at + 1) key)) new
-one_more_column columns key at column old new cells l c e long firsts more = λ i m.
+one_more_column columns key at column old new cells l c e lengths firsts more = λ i m.
     let like = have_same_cells columns (take at key) in
-    let within : i < length old = omega (arith, long, m) in
+    let within : i < length old = omega (arith, lengths, m) in
     first-like (are_alike old cells) (have_same_cells columns (take (at + 1) key)) i (get_or new i 0) (length old) within
     (λ j n.
     ap (λ b. b && nat_eq (get_or cells i 0) (get_or cells j 0))

@@ -106,13 +106,13 @@ place_nowhere p xs d fails =
 repeats : (like : ℕ → ℕ → Bool) (all : List (List Value)) (first_places : List ℕ) → length first_places ≡ length all → AreFirsts like first_places
     → ((i j : ℕ) → i < length all → j < length all → are_same (get_or all i []) (get_or all j []) ≡ like i j)
     → (seen rest : List (List Value)) → all ≡ seen ++ rest → repeat_after seen rest ≡ repeat_from (length seen) (drop (length seen) first_places)
-repeats like all first_places long firsts same seen [] e =
+repeats like all first_places lengths firsts same seen [] e =
     let size : length all ≡ length seen = ap length e ∙ ap length (append-nil seen) in
-    ap (repeat_from (length seen)) (sym (drop_all (length seen) first_places (omega (arith, long, size))))
-repeats like all first_places long firsts same seen (x ∷ rest) e =
+    ap (repeat_from (length seen)) (sym (drop_all (length seen) first_places (omega (arith, lengths, size))))
+repeats like all first_places lengths firsts same seen (x ∷ rest) e =
     let at = length seen in
     let size : length all ≡ length seen + suc (length rest) = ap length e ∙ length-append seen (x ∷ rest) in
-    let within : at < length first_places = omega (arith, long, size) in
+    let within : at < length first_places = omega (arith, lengths, size) in
     let inside : at < length all = omega (arith, size) in
     let first = get_or first_places at 0 in
     let known : IsFirst like at first = firsts at within in
@@ -122,7 +122,7 @@ repeats like all first_places long firsts same seen (x ∷ rest) e =
     let there : get_or all k [] ≡ get_or seen k [] = ap (λ l. get_or l k []) e ∙ get_or-append seen (x ∷ rest) [] k l in
     ap (λ v. are_same v (get_or seen k [])) (sym this) ∙ ap (are_same (get_or all at [])) (sym there) ∙ same at k inside (omega (arith, l, inside)) in
     let next : repeat_after (seen ++ x ∷ []) rest ≡ repeat_from (length (seen ++ x ∷ [])) (drop (length (seen ++ x ∷ [])) first_places) =
-    repeats like all first_places long firsts same (seen ++ x ∷ []) rest (e ∙ sym (append_assoc seen (x ∷ []) rest)) in
+    repeats like all first_places lengths firsts same (seen ++ x ∷ []) rest (e ∙ sym (append_assoc seen (x ∷ []) rest)) in
     let one : length (seen ++ x ∷ []) ≡ at + 1 = length-append seen (x ∷ []) in
     let here : drop at first_places ≡ first ∷ drop (at + 1) first_places = drop_more first_places at 0 within in
     by seen x rest at first first_places known tests (next ∙ ap (λ n. repeat_from n (drop n first_places)) one) here refl
@@ -182,7 +182,7 @@ repeat_is texts different rows kinds columns h key there found is =
     let size : length all ≡ rows = map-length (key_values key) stated ∙ rows-length texts kinds columns rows in
     let at : (i : ℕ) → i < length all → get_or all i [] ≡ key_values key (row_of_columns texts kinds columns i) =
     λ i l. map-at (key_values key) stated i [] (omega (arith, l, size, rows-length texts kinds columns rows)) ∙ ap (key_values key) (rows-at texts kinds columns rows i [] (omega (arith, l, size))) in
-    repeats (have_same_cells columns key) all is.first_places (is.long ∙ sym size) is.firsts
+    repeats (have_same_cells columns key) all is.first_places (is.lengths ∙ sym size) is.firsts
     (λ i j l m. ap (λ v. are_same v (get_or all j [])) (at i l) ∙ ap (are_same (key_values key (row_of_columns texts kinds columns i))) (at j m)
     ∙ same_values texts different rows i j kinds columns (omega (arith, l, size)) (omega (arith, m, size)) h key there)
     [] all refl

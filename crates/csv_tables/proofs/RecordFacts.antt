@@ -106,13 +106,13 @@ turns_after cfg s xs n m (Some p) e h = rw e (ap (λ rest. p.0 ∷ rest) (h p re
 
 pub enough_turns : (cfg : Config) (s : State) (xs : List ℕ) (n m : ℕ) → ends_at_end s ≡ false → length xs < n → length xs < m
     → records_from cfg n s xs ≡ records_from cfg m s xs
-enough_turns cfg s xs zero m between long more = absurd (omega (arith, long))
-enough_turns cfg s xs (suc n) zero between long more = absurd (omega (arith, more))
-enough_turns cfg s xs (suc n) (suc m) between long more =
+enough_turns cfg s xs zero m between lengths more = absurd (omega (arith, lengths))
+enough_turns cfg s xs (suc n) zero between lengths more = absurd (omega (arith, more))
+enough_turns cfg s xs (suc n) (suc m) between lengths more =
     turns_after cfg s xs n m (next_record cfg s [] [] xs) refl (λ p e.
     let t = next_takes cfg s [] [] xs p e in
     let shorter : length p.2 < length xs = t.less between in
-    enough_turns cfg p.1 p.2 n m t.closed (omega (arith, long, shorter)) (omega (arith, more, shorter)))
+    enough_turns cfg p.1 p.2 n m t.closed (omega (arith, lengths, shorter)) (omega (arith, more, shorter)))
 
 pub record Found (cfg : Config) (s : State) (xs : List ℕ) (fields : List (List ℕ)) (s2 : State) (ys : List ℕ) : Type 0 where
   pub between : ends_at_end s2 ≡ false

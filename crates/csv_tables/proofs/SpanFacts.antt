@@ -1,8 +1,8 @@
 -- Steps of the loop that reads the fields of a record.
-use Rattle.std.proofs.Common.{◌≡◌, ℕ, ◌+◌, ◌-◌, ◌<◌, ◌≤◌, min, List, [], ◌∷◌, ◌++◌, length, take, drop, get_or, set, false, refl, sym, ap, ◌∙◌, subst, arith, append_assoc, length-append}
+use Rattle.std.proofs.Common.{◌≡◌, ℕ, ◌+◌, ◌-◌, ◌<◌, ◌≤◌, min, List, [], ◌∷◌, ◌++◌, length, take, drop, get_or, set, false, sym, ap, ◌∙◌, subst, arith, append_assoc, length-append}
 use Rattle.std.specs.Prelude.{All, IfSome, IsUtf8, Some}
 use Rattle.std.proofs.lemmas.List.{append-nil, drop_min, length-map, length-take-le, map-append, take_all, take_more_set, length-set}
-use Rattle.std.proofs.lemmas.List.Elements.{All-nil, All-push}
+use Rattle.std.proofs.lemmas.List.Elements.{All-push}
 use Rattle.plain_records.specs.Plain.{after_line, ends_line, first_field, first_record, before_first, is_comma}
 use Rattle.plain_records.proofs.LineFacts.{split_first}
 use Rattle.plain_records.proofs.OffsetFacts.{line_ends, line_goes_on, utf8_after_byte, utf8_of_field, utf8_after_field}
@@ -10,7 +10,7 @@ use Rattle.csv_tables.specs.declared.fields.Field.{Field}
 use Rattle.csv_tables.specs.Fields.{record_of, text_of, IsFieldAt, IsSpan, ReadsRecord}
 use Rattle.csv_tables.specs.Numbers.{number_of}
 
-text_is : (bytes : List ℕ) (at : ℕ) (field : Field) → IsFieldAt bytes at field → text_of bytes field ≡ first_field (drop at bytes)
+pub text_is : (bytes : List ℕ) (at : ℕ) (field : Field) → IsFieldAt bytes at field → text_of bytes field ≡ first_field (drop at bytes)
 text_is bytes at field f = ap (λ s. take (field.end - s) (drop s bytes)) f.begins ∙ sym f.is_field.is
 
 span_of : (bytes : List ℕ) (at : ℕ) (field : Field) → IsUtf8 bytes → IsUtf8 (drop at bytes) → IsFieldAt bytes at field → IsSpan bytes field
@@ -78,8 +78,8 @@ pub last_field : (bytes : List ℕ) (start at place : ℕ) (fields : List Field)
     → ReadsRecord bytes start (set fields place field) (min (field.end + 1) (length bytes))
 last_field bytes start at place fields field s text f e within last =
     let line = line_ends bytes at field.end f.is_field e in
-    let long : length (set fields place field) ≤ place + 1 = omega (arith, length-set fields place field, last) in
-    let all : take (place + 1) (set fields place field) ≡ set fields place field = take_all (place + 1) (set fields place field) long in
+    let lengths : length (set fields place field) ≤ place + 1 = omega (arith, length-set fields place field, last) in
+    let all : take (place + 1) (set fields place field) ≡ set fields place field = take_all (place + 1) (set fields place field) lengths in
     record {
       fields_are = s.read ∙ ap (λ r. record_of bytes (take place fields) ++ r) (line.fields_are ∙ ap (λ t. t ∷ []) (sym (text_is bytes at field f)))
           ∙ joined bytes place fields field [] within ∙ append-nil (record_of bytes (take (place + 1) (set fields place field))) ∙ ap (record_of bytes) all;
@@ -92,7 +92,8 @@ last_field bytes start at place fields field s text f e within last =
       };
     }
 
-some_field : (bytes : List ℕ) → 0 < length (first_record bytes)
+-- a line has at least one field
+pub some_field : (bytes : List ℕ) → 0 < length (first_record bytes)
 some_field bytes = rw (split_first is_comma (before_first ends_line bytes)) (omega arith)
 
 -- if `place` fields were read and the record goes on, the record has further fields

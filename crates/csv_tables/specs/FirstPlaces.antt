@@ -34,6 +34,6 @@ repeat_from at (first ∷ first_places) = if first == at then repeat_from (at + 
 -- `found` is the first repeat of a key among the first `rows` rows, or None
 pub record IsRepeat (columns : List (List ℕ)) (key : List ℕ) (rows : ℕ) (found : Option Repeat) : Type 0 where
   pub first_places : List ℕ
-  pub long : length first_places ≡ rows
+  pub lengths : length first_places ≡ rows
   pub firsts : AreFirsts (have_same_cells columns key) first_places
   pub found_is : found ≡ repeat_from 0 first_places

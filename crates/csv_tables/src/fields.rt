@@ -192,7 +192,7 @@ pub(crate) fn read_fields(
     fields: &mut [Field],
 ) -> Option<usize>
     requires within { start ≤ length bytes.now }
-    requires long { length fields.old ≡ length numbers.now }
+    requires lengths { length fields.old ≡ length numbers.now }
     requires text { IsUtf8 bytes.now }
     requires cut { IsUtf8 (drop start bytes.now) }
     ensures { MatchOption result (length (first_record (drop start bytes.now)) ≢ length fields.old)

@@ -1,5 +1,5 @@
 //! Finds the declared columns in a file's header.
-ghost use Rattle.std.specs.Prelude.{◌≡◌, ◌<◌, ◌≤◌, All, Err, IfErr, IfOk, IsErrOf, Ok, length};
+ghost use Rattle.std.specs.Prelude.{◌≡◌, ◌<◌, ◌≤◌, Err, IfErr, IfOk, Ok, length};
 ghost use Rattle.std.specs.Str.{str_eq_ignore_ascii_case};
 ghost use Rattle.csv.specs.Records.{fields_of};
 ghost use Rattle.csv_tables.specs.Header.{column_place as named_place, column_places};
@@ -45,7 +45,7 @@ pub(crate) fn places_of(
 ) -> Result<Vec<usize>, TableError>
     requires { length columns.now ≤ 64 }
     ensures ok { IfOk result (λ places. column_places 0 columns.now (fields_of header.now) ≡ Ok places.items) }
-    ensures long { IfOk result (λ places. length places.items ≡ length columns.now) }
+    ensures lengths { IfOk result (λ places. length places.items ≡ length columns.now) }
     ensures refused { IfErr result (IsRefusalOrNoMemory (column_places 0 columns.now (fields_of header.now))) }
 {
     let mut places = Vec::new(alloc);

@@ -36,7 +36,7 @@ fn first_or_insert(
 
 // `first_places` has a number for each row. The call replaces this number by the index of the first row with the same number and the same cell.
 fn number_pairs(alloc: Global, first_places: &mut [u32], cells: &[u64]) -> Result<(), NoMemory>
-    requires long { length first_places.old ≡ length cells.now }
+    requires lengths { length first_places.old ≡ length cells.now }
     requires few { length cells.now ≤ most_rows }
     ensures { OnOk result (AreFirsts (are_alike first_places.old cells.now) first_places.new) }
 {

@@ -5,7 +5,7 @@
 //! number has its bits; the cell of a text has the text's number in the pool, which has each text once. Then declared keys are checked.
 //!
 //! Contracts use `rows_of_file` (in `specs/Files.antt`), which says which rows a file has or why it is refused. They also use `rows_of_cells` and
-//! `AreCellsOf` (in `specs/Cells.antt`), which give the values of cells. Contracts see a `Pool` as the list of its texts. `compare_texts` gives the
+//! `AreCellsOf` (in `specs/Cells.antt`), which give the values of cells. In contracts a `Pool` is the list of its texts. `compare_texts` gives the
 //! order of texts.
 #![tactic(auto)]
 

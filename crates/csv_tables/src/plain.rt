@@ -1,8 +1,8 @@
 //! Reads the records of a file without a quotation mark into cells.
-ghost use Rattle.std.specs.Prelude.{◌≡◌, ◌<◌, ◌≤◌, ◌+◌, ◌^◌, ◌∷◌, [], All, drop, length, List, ℕ, option_map, replicate, slice_index_or, true, vec_len, IfErr, IfOk, IfSome, IsUtf8, OnOk};
+ghost use Rattle.std.specs.Prelude.{◌≡◌, ◌<◌, ◌≤◌, ◌+◌, ◌∷◌, [], All, drop, length, List, option_map, replicate, slice_index_or, true, vec_len, IfErr, IfOk, IfSome, IsUtf8, OnOk};
 ghost use Rattle.limits.specs.Profile.{most_file, most_rows};
 ghost use Rattle.csv.specs.Reading.{strip_bom};
-ghost use Rattle.plain_records.specs.Plain.{after_line, first_record, plain_records};
+ghost use Rattle.plain_records.specs.Plain.{first_record, plain_records};
 ghost use Rattle.csv_tables.specs.Cells.{value_of_cell, IsCell};
 ghost use Rattle.csv_tables.specs.Fields.{record_of, text_of, IsAfterLine, IsSpan};
 ghost use Rattle.csv_tables.specs.NumberRows.{AreNumbersInOrder};
@@ -26,7 +26,7 @@ use schema_types::{Column, Kind};
 use std::alloc::Global;
 
 // The length of the byte order mark at the front, or 0 if there is no mark.
-fn mark_length(bytes: &[u8]) -> usize
+fn byte_order_mark_length(bytes: &[u8]) -> usize
     ensures within { result ≤ length bytes.now }
     ensures rest { drop result bytes.now ≡ strip_bom bytes.now }
 {
@@ -45,7 +45,7 @@ pub(crate) fn offset_after_header(bytes: &[u8]) -> usize
     ensures records { (header : Record) → (records : List Record)
         → plain_records (strip_bom bytes.now) ≡ header ∷ records → plain_records (drop result bytes.now) ≡ records }
 {
-    let start = skip_line_ends(bytes, mark_length(bytes));
+    let start = skip_line_ends(bytes, byte_order_mark_length(bytes));
     line_at(bytes, start).next
 }
 
@@ -142,7 +142,7 @@ fn read_record_at(
 ) -> Result<usize, TableError>
     requires paired { length places.now ≡ length columns.now }
     requires columns { length columns.now ≤ 64 }
-    requires long { length fields.old ≡ length numbers.now }
+    requires lengths { length fields.old ≡ length numbers.now }
     requires file { length bytes.now ≤ most_file }
     requires within { start < length bytes.now }
     requires text { IsUtf8 bytes.now }
@@ -172,8 +172,8 @@ fn read_record_at(
     Ok(next)
 }
 
-// Reads the record that begins at `start`, adds its row to the columns `found`, and returns the byte offset after the record. A record of plain
-// numbers in the order of the columns goes straight into `values`. Any other record is read field by field.
+// Reads the record that begins at `start`, adds its row to the columns `found`, and returns the byte offset after the record. A record of numbers
+// in the order of the columns goes straight into `values`. Any other record is read field by field.
 fn read_row_at(
     columns: &[Column],
     places: &[usize],
@@ -190,7 +190,7 @@ fn read_row_at(
 ) -> Result<usize, TableError>
     requires paired { length places.now ≡ length columns.now }
     requires columns { length columns.now ≤ 64 }
-    requires long { length fields.old ≡ length numbers.now }
+    requires lengths { length fields.old ≡ length numbers.now }
     requires values { length values.old ≡ length numbers.now }
     requires numeric { is_numeric ≡ true → AreNumbersInOrder columns.now places.now (length numbers.now) }
     requires wide { vec_len found.old ≡ length columns.now }

@@ -1,5 +1,5 @@
 //! The texts of tables, each once.
-ghost use Rattle.std.specs.Prelude.{◌≡◌, ◌<◌, ◌^◌, [], All, length, position, slice_get, Some, IfOk, OnOk, OnErr, option_map};
+ghost use Rattle.std.specs.Prelude.{◌≡◌, ◌<◌, ◌^◌, [], All, length, position, slice_get, Some, IfOk, OnOk, OnErr};
 ghost use Rattle.std.specs.List.{position_or_len};
 ghost use Rattle.std.specs.Str.{IsUtf8, bytes_eq};
 ghost use Rattle.csv_tables.specs.Pools.{with_text, TextsAreDifferent};
@@ -9,8 +9,7 @@ use indexmap::IndexSet;
 use std::alloc::Global;
 use std::marker::Model;
 
-/// Different texts, numbered from 0 in the order in which they were added. Contracts see the
-/// list of the texts, each as its bytes.
+/// Different texts, numbered from 0 in the order in which they were added. In contracts a `Pool` is the list of its texts, each as its bytes.
 #[derive(Drop)]
 pub struct Pool {
     texts: IndexSet<String>,

@@ -1,5 +1,5 @@
 //! Reads the records of a file into columns of cells.
-ghost use Rattle.std.specs.Prelude.{◌≡◌, ◌<◌, ◌≤◌, ◌+◌, ◌^◌, ◌∷◌, [], nat_le, length, map, option_map, replicate, slice_index_or, vec_len, IfErr, IfOk, IfSome, IsUtf8, OnOk, Ok};
+ghost use Rattle.std.specs.Prelude.{◌≡◌, ◌<◌, ◌≤◌, ◌+◌, ◌^◌, [], nat_le, length, option_map, replicate, slice_index_or, vec_len, IfErr, IfOk, IfSome, IsUtf8, OnOk, Ok};
 ghost use Rattle.std.specs.Str.{chars};
 ghost use Rattle.limits.specs.Profile.{most_rows};
 ghost use Rattle.csv.specs.Records.{fields_of, AllText};

@@ -4,7 +4,6 @@ ghost use Rattle.std.specs.Str.{is_utf8};
 ghost use Rattle.std.specs.Str.Lossy.{utf8_valid_len};
 ghost use Rattle.limits.specs.Profile.{most_file, most_rows};
 ghost use Rattle.csv.specs.Reading.{strip_bom};
-ghost use Rattle.csv.specs.Records.{fields_of};
 ghost use Rattle.plain_records.specs.Plain.{has_quote};
 ghost use Rattle.schema_types.specs.Validity.{IsValidTable};
 ghost use Rattle.csv_tables.specs.Cells.{rows_of_cells, AreCellsOf};

@@ -109,12 +109,12 @@ head_of_row-fall k f fall m m' h within =
     descends_to (heads k f) (heads-fall k (get_or f 0 0) f fall (omega arith)) (rank f (suc m) - 1) (rank f (suc m') - 1)
     (omega (arith, rank_mono f (suc m) (suc m') (omega arith) (omega arith) within))
 
-pub compressed_from-falls : (k : ℕ) (f : List ℕ) → IsDescending f → (n m : ℕ) → IsDescending (compressed_from k f n m)
-compressed_from-falls k f fall zero m = λ r. omega arith
-compressed_from-falls k f fall (suc n) m =
+pub compressed_from-descends : (k : ℕ) (f : List ℕ) → IsDescending f → (n m : ℕ) → IsDescending (compressed_from k f n m)
+compressed_from-descends k f fall zero m = λ r. omega arith
+compressed_from-descends k f fall (suc n) m =
     let next : ℕ = min (head_of_row k f m) (sum f - m) in
     cond_both (ltb m (sum f)) (next ∷ compressed_from k f n (m + next)) [] IsDescending
-    (λ e. IsDescending-cons next (compressed_from k f n (m + next)) (first n (m + next) next (λ within. omega (arith, head_of_row-fall k f fall m (m + next) (omega arith) within))) (compressed_from-falls k f fall n (m + next)))
+    (λ e. IsDescending-cons next (compressed_from k f n (m + next)) (first n (m + next) next (λ within. omega (arith, head_of_row-fall k f fall m (m + next) (omega arith) within))) (compressed_from-descends k f fall n (m + next)))
     (λ e r. omega arith)
   where
     first : (n m' b : ℕ) → (m' < sum f → min (head_of_row k f m') (sum f - m') ≤ b) → get_or (compressed_from k f n m') 0 0 ≤ b
@@ -124,7 +124,7 @@ compressed_from-falls k f fall (suc n) m =
         (λ e. omega arith)
 
 pub IsDescending-compressed : (k : ℕ) (f : List ℕ) → IsDescending f → IsDescending (compressed k f)
-IsDescending-compressed k f fall = compressed_from-falls k f fall (length f) 0
+IsDescending-compressed k f fall = compressed_from-descends k f fall (length f) 0
 
 pub compressed_dominates : (k : ℕ) (L : List ℕ) → DominatesKeys (compressed k (degree_list L)) L
 compressed_dominates k L A apart = omega (arith, degree_list_dominates L A apart, compressed-above k (degree_list L) (IsDescending-degree_list L) (length A))

@@ -5,7 +5,8 @@ use Rattle.degree_sequences.specs.Descending.{trimmed}
 use Rattle.degree_sequences.specs.RunningSums.{running_sum}
 use Rattle.degree_sequences.specs.Rank.{rank}
 
--- a child of a table: the list of the table's column that joins the child, and the list of the child's class weights
+-- A child of a table. `column` is the list of the column by which the table joins the child. `class` has the weights that the child gives to rows, by
+-- their rank in this column
 pub record ChildLists : Type 0 where
   pub column : List ℕ
   pub class : List ℕ

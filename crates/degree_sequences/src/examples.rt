@@ -1,7 +1,7 @@
 //! What the definitions give for small lists.
 ghost use Rattle.std.specs.Prelude.{◌≡◌, ◌-◌, ◌^◌, ◌∷◌, [], map};
 ghost use Rattle.degree_sequences.specs.ByRank.{rank_product, rank_sum, rank_maximum};
-ghost use Rattle.degree_sequences.specs.Composition.{ChildLists, row_weights, composed, root_total};
+ghost use Rattle.degree_sequences.specs.Composition.{row_weights, composed, root_total};
 ghost use Rattle.degree_sequences.specs.Compression.{heads, compressed};
 ghost use Rattle.degree_sequences.specs.Degrees.{degree_list};
 ghost use Rattle.degree_sequences.specs.RunningSums.{lesser, capped_at};

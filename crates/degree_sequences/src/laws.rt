@@ -1,6 +1,6 @@
 //! Laws of the definitions. Each function does nothing, and its contract is the law.
 ghost use Rattle.std.specs.Prelude.{◌≡◌, ℕ, ◌+◌, ◌-◌, ◌*◌, ◌^◌, ◌<◌, ◌≤◌, ◌==◌, min, max, List, length, map, slice_index};
-ghost use Rattle.std.specs.List.{All, AllByRecursion, Contains, IsDistinct, sum};
+ghost use Rattle.std.specs.List.{All, AllByRecursion, IsDistinct, sum};
 ghost use Rattle.std.specs.List.Sorted.{IsPermutation};
 ghost use Rattle.degree_sequences.specs.ByRank.{rank_product, rank_sum, rank_maximum};
 ghost use Rattle.degree_sequences.specs.Composition.{ChildLists, row_weights, block_sums, composed};
@@ -20,7 +20,7 @@ ghost use Rattle.degree_sequences.specs.Saturation.{saturated};
 pub fn degree_lists()
     ensures different { (keys : List ℕ) → IsDistinct ◌==◌ (different keys) }
     ensures rearranged { (keys : List ℕ) → IsPermutation (map (degree keys) (different keys)) (degree_list keys) }
-    ensures falls { (keys : List ℕ) → IsDescending (degree_list keys) }
+    ensures descends { (keys : List ℕ) → IsDescending (degree_list keys) }
     ensures positive { (keys : List ℕ) → All (λ x. 0 < x) (degree_list keys) }
     ensures sum { (keys : List ℕ) → sum (degree_list keys) ≡ length keys }
     ensures dominates { (keys : List ℕ) → DominatesKeys (degree_list keys) keys }
@@ -61,7 +61,7 @@ pub fn compressions()
     ensures goes_on { (accuracy : ℕ) (f : List ℕ) (r : ℕ) → r < length (compressed accuracy f)
         → running_sum (compressed accuracy f) r < sum f }
     ensures sum { (accuracy : ℕ) (f : List ℕ) → IsDescending f → sum (compressed accuracy f) ≡ sum f }
-    ensures falls { (accuracy : ℕ) (f : List ℕ) → IsDescending f → IsDescending (compressed accuracy f) }
+    ensures descends { (accuracy : ℕ) (f : List ℕ) → IsDescending f → IsDescending (compressed accuracy f) }
     ensures above { (accuracy : ℕ) (f : List ℕ) → IsDescending f → (r : ℕ)
         → running_sum f r ≤ running_sum (compressed accuracy f) r }
     ensures near { (accuracy : ℕ) (f : List ℕ) → IsDescending f → (r : ℕ)
@@ -74,7 +74,7 @@ pub fn compressions()
 pub fn compositions()
     ensures blocks { (parent : List ℕ) (children : List ChildLists) (r : ℕ)
         → running_sum (composed parent children) r ≡ running_sum (row_weights children (sum parent)) (running_sum parent r) }
-    ensures falls { (parent : List ℕ) (children : List ChildLists) → IsDescending parent
+    ensures descends { (parent : List ℕ) (children : List ChildLists) → IsDescending parent
         → AllByRecursion (IsChildOf (sum parent)) children → IsDescending (composed parent children) }
 {}
 

@@ -1,4 +1,4 @@
-ghost use Rattle.std.specs.Prelude.{◌≡◌, ◌↔◌, ◌+◌, ◌-◌, ◌^◌, ◌<◌, ◌==◌, ◌&&◌, ◌||◌, ℕ, true, false, not, IsTrue};
+ghost use Rattle.std.specs.Prelude.{◌≡◌, ◌↔◌, ◌+◌, ◌-◌, ◌^◌, ◌<◌, ◌==◌, ◌&&◌, ◌||◌, ℕ, not, IsTrue};
 ghost use Rattle.std.specs.Int.{bit_at};
 ghost use Rattle.limits.specs.Profile.{greatest_entries};
 ghost use Rattle.entry_sets.specs.Sets.{IsSubset, has_entry};
@@ -6,10 +6,10 @@ ghost use Rattle.entry_sets.specs.Sets.{IsSubset, has_entry};
 use limits::GREATEST_ENTRIES;
 use std::marker::Model;
 
-// A set has a bit for each entry that there may be.
+// A set has a bit for each entry that it may have. A query of the program has fewer entries (`MOST_ENTRIES`).
 const ENTRIES: u8 = GREATEST_ENTRIES as u8;
 
-/// A set of FROM entries. Contracts see it as a number: entry x is in the set if bit x is set.
+/// A set of FROM entries. In contracts it is a number: entry x is in the set if bit x is set.
 #[derive(Clone, Copy, Debug, PartialEq, Eq)]
 pub struct EntrySet {
     bits: u16,

@@ -15,7 +15,6 @@ use Rattle.csv_tables.specs.Values.{Value}
 use Rattle.sql_meaning.specs.Answers.{conjunct_of}
 use Rattle.sql_meaning.specs.Conditions.{cond_holds}
 use Rattle.sql_meaning.specs.Levels as levels
-use Rattle.sql_meaning.specs.Levels.{scan}
 use Rattle.sql_meaning.specs.Tables.{Tables, row_counts}
 use Rattle.degree_sequences.proofs.Counting.{all-count}
 use Rattle.filtered_lists.specs.Filters.{Conjunction, one_conjunction, and_answer, conjunction_of, own_conjuncts, filtered}

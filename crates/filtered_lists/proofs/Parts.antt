@@ -4,7 +4,6 @@ use Rattle.query_grammar.specs.declared.tree.Op.{Op}
 use Rattle.query_types.specs.declared.types.Operand.{Operand}
 use Rattle.query_types.specs.declared.types.Cond.{Cond, And, Or, Not, Compare}
 use Rattle.query_types.specs.declared.types.Cond.TheFolds.{fold-roll-Cond}
-use Rattle.query_types.specs.declared.types.Cond.TheOpen.{Cond-F}
 use Rattle.query_types.specs.declared.types.Cond.TheOpen as layer
 use Rattle.query_types.specs.declared.types.Cond.TheVariants.{rolls-And, rolls-Or, rolls-Not, rolls-Compare}
 use Rattle.filtered_lists.specs.Filters.{ComparisonAnswers, Conjunction, conjunction_step, conjunction_of}

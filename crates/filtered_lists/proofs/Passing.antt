@@ -26,7 +26,7 @@ use Rattle.filtered_lists.specs.Ranges.{Range, from_value, up_to_value, ranges_o
 use Rattle.filtered_lists.specs.Standing.{value_in_row, is_from, is_up_to, has_value, is_in_range}
 use Rattle.filtered_lists.proofs.Ordered.{negated_compares, mirrored_compares, from_greatest, up_to_least}
 
--- answers to comparisons, each a test of an entry's rows
+-- for each comparison a test of an entry's rows
 abbrev pub row_tests : Tables → ℕ → ComparisonAnswers (ℕ → Bool)
 row_tests tables entry = record {
   whole = λ row. true;
@@ -37,17 +37,17 @@ row_tests tables entry = record {
   either = λ p q row. p row || q row;
 }
 
-pub all_of_append : {X : Type 0} (P : X → Type 0) (xs ys : List X) → AllByRecursion P xs → AllByRecursion P ys → AllByRecursion P (xs ++ ys)
-all_of_append P [] ys h k = k
-all_of_append P (x ∷ xs) ys h k = (h.0, all_of_append P xs ys h.1 k)
+pub all_in_append : {X : Type 0} (P : X → Type 0) (xs ys : List X) → AllByRecursion P xs → AllByRecursion P ys → AllByRecursion P (xs ++ ys)
+all_in_append P [] ys h k = k
+all_in_append P (x ∷ xs) ys h k = (h.0, all_in_append P xs ys h.1 k)
 
-pub all_of_front : {X : Type 0} (P : X → Type 0) (xs ys : List X) → AllByRecursion P (xs ++ ys) → AllByRecursion P xs
-all_of_front P [] ys h = tt
-all_of_front P (x ∷ xs) ys h = (h.0, all_of_front P xs ys h.1)
+pub all_in_front : {X : Type 0} (P : X → Type 0) (xs ys : List X) → AllByRecursion P (xs ++ ys) → AllByRecursion P xs
+all_in_front P [] ys h = tt
+all_in_front P (x ∷ xs) ys h = (h.0, all_in_front P xs ys h.1)
 
-pub all_of_back : {X : Type 0} (P : X → Type 0) (xs ys : List X) → AllByRecursion P (xs ++ ys) → AllByRecursion P ys
-all_of_back P [] ys h = h
-all_of_back P (x ∷ xs) ys h = all_of_back P xs ys h.1
+pub all_in_back : {X : Type 0} (P : X → Type 0) (xs ys : List X) → AllByRecursion P (xs ++ ys) → AllByRecursion P ys
+all_in_back P [] ys h = h
+all_in_back P (x ∷ xs) ys h = all_in_back P xs ys h.1
 
 module _ (tables : Tables) (entry row : ℕ) where
   abbrev tests : ComparisonAnswers (ℕ → Bool)
@@ -72,8 +72,8 @@ module _ (tables : Tables) (entry row : ℕ) where
       let first : Passes c = h.0 in
       let rest : Passes (one_conjunction cs) = joined_passes cs h.1 in
       record {
-        ranges = all_of_append IsIn c.ranges (one_conjunction cs).ranges first.ranges rest.ranges;
-        others = all_of_append Holds c.others (one_conjunction cs).others first.others rest.others;
+        ranges = all_in_append IsIn c.ranges (one_conjunction cs).ranges first.ranges rest.ranges;
+        others = all_in_append Holds c.others (one_conjunction cs).others first.others rest.others;
       }
 
   -- ---- a row that is in each range is in the intersection of a column's ranges
@@ -145,7 +145,7 @@ module _ (tables : Tables) (entry row : ℕ) where
 
   pub and_passes : (c : Conjunction (ℕ → Bool)) → Passes c → and_answer tests c row ≡ true
   and_passes c h = all_pass (c.others ++ map tests.range (intersection_for_each_column c.ranges))
-      (all_of_append Holds c.others (map tests.range (intersection_for_each_column c.ranges)) h.others (each (different (map (λ range. range.column) c.ranges))))
+      (all_in_append Holds c.others (map tests.range (intersection_for_each_column c.ranges)) h.others (each (different (map (λ range. range.column) c.ranges))))
     where
       each : (columns : List ℕ) → AllByRecursion Holds (map tests.range (map (intersection_of c.ranges) columns))
       each [] = tt
@@ -219,27 +219,27 @@ module _ (tables : Tables) (entry row : ℕ) where
   -- What the induction over conditions proves: if the condition holds for the row, the row passes the tests made of the condition. Otherwise the
   -- row passes the tests made of the condition's opposite
   abbrev PassesIfHolds : Cond → Type 0
-  PassesIfHolds c = AllByRecursion (λ e. e ≡ entry) (entries_named c) → (holds : Bool) → is_true c ≡ holds → Passes (conjunction_of tests c holds)
+  PassesIfHolds c = AllByRecursion (λ e. e ≡ entry) (entries_named c) → (truth : Bool) → is_true c ≡ truth → Passes (conjunction_of tests c truth)
 
-  abbrev AreNamed : List ((c : Cond) × PassesIfHolds c) → Type 0
-  AreNamed ys = AllByRecursion (λ e. e ≡ entry) (flat_map (λ inner. inner) (map entries_named (map (λ y. y.0) ys)))
+  abbrev NameOnlyTheEntry : List ((c : Cond) × PassesIfHolds c) → Type 0
+  NameOnlyTheEntry ys = AllByRecursion (λ e. e ≡ entry) (flat_map (λ inner. inner) (map entries_named (map (λ y. y.0) ys)))
 
   abbrev member_conjunctions : List ((c : Cond) × PassesIfHolds c) → Bool → List (Conjunction (ℕ → Bool))
-  member_conjunctions ys holds = map (λ member. member holds) (map (conjunction_of tests) (map (λ y. y.0) ys))
+  member_conjunctions ys truth = map (λ member. member truth) (map (conjunction_of tests) (map (λ y. y.0) ys))
 
-  first_named : (y : (c : Cond) × PassesIfHolds c) (ys : List ((c : Cond) × PassesIfHolds c)) → AreNamed (y ∷ ys) → AllByRecursion (λ e. e ≡ entry) (entries_named y.0)
-  first_named y ys named = all_of_front (λ e. e ≡ entry) (entries_named y.0) (flat_map (λ inner. inner) (map entries_named (map (λ y. y.0) ys))) named
+  first_named : (y : (c : Cond) × PassesIfHolds c) (ys : List ((c : Cond) × PassesIfHolds c)) → NameOnlyTheEntry (y ∷ ys) → AllByRecursion (λ e. e ≡ entry) (entries_named y.0)
+  first_named y ys named = all_in_front (λ e. e ≡ entry) (entries_named y.0) (flat_map (λ inner. inner) (map entries_named (map (λ y. y.0) ys))) named
 
-  rest_named : (y : (c : Cond) × PassesIfHolds c) (ys : List ((c : Cond) × PassesIfHolds c)) → AreNamed (y ∷ ys) → AreNamed ys
-  rest_named y ys named = all_of_back (λ e. e ≡ entry) (entries_named y.0) (flat_map (λ inner. inner) (map entries_named (map (λ y. y.0) ys))) named
+  rest_named : (y : (c : Cond) × PassesIfHolds c) (ys : List ((c : Cond) × PassesIfHolds c)) → NameOnlyTheEntry (y ∷ ys) → NameOnlyTheEntry ys
+  rest_named y ys named = all_in_back (λ e. e ≡ entry) (entries_named y.0) (flat_map (λ inner. inner) (map entries_named (map (λ y. y.0) ys))) named
 
-  each_true : (ys : List ((c : Cond) × PassesIfHolds c)) → AreNamed ys → meaning.all_of (map is_true (map (λ y. y.0) ys)) ≡ true → AllByRecursion Passes (member_conjunctions ys true)
+  each_true : (ys : List ((c : Cond) × PassesIfHolds c)) → NameOnlyTheEntry ys → meaning.all_of (map is_true (map (λ y. y.0) ys)) ≡ true → AllByRecursion Passes (member_conjunctions ys true)
   each_true [] named h = tt
   each_true (y ∷ ys) named h =
       let parts = and_parts (is_true y.0) (meaning.all_of (map is_true (map (λ y. y.0) ys))) h in
       (y.1 (first_named y ys named) true parts.0, each_true ys (rest_named y ys named) parts.1)
 
-  some_false : (so_far : ℕ → Bool) (ys : List ((c : Cond) × PassesIfHolds c)) → AreNamed ys → meaning.all_of (map is_true (map (λ y. y.0) ys)) ≡ false
+  some_false : (so_far : ℕ → Bool) (ys : List ((c : Cond) × PassesIfHolds c)) → NameOnlyTheEntry ys → meaning.all_of (map is_true (map (λ y. y.0) ys)) ≡ false
       → or_more tests so_far (map (and_answer tests) (member_conjunctions ys false)) row ≡ true
   some_false so_far [] named h = cc
   some_false so_far (y ∷ ys) named h =
@@ -250,7 +250,7 @@ module _ (tables : Tables) (entry row : ℕ) where
             (or_right (so_far row) (here row) (and_passes (conjunction_of tests y.0 false) (y.1 (first_named y ys named) false n)))
       ]
 
-  some_true : (so_far : ℕ → Bool) (ys : List ((c : Cond) × PassesIfHolds c)) → AreNamed ys → meaning.any_of (map is_true (map (λ y. y.0) ys)) ≡ true
+  some_true : (so_far : ℕ → Bool) (ys : List ((c : Cond) × PassesIfHolds c)) → NameOnlyTheEntry ys → meaning.any_of (map is_true (map (λ y. y.0) ys)) ≡ true
       → or_more tests so_far (map (and_answer tests) (member_conjunctions ys true)) row ≡ true
   some_true so_far [] named h = cc
   some_true so_far (y ∷ ys) named h =
@@ -261,14 +261,14 @@ module _ (tables : Tables) (entry row : ℕ) where
         | inr n ↦ some_true (λ row. so_far row || here row) ys (rest_named y ys named) (rw n at h)
       ]
 
-  each_false : (ys : List ((c : Cond) × PassesIfHolds c)) → AreNamed ys → meaning.any_of (map is_true (map (λ y. y.0) ys)) ≡ false → AllByRecursion Passes (member_conjunctions ys false)
+  each_false : (ys : List ((c : Cond) × PassesIfHolds c)) → NameOnlyTheEntry ys → meaning.any_of (map is_true (map (λ y. y.0) ys)) ≡ false → AllByRecursion Passes (member_conjunctions ys false)
   each_false [] named h = tt
   each_false (y ∷ ys) named h = elim (cases_Bool (is_true y.0)) [
     | inl t ↦ (let no : true ≡ false = rw t at h in absurd (cc))
     | inr n ↦ (y.1 (first_named y ys named) false n, each_false ys (rest_named y ys named) (rw n at h))
   ]
 
-  value_of_negation : (b holds : Bool) → not b ≡ holds → b ≡ not holds
+  value_of_negation : (b truth : Bool) → not b ≡ truth → b ≡ not truth
   value_of_negation true true h = cc
   value_of_negation true false h = refl
   value_of_negation false true h = refl
@@ -276,8 +276,8 @@ module _ (tables : Tables) (entry row : ℕ) where
 
   passes_by_layer : (y : Cond-F ((c : Cond) × PassesIfHolds c))
       → AllByRecursion (λ e. e ≡ entry) (entries_step (map-Cond Cond (List ℕ) entries_named (map-Cond ((c : Cond) × PassesIfHolds c) Cond (λ e. e.0) y)))
-      → (holds : Bool) → holds_step tables (λ e. row) (map-Cond Cond Bool is_true (map-Cond ((c : Cond) × PassesIfHolds c) Cond (λ e. e.0) y)) ≡ holds
-      → Passes (conjunction_step tests (map-Cond Cond (Bool → Conjunction (ℕ → Bool)) (conjunction_of tests) (map-Cond ((c : Cond) × PassesIfHolds c) Cond (λ e. e.0) y)) holds)
+      → (truth : Bool) → holds_step tables (λ e. row) (map-Cond Cond Bool is_true (map-Cond ((c : Cond) × PassesIfHolds c) Cond (λ e. e.0) y)) ≡ truth
+      → Passes (conjunction_step tests (map-Cond Cond (Bool → Conjunction (ℕ → Bool)) (conjunction_of tests) (map-Cond ((c : Cond) × PassesIfHolds c) Cond (λ e. e.0) y)) truth)
   passes_by_layer (layer.And ys) named true h = joined_passes (member_conjunctions ys true) (each_true ys named h)
   passes_by_layer (layer.And ys) named false h = passes_answer (or_answer tests (member_conjunctions ys false)) (some_false tests.none ys named h)
   passes_by_layer (layer.Or ys) named true h = passes_answer (or_answer tests (member_conjunctions ys true)) (some_true tests.none ys named h)
@@ -289,8 +289,8 @@ module _ (tables : Tables) (entry row : ℕ) where
       (negated_compares o (value_cmp (operand_value tables (λ e. row) left) (operand_value tables (λ e. row) right)) h)
 
   pub passes_if_holds : (c : Cond) → PassesIfHolds c
-  passes_if_holds = ind-Cond PassesIfHolds (λ x y is. subst (λ x. PassesIfHolds (roll-Cond x)) is (λ named holds h.
+  passes_if_holds = ind-Cond PassesIfHolds (λ x y is. subst (λ x. PassesIfHolds (roll-Cond x)) is (λ named truth h.
       let inner : Cond-F Cond = map-Cond ((c : Cond) × PassesIfHolds c) Cond (λ e. e.0) y in
-      subst (λ (f : Bool → Conjunction (ℕ → Bool)). Passes (f holds)) (sym (fold-roll-Cond (Bool → Conjunction (ℕ → Bool)) (conjunction_step tests) inner))
-      (passes_by_layer y (subst (AllByRecursion (λ e. e ≡ entry)) (fold-roll-Cond (List ℕ) entries_step inner) named) holds
+      subst (λ (f : Bool → Conjunction (ℕ → Bool)). Passes (f truth)) (sym (fold-roll-Cond (Bool → Conjunction (ℕ → Bool)) (conjunction_step tests) inner))
+      (passes_by_layer y (subst (AllByRecursion (λ e. e ≡ entry)) (fold-roll-Cond (List ℕ) entries_step inner) named) truth
       (sym (fold-roll-Cond Bool (holds_step tables (λ e. row)) inner) ∙ h))))

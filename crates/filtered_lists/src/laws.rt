@@ -37,7 +37,7 @@ pub fn row_bounds_are_sums()
 /// The filtered list is in descending order if the statistics' lists are. At every rank its running sum is at most that of the list of all rows.
 /// Without own conjuncts the row bound is the number of all rows. The filtered list is then the list of all rows, if this list has no zeros.
 pub fn filters_stay_within_the_whole()
-    ensures falls { (lists : ColumnLists) (entry : ℕ) (conjuncts : List Cond) → ListsDescend lists
+    ensures descends { (lists : ColumnLists) (entry : ℕ) (conjuncts : List Cond) → ListsDescend lists
         → IsDescending (filtered_list lists entry conjuncts) }
     ensures within { (lists : ColumnLists) (entry : ℕ) (conjuncts : List Cond)
         → HasHigherSums lists.whole (filtered_list lists entry conjuncts) }

@@ -31,7 +31,7 @@ use Rattle.filtered_lists.specs.Ranges.{Range, from_value, intersection_of, inte
 use Rattle.predicate_bounds.specs.declared.steps.Step.{Step}
 use Rattle.predicate_bounds.specs.declared.steps.Step.TheVariants as step
 use Rattle.predicate_bounds.specs.Steps.{step_answers, steps_of}
-use Rattle.filtered_lists.proofs.Passing.{all_of_append, all_of_front, all_of_back}
+use Rattle.filtered_lists.proofs.Passing.{all_in_append, all_in_front, all_in_back}
 use Rattle.filtered_lists.proofs.Counting.{names_only_entry}
 use Rattle.gathered_stats.specs.Asked.{AsksWithin}
 
@@ -49,10 +49,10 @@ module _ (cells : Cells) where
     pub others : AllByRecursion AskWithin c.others
 
   both_within : (x y : List Step) → AskWithin x → AskWithin y → AskWithin (x ++ (y ++ step.And ∷ []))
-  both_within x y h k = all_of_append (AsksWithin cells) x (y ++ step.And ∷ []) h (all_of_append (AsksWithin cells) y (step.And ∷ []) k (tt, tt))
+  both_within x y h k = all_in_append (AsksWithin cells) x (y ++ step.And ∷ []) h (all_in_append (AsksWithin cells) y (step.And ∷ []) k (tt, tt))
 
   either_within : (x y : List Step) → AskWithin x → AskWithin y → AskWithin (x ++ (y ++ step.Or ∷ []))
-  either_within x y h k = all_of_append (AsksWithin cells) x (y ++ step.Or ∷ []) h (all_of_append (AsksWithin cells) y (step.Or ∷ []) k (tt, tt))
+  either_within x y h k = all_in_append (AsksWithin cells) x (y ++ step.Or ∷ []) h (all_in_append (AsksWithin cells) y (step.Or ∷ []) k (tt, tt))
 
   more_within : (x : List Step) (xs : List (List Step)) → AskWithin x → AllByRecursion AskWithin xs → AskWithin (and_more step_answers x xs)
   more_within x [] h k = h
@@ -82,7 +82,7 @@ module _ (cells : Cells) where
   and_within : (c : Conjunction (List Step)) → IsWithin c → AskWithin (and_answer step_answers c)
   and_within c h =
       all_within (c.others ++ map step_answers.range (intersection_for_each_column c.ranges))
-      (all_of_append AskWithin c.others (map step_answers.range (intersection_for_each_column c.ranges)) h.others
+      (all_in_append AskWithin c.others (map step_answers.range (intersection_for_each_column c.ranges)) h.others
       (ranges_within c.ranges (different (map (λ range. range.column) c.ranges)) (different_exist (map (λ range. range.column) c.ranges) (columns_exist c.ranges h.ranges))))
 
   each_within : (cs : List (Conjunction (List Step))) → AllByRecursion IsWithin cs → AllByRecursion AskWithin (map (and_answer step_answers) cs)
@@ -98,8 +98,8 @@ module _ (cells : Cells) where
       let first : IsWithin c = h.0 in
       let rest : IsWithin (one_conjunction cs) = joined_within cs h.1 in
       record {
-        ranges = all_of_append (λ range. Exists range.column) c.ranges (one_conjunction cs).ranges first.ranges rest.ranges;
-        others = all_of_append AskWithin c.others (one_conjunction cs).others first.others rest.others;
+        ranges = all_in_append (λ range. Exists range.column) c.ranges (one_conjunction cs).ranges first.ranges rest.ranges;
+        others = all_in_append AskWithin c.others (one_conjunction cs).others first.others rest.others;
       }
 
   comparison_within : (o : Op) (column : ℕ) (value : Value) → Exists column → IsWithin (of_comparison step_answers o column value)
@@ -157,8 +157,8 @@ module _ (db : Database) (entry : ℕ) where
       → AreOwn (flat_map (λ inner. inner) (map entries_named (conds_in ys))) → (holds : Bool) → AllByRecursion IsIn (within ys holds)
   members [] asked own holds = tt
   members (y ∷ ys) asked own holds = (
-    y.1 asked.0 (all_of_front (λ e. e ≡ entry) (entries_named y.0) (flat_map (λ inner. inner) (map entries_named (conds_in ys))) own) holds,
-    members ys asked.1 (all_of_back (λ e. e ≡ entry) (entries_named y.0) (flat_map (λ inner. inner) (map entries_named (conds_in ys))) own) holds,
+    y.1 asked.0 (all_in_front (λ e. e ≡ entry) (entries_named y.0) (flat_map (λ inner. inner) (map entries_named (conds_in ys))) own) holds,
+    members ys asked.1 (all_in_back (λ e. e ≡ entry) (entries_named y.0) (flat_map (λ inner. inner) (map entries_named (conds_in ys))) own) holds,
   )
 
   layers : (y : Cond-F ((c : Cond) × StepsHaveColumns c)) → IsWellTyped db (roll-Cond (map-Cond ((c : Cond) × StepsHaveColumns c) Cond (λ e. e.0) y))

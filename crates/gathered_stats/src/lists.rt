@@ -1,6 +1,6 @@
 //! Makes the list of each step, for the keys of one joined column. A step is a comparison of an own conjunct, an AND or an OR
 //! (`predicate_bounds`).
-ghost use Rattle.std.specs.Prelude.{◌≡◌, ◌^◌, ◌≤◌, All, length, map, true, IfOk, IsTrue, OnOk, option_map};
+ghost use Rattle.std.specs.Prelude.{◌≡◌, ◌^◌, ◌≤◌, All, length, map, true, IfOk, IsTrue, OnOk};
 ghost use Rattle.std.specs.List.{list_any, sum, zip};
 ghost use Rattle.cond_stats.specs.Lists.{compressed_degrees, list_of_value};
 ghost use Rattle.filtered_lists.specs.Lists.{ColumnLists};

@@ -1,5 +1,5 @@
 //! Reserves the memory of an order, and joins by the order. Both calls are those of the order's join tree.
-ghost use Rattle.std.specs.Prelude.{◌≡◌, ◌+◌, ◌≤◌, ℕ, not, if◌then◌else◌, [], ◌∷◌, IfOk, length};
+ghost use Rattle.std.specs.Prelude.{◌≡◌, ◌+◌, ◌≤◌, ℕ, not, if◌then◌else◌, [], IfOk, length};
 ghost use Rattle.limits.specs.Profile.{most_entries};
 ghost use Rattle.plans.specs.LeftDeep.{IsPlan};
 ghost use Rattle.plans.specs.Orders.{level_node as node_of_level, tree_of_order as tree_of};

@@ -1,5 +1,5 @@
 //! Join trees: the best one of a query, and the rows of its nodes.
-ghost use Rattle.std.specs.Prelude.{◌≡◌, ℕ, ◌<◌, IfOk, length};
+ghost use Rattle.std.specs.Prelude.{◌<◌, IfOk, length};
 ghost use Rattle.std.specs.List.{AllByRecursion};
 ghost use Rattle.sql_meaning.specs.Databases.{IsDatabaseOf};
 ghost use Rattle.tree_rows.specs.Nodes.{node_at};

@@ -1,10 +1,9 @@
 //! Builds a query that joins three tables in a triangle, and its database; a test finds its four choices.
 //!
 //! The contracts say that this query and this database are those of the worked example in sql_meaning's specs.
-ghost use Rattle.std.specs.Prelude.{◌≡◌, ◌∷◌, [], length, IfOk};
+ghost use Rattle.std.specs.Prelude.{◌≡◌, ◌∷◌, [], IfOk};
 ghost use Rattle.query_grammar.specs.declared.tree.Op.TheVariants as op;
 ghost use Rattle.query_types.specs.declared.types.Cond.{Compare};
-ghost use Rattle.sql_meaning.specs.Databases.{IsDatabaseOf};
 ghost use Rattle.sql_meaning.specs.Examples.{column_at, three_rows, triangle, triangle_tables};
 
 use base_io::{Name, NoMemory, Seq};

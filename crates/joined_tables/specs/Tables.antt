@@ -5,7 +5,7 @@ use Rattle.std.specs.List.{filter, flat_map, list_any}
 use Rattle.joined_tables.specs.declared.joins.Join.{Join}
 use Rattle.joined_tables.specs.declared.joins.Join.TheVariants.{Anti, Full, Left, Right, Semi}
 
--- a row has for each column the number of a value, or None for the null value
+-- a row has for each column a number that stands for its value, or None for the null value
 abbrev pub RowWithNulls : Type 0
 RowWithNulls = List (Option ℕ)
 

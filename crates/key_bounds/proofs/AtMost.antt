@@ -44,7 +44,7 @@ module _ (schema : Schema) (query : Query) (tables : Tables) (accuracy subset : 
 
   base_has : (entry column : ℕ) → entry < length query.from → is_among (joined_columns query) entry column ≡ true → HasList base entry column
   base_has entry column entry_in_range among = record {
-    falls = subst IsDescending (sym (base_list entry column among)) (keyed_falls query tables accuracy entry [] column);
+    descends = subst IsDescending (sym (base_list entry column among)) (keyed_falls query tables accuracy entry [] column);
     total = ap (λ (s : List ℕ). sum s) (base_list entry column among) ∙ keyed_sum query tables accuracy entry [] column ∙ sym (base_rows entry entry_in_range);
   }
 

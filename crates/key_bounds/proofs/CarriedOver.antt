@@ -1,5 +1,5 @@
 -- Statistics that are gathered over the widened table's rows have exactly the lists that are carried along the equality.
-use Rattle.std.proofs.Common.{◌≡◌, ℕ, ◌+◌, ◌-◌, ◌^◌, ◌<◌, ◌≤◌, min, eqb, List, [], ◌∷◌, ◌++◌, length, map, take, get_or, Option, Some, option_map, find, slice_get, sum, refl, ap, sym, ◌∙◌, subst, inl, inr, ◌⊎◌, arith}
+use Rattle.std.proofs.Common.{◌≡◌, ℕ, ◌+◌, ◌-◌, ◌<◌, ◌≤◌, min, eqb, List, [], ◌∷◌, ◌++◌, length, map, take, get_or, Option, Some, option_map, sum, refl, ap, sym, ◌∙◌, subst, inl, inr, ◌⊎◌, arith}
 use Rattle.std.specs.Prelude.{slice_index_or}
 use Rattle.std.specs.List.{All, Contains, IsDistinct, filter}
 use Rattle.std.proofs.lemmas.List.{get_or-map, length-map, map-append, take_more}

@@ -1,5 +1,5 @@
 -- Rows of one entry are paired with rows of another entry. The lists made from the cells of these rows are equal to the lists made from their values.
-use Rattle.std.proofs.Common.{◌≡◌, ℕ, ◌<◌, List, [], length, map, get_or, pos, Option, ap, sym, ◌∙◌, subst, arith}
+use Rattle.std.proofs.Common.{◌≡◌, ℕ, ◌<◌, List, [], length, map, get_or, pos, ap, sym, ◌∙◌, subst, arith}
 use Rattle.std.specs.Prelude.{slice_index_or}
 use Rattle.std.specs.List.{All, zip}
 use Rattle.std.proofs.lemmas.List.{ext_get_or, get_or-map, length-map}

@@ -139,22 +139,22 @@ module _ (schema : Schema) (query : Query) (subset part : ℕ) (within : IsSubse
 
 -- ---- the rest of the set is a part too
 
-module _ (query : Query) (subset part rest : ℕ) (falls : ConsistsOfParts (equalities_of query) subset part rest) where
+module _ (query : Query) (subset part rest : ℕ) (parted : ConsistsOfParts (equalities_of query) subset part rest) where
   rest_within : IsSubset rest subset
-  rest_within entry has = (and_parts (has_entry subset entry) (not (has_entry part entry)) (sym (falls.others entry) ∙ has)).0
+  rest_within entry has = (and_parts (has_entry subset entry) (not (has_entry part entry)) (sym (parted.others entry) ∙ has)).0
 
   rest_unjoined : AreUnjoined (equalities_of query) subset rest
   rest_unjoined =
       from_members (λ e. has_entry rest e.left.entry ≡ has_entry rest e.right.entry) (equalities_within subset (equalities_of query)) (λ e there.
       let joins = (from_filter (joins_within subset) (equalities_of query) e there).1 in
       let both = and_parts (has_entry subset e.left.entry) (has_entry subset e.right.entry) joins in
-      falls.others e.left.entry ∙ ap (λ (b : Bool). b && not (has_entry part e.left.entry)) (both.0 ∙ sym both.1)
-      ∙ ap (λ (b : Bool). has_entry subset e.right.entry && not b) (at_member (λ e. has_entry part e.left.entry ≡ has_entry part e.right.entry) (equalities_within subset (equalities_of query)) falls.unjoined e there)
-      ∙ sym (falls.others e.right.entry))
+      parted.others e.left.entry ∙ ap (λ (b : Bool). b && not (has_entry part e.left.entry)) (both.0 ∙ sym both.1)
+      ∙ ap (λ (b : Bool). has_entry subset e.right.entry && not b) (at_member (λ e. has_entry part e.left.entry ≡ has_entry part e.right.entry) (equalities_within subset (equalities_of query)) parted.unjoined e there)
+      ∙ sym (parted.others e.right.entry))
 
 pub depends_on_parts : (schema : Schema) (query : Query) (tables : Tables) (accuracy : ℕ) → EachNamedColumn (λ entry column. entry < length query.from) (equalities_of query)
     → DependsOnPartsOnly (bounds_by_keys schema query tables accuracy) (equalities_of query)
-depends_on_parts schema query tables accuracy named subset part rest falls = (
-  same_bound schema query subset part falls.within falls.unjoined tables accuracy named,
-  same_bound schema query subset rest (rest_within query subset part rest falls) (rest_unjoined query subset part rest falls) tables accuracy named,
+depends_on_parts schema query tables accuracy named subset part rest parted = (
+  same_bound schema query subset part parted.within parted.unjoined tables accuracy named,
+  same_bound schema query subset rest (rest_within query subset part rest parted) (rest_unjoined query subset part rest parted) tables accuracy named,
 )

@@ -100,7 +100,7 @@ module _ (schema : Schema) (query : Query) (tables : Tables) (accuracy subset : 
 
   pub has_list : (entry column : ℕ) → entry < length query.from → is_among (joined_columns query) entry column ≡ true → HasList bounds entry column
   has_list entry column entry_in_range among = record {
-    falls = subst IsDescending (sym (list_is entry column among)) (keyed_falls query tables accuracy entry (carried_edges_to entry) column);
+    descends = subst IsDescending (sym (list_is entry column among)) (keyed_falls query tables accuracy entry (carried_edges_to entry) column);
     total = ap (λ (s : List ℕ). sum s) (list_is entry column among) ∙ keyed_sum query tables accuracy entry (carried_edges_to entry) column ∙ sym (rows_are entry entry_in_range);
   }
 

@@ -1,9 +1,9 @@
 -- The row to which a row refers is found by its cell.
-use Rattle.std.proofs.Common.{◌≡◌, ℕ, ◌+◌, ◌<◌, ◌≤◌, Bool, true, false, cond, eqb, ltb, List, [], ◌∷◌, ◌++◌, length, map, get_or, Option, None, Some, option_map, refl, ap, sym, ◌∙◌, subst, arith, inl, inr}
+use Rattle.std.proofs.Common.{◌≡◌, ℕ, ◌+◌, ◌<◌, Bool, cond, eqb, ltb, List, [], ◌∷◌, ◌++◌, length, map, get_or, Option, None, Some, option_map, refl, ap, sym, ◌∙◌, arith}
 use Rattle.std.specs.Prelude.{All, IsUtf8}
 use Rattle.std.specs.List.{cons_option, filter_map, position_or_len, range_with_len}
 use Rattle.std.specs.Ordering.{is_eq}
-use Rattle.std.proofs.lemmas.Bool.{cases_Bool, eq-eqb, eqb-true, le-ltb, lt-ltb, ne_eqb}
+use Rattle.std.proofs.lemmas.Bool.{eq-eqb, le-ltb, lt-ltb, ne_eqb}
 use Rattle.std.proofs.lemmas.List.{append-nil, map-append}
 use Rattle.std.proofs.lemmas.List.Elements.{filter_map-append}
 use Rattle.std.proofs.lemmas.List.FromFn.{get_or-range_with_len, length-range_with_len}
@@ -71,17 +71,17 @@ module _ (db : Database) (e : Edge) (tables : AreTables db) (different : TextsAr
     pub first_is : (o : Option ℕ) → IsPlaceOf right_cells cell 0 o → o ≡ referred_row (tables_of db) e row
     first_is (Some place) is =
         let below : place < row_counts (tables_of db) e.right.entry = omega (arith, is.below_end, right_count) in
-        let long : length others ≡ row_counts (tables_of db) e.right.entry = length-range_with_len 0 (row_counts (tables_of db) e.right.entry) in
+        let lengths : length others ≡ row_counts (tables_of db) e.right.entry = length-range_with_len 0 (row_counts (tables_of db) e.right.entry) in
         let at : position_or_len passes others ≡ place =
-        position_or_len_is passes others place 0 (omega (arith, below, long))
+        position_or_len_is passes others place 0 (omega (arith, below, lengths))
         (λ k less. passes_at k (omega (arith, less, below)) ∙ ne_eqb cell (get_or right_cells k 0) (λ same. is.least k (omega arith) less (sym same)))
         (λ within. passes_at place below ∙ eq-eqb cell (get_or right_cells place 0) (sym is.holds)) in
-        sym (ap (λ (n : ℕ). cond (ltb n (length others)) (Some n) None) at ∙ ap (λ (b : Bool). cond b (Some place) None) (lt-ltb place (length others) (omega (arith, below, long))))
+        sym (ap (λ (n : ℕ). cond (ltb n (length others)) (Some n) None) at ∙ ap (λ (b : Bool). cond b (Some place) None) (lt-ltb place (length others) (omega (arith, below, lengths))))
     first_is None is =
-        let long : length others ≡ row_counts (tables_of db) e.right.entry = length-range_with_len 0 (row_counts (tables_of db) e.right.entry) in
+        let lengths : length others ≡ row_counts (tables_of db) e.right.entry = length-range_with_len 0 (row_counts (tables_of db) e.right.entry) in
         let at : position_or_len passes others ≡ length others =
         position_or_len_is passes others (length others) 0 (omega arith)
-        (λ k less. let row_exists : k < row_counts (tables_of db) e.right.entry = omega (arith, less, long) in
+        (λ k less. let row_exists : k < row_counts (tables_of db) e.right.entry = omega (arith, less, lengths) in
         passes_at k row_exists ∙ ne_eqb cell (get_or right_cells k 0) (λ same. is k (omega arith) (omega (arith, row_exists, right_count)) (sym same)))
         (λ within. absurd (omega arith)) in
         sym (ap (λ (n : ℕ). cond (ltb n (length others)) (Some n) None) at ∙ ap (λ (b : Bool). cond b (Some (length others)) None) (le-ltb (length others) (length others) (omega arith)))

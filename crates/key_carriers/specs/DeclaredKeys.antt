@@ -1,11 +1,9 @@
 -- Tables in which the declared keys hold. They hold in all tables that were read from files.
 use Rattle.std.specs.Prelude.{◌≡◌, ℕ, ◌<◌, true}
-use Rattle.std.specs.List.{AllByRecursion}
 use Rattle.std.specs.Ordering.{is_eq}
 use Rattle.csv_tables.specs.Values.{value_cmp}
 use Rattle.schema_types.specs.declared.types.Schema.{Schema}
 use Rattle.query_types.specs.declared.types.Query.{Query}
-use Rattle.berge_tree.specs.Equalities.{places_of}
 use Rattle.join_graph.specs.Conjuncts.{equalities_of}
 use Rattle.tree_bounds.specs.Columns.{EachNamedColumn}
 use Rattle.sql_meaning.specs.Tables.{Tables, row_counts}

@@ -10,7 +10,7 @@ use crate::key_rows::KeyRows;
 use base_io::NoMemory;
 use berge_tree::{Edge, Place};
 use csv_tables::Database;
-use join_steps::{cells_of_column, texts_are_different};
+use join_steps::{cells_of_column, recall_texts_are_different};
 use query_types::ColumnRef;
 use std::alloc::Global;
 
@@ -54,7 +54,7 @@ pub fn widened_rows(alloc: Global, db: &Database, edge: Edge) -> Result<Widened,
     ensures rows { IfOk result (λ made. made.rows.items ≡ referring (tables_of db.now) edge) }
     ensures others { IfOk result (λ made. made.others.items ≡ referred (tables_of db.now) edge) }
 {
-    texts_are_different(&db.pool);
+    recall_texts_are_different(&db.pool);
     let left = cells_of_column(db, column_at_place(edge.left));
     let right = cells_of_column(db, column_at_place(edge.right));
     let key = KeyRows::new(alloc, right)?;

@@ -1,11 +1,10 @@
 -- Carried lists dominate the keys of the rows that refer to a row of the carrier's scan. Carried row bounds are at least the number of these rows.
-use Rattle.std.proofs.Common.{◌≡◌, ◌↔◌, ℕ, ◌+◌, ◌<◌, ◌≤◌, Bool, true, cond, List, [], ◌∷◌, length, map, get_or, pos, Option, None, Some, option_map, refl, ap, sym, ◌∙◌, subst, sum, arith, inl, inr}
+use Rattle.std.proofs.Common.{◌≡◌, ◌↔◌, ℕ, ◌<◌, ◌≤◌, Bool, true, cond, List, [], ◌∷◌, length, map, get_or, pos, Option, None, Some, option_map, refl, ap, sym, ◌∙◌, subst, sum, arith, inl, inr}
 use Rattle.std.specs.List.{Contains, cons_option, filter, filter_map, range_with_len}
 use Rattle.std.proofs.Math.ListN.{get_or-map as default_map}
 use Rattle.std.proofs.Math.Path.{fun_ext}
 use Rattle.std.proofs.lemmas.Bool.{cases_Bool}
 use Rattle.std.proofs.lemmas.List.{get_or-map, length-map}
-use Rattle.std.proofs.lemmas.List.Elements.{Contains-get_or}
 use Rattle.std.proofs.lemmas.List.FromFn.{fill_by_all}
 use Rattle.csv_tables.specs.Rows.{Row}
 use Rattle.csv_tables.specs.Values.{Value, Int, value_cmp}
@@ -19,9 +18,8 @@ use Rattle.sql_meaning.specs.Answers.{conjuncts_of, conjunct_of}
 use Rattle.sql_meaning.specs.Levels.{passes_own}
 use Rattle.sql_meaning.specs.Tables.{Tables, row_counts}
 use Rattle.level_bounds.specs.Keys.{value_at}
-use Rattle.level_bounds.proofs.Lists.{from_filter_map, from_map, map_of_map, range_within}
-use Rattle.filtered_lists.specs.Lists.{ColumnLists}
-use Rattle.filtered_lists.specs.Standing.{scan_of, ListsStandFor}
+use Rattle.level_bounds.proofs.Lists.{map_of_map, range_within}
+use Rattle.filtered_lists.specs.Standing.{scan_of}
 use Rattle.filtered_lists.proofs.Counting.{count_is_enough, list_dominates}
 use Rattle.filtered_lists.proofs.Lists.{filtered_descends, sum-filtered}
 use Rattle.table_stats.specs.Columns.{value_of_row}
@@ -115,14 +113,14 @@ module _ (query : Query) (tables : Tables) (e : Edge) where
   -- ---- the carried lists dominate the keys of the referring rows
 
   module _ (accuracy column : ℕ) where
-    abbrev joined : List Value
-    joined = values_at tables e.left.entry column (referring tables e)
+    abbrev joined_values : List Value
+    joined_values = values_at tables e.left.entry column (referring tables e)
 
-    joined_length : length joined ≡ row_counts there e.right.entry
+    joined_length : length joined_values ≡ row_counts there e.right.entry
     joined_length =
         length-map (referring tables e) (value_at tables e.left.entry column) ∙ length-map pairs (λ (pair : ℕ × ℕ). pair.0) ∙ sym count_there
 
-    value_there : (n : ℕ) → n < length joined → value_of_row joined n ≡ value_at tables e.left.entry column (get_or (referring tables e) n 0)
+    value_there : (n : ℕ) → n < length joined_values → value_of_row joined_values n ≡ value_at tables e.left.entry column (get_or (referring tables e) n 0)
     value_there n low =
         get_or-map (value_at tables e.left.entry column) (referring tables e) n 0 (Int (pos 0)) (omega (arith, low, length-map (referring tables e) (value_at tables e.left.entry column)))
 
@@ -130,11 +128,11 @@ module _ (query : Query) (tables : Tables) (e : Edge) where
       abbrev key_there : ℕ → ℕ
       key_there n = key (get_or (referring tables e) n 0)
 
-      tell : SeparatesListed joined key_there
+      tell : SeparatesListed joined_values key_there
       tell row other low also =
           let below : row < length (referring tables e) = omega (arith, low, length-map (referring tables e) (value_at tables e.left.entry column)) in
           let beside : other < length (referring tables e) = omega (arith, also, length-map (referring tables e) (value_at tables e.left.entry column)) in
-          subst (λ (v : Value). (key_there row ≡ key_there other) ↔ (is_eq (value_cmp v (value_of_row joined other)) ≡ true)) (sym (value_there row low))
+          subst (λ (v : Value). (key_there row ≡ key_there other) ↔ (is_eq (value_cmp v (value_of_row joined_values other)) ≡ true)) (sym (value_there row low))
           (subst (λ (v : Value). (key_there row ≡ key_there other) ↔ (is_eq (value_cmp (value_at tables e.left.entry column (get_or (referring tables e) row 0)) v) ≡ true))
           (sym (value_there other also))
           (tells (get_or (referring tables e) row 0) (get_or (referring tables e) other 0) (referring_rows_exist tables e row 0 below) (referring_rows_exist tables e other 0 beside)))
@@ -143,14 +141,14 @@ module _ (query : Query) (tables : Tables) (e : Edge) where
       carried_dominates =
           subst (DominatesKeys (carried_list query tables accuracy e column)) (scan_there key)
           (list_dominates (carried_lists tables accuracy e column) there e.right.entry key_there query.conjuncts
-          (listed_stand there accuracy e.right.entry joined key_there joined_length tell))
+          (listed_stand there accuracy e.right.entry joined_values key_there joined_length tell))
 
     pub carried_descends : IsDescending (carried_list query tables accuracy e column)
-    carried_descends = filtered_descends (carried_lists tables accuracy e column) e.right.entry query.conjuncts (listed_descend there accuracy e.right.entry joined)
+    carried_descends = filtered_descends (carried_lists tables accuracy e column) e.right.entry query.conjuncts (listed_descend there accuracy e.right.entry joined_values)
 
     pub carried_sum : sum (carried_list query tables accuracy e column) ≡ carried_rows query tables e
     carried_sum =
-        sum-filtered (carried_lists tables accuracy e column) (carried_counts tables e) e.right.entry query.conjuncts (listed_sum there accuracy e.right.entry joined joined_length)
+        sum-filtered (carried_lists tables accuracy e column) (carried_counts tables e) e.right.entry query.conjuncts (listed_sum there accuracy e.right.entry joined_values joined_length)
 
   pub carried_fits : length (rows_referring query tables e) ≤ carried_rows query tables e
   carried_fits =

@@ -16,7 +16,7 @@ pub fn carried_lists_stand()
         → SeparatesValues tables e.left.entry column key
         → DominatesKeys (carried_list query tables accuracy e column) (map key (rows_referring query tables e)) }
     ensures fits { (query : Query) (tables : Tables) (e : Edge) → length (rows_referring query tables e) ≤ carried_rows query tables e }
-    ensures falls { (query : Query) (tables : Tables) (accuracy : ℕ) (e : Edge) (column : ℕ) → IsDescending (carried_list query tables accuracy e column) }
+    ensures descends { (query : Query) (tables : Tables) (accuracy : ℕ) (e : Edge) (column : ℕ) → IsDescending (carried_list query tables accuracy e column) }
     ensures sums { (query : Query) (tables : Tables) (accuracy : ℕ) (e : Edge) (column : ℕ)
         → sum (carried_list query tables accuracy e column) ≡ carried_rows query tables e }
 {}

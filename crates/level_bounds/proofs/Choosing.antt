@@ -35,10 +35,10 @@ row_in_of_mapped order f out = fun_ext at
     ]
 
 pub mapped_row_in : (order choice : List ℕ) → IsDistinct nat_eq order → length choice ≡ length order → map (row_in order choice) order ≡ choice
-mapped_row_in [] [] d long = refl
-mapped_row_in [] (row ∷ choice) d long = absurd (omega arith)
-mapped_row_in (e ∷ order) [] d long = absurd (omega arith)
-mapped_row_in (e ∷ order) (row ∷ choice) d long =
+mapped_row_in [] [] d lengths = refl
+mapped_row_in [] (row ∷ choice) d lengths = absurd (omega arith)
+mapped_row_in (e ∷ order) [] d lengths = absurd (omega arith)
+mapped_row_in (e ∷ order) (row ∷ choice) d lengths =
     let behind : map (row_in (e ∷ order) (row ∷ choice)) order ≡ choice =
     map_same_on_members (row_in (e ∷ order) (row ∷ choice)) (row_in order choice) order (λ x k. passed x k)
     ∙ mapped_row_in order choice (IsDistinct-tail nat_eq e order d) (omega arith) in

@@ -51,7 +51,7 @@ module _ (tables : Tables) (key : Keys) where
 
   exact_list : (entry column : ℕ) → HasList (uncompressed tables key) entry column
   exact_list entry column = record {
-    falls = IsDescending-degree_list (keys_of tables key entry column);
+    descends = IsDescending-degree_list (keys_of tables key entry column);
     total = sum-degree_list (keys_of tables key entry column) ∙ key_count entry column;
   }
 
@@ -79,18 +79,18 @@ module _ (tables : Tables) (key : Keys) where
     lists = from_members (λ (p : Place). HasList b p.entry p.column) named (λ p k.
         let exact : IsListOf (row_counts tables p.entry) (degree_list (keys_of tables key p.entry p.column)) = exact_list p.entry p.column in
         subst (IsListOf (b.rows p.entry)) (sym (list_at p k)) (record {
-          falls = IsDescending-compressed accuracy (degree_list (keys_of tables key p.entry p.column)) exact.falls;
-          total = sum-compressed accuracy (degree_list (keys_of tables key p.entry p.column)) exact.falls ∙ exact.total ∙ sym (rows_at p.entry (column_is_of_set p k));
+          descends = IsDescending-compressed accuracy (degree_list (keys_of tables key p.entry p.column)) exact.descends;
+          total = sum-compressed accuracy (degree_list (keys_of tables key p.entry p.column)) exact.descends ∙ exact.total ∙ sym (rows_at p.entry (column_is_of_set p k));
         }))
 
     is_near : SetIsNear accuracy b (uncompressed tables key) es subset
     is_near = record {
       rows = from_members (RowsAreNear accuracy b (uncompressed tables key)) (entries_of_set subset) (λ entry k. rw (rows_at entry k) (omega arith));
       columns = from_members (λ (p : Place). ListIsNear accuracy b (uncompressed tables key) p.entry p.column) named (λ p k.
-          let falls = IsDescending-degree_list (keys_of tables key p.entry p.column) in
+          let descends = IsDescending-degree_list (keys_of tables key p.entry p.column) in
           subst (λ (s : List ℕ). SumsAreWithin accuracy (accuracy + 1) s (degree_list (keys_of tables key p.entry p.column))) (sym (list_at p k))
           (within_by_elements accuracy (accuracy + 1) (list_of p.entry p.column) (degree_list (keys_of tables key p.entry p.column))
-          (compressed-near accuracy (degree_list (keys_of tables key p.entry p.column)) falls)));
+          (compressed-near accuracy (degree_list (keys_of tables key p.entry p.column)) descends)));
     }
 
     pub near : accuracy ^ length (entries_of_set subset) * bound_of_set b es subset ≤ (accuracy + 1) ^ length (entries_of_set subset) * bound_of_set (uncompressed tables key) es subset

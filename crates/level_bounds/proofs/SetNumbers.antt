@@ -40,12 +40,12 @@ range_is_order n = record {
 }
 
 pub order_of_all : (n : ℕ) (order : List ℕ) → AllByRecursion (λ entry. entry < n) order → IsDistinct nat_eq order → length order ≡ n → IsOrderOfSet (range_with_len 0 n) order
-order_of_all n order is_below once long = record {
+order_of_all n order is_below once lengths = record {
   once = once;
   within = from_members (Contains (range_with_len 0 n)) order (λ x k. in_range 0 n x (omega arith) (omega (arith, at_member (λ entry. entry < n) order is_below x k)));
   covers = from_members (Contains order) (range_with_len 0 n) (λ x k. elim (cases_Bool (is_in order x)) [
     | inl here ↦ in_from_test order x here
-    | inr gone ↦ absurd (omega (arith, one_more x gone (range_within 0 n x k).1, long, length-range_with_len 0 n))
+    | inr gone ↦ absurd (omega (arith, one_more x gone (range_within 0 n x k).1, lengths, length-range_with_len 0 n))
   ]);
 }
   where

@@ -8,7 +8,7 @@ use Rattle.query_types.specs.declared.types.Cond.{Compare}
 use Rattle.query_types.specs.Named.{entries_named}
 use Rattle.query_types.proofs.CondFacts.{entries_compare}
 use Rattle.join_graph.specs.Conjuncts.{equalities_of}
-use Rattle.join_graph.specs.Examples.{triangle as sides}
+use Rattle.join_graph.specs.Examples.{triangle as triangle_equalities}
 use Rattle.join_graph.specs.Kept.{equalities_within}
 use Rattle.join_graph.proofs.Comparing.{equality_two}
 use Rattle.tree_bounds.specs.Columns.{EachNamedColumn}
@@ -31,7 +31,7 @@ use Rattle.level_bounds.proofs.NearWhole.{whole_bounds, whole_scan}
 
 -- ---- equalities
 
-pub triangle_joined : equalities_of triangle ≡ sides
+pub triangle_joined : equalities_of triangle ≡ triangle_equalities
 triangle_joined =
     rw (equality_two 0 0 1 0 (λ e. absurd (omega (arith, e))), equality_two 1 1 2 0 (λ e. absurd (omega (arith, e))), equality_two 2 1 0 1 (λ e. absurd (omega (arith, e)))) refl
 
@@ -70,7 +70,7 @@ no_own_conjuncts_2 = rw (entries_compare op.Eq (column_at 0 0) (column_at 1 0), 
 pub triangle_scan_1 : triangle_scan 1 ≡ 0 ∷ 1 ∷ 2 ∷ []
 triangle_scan_1 = whole_scan triangle three_tables 1 no_own_conjuncts_1
 
-sides_compressed : AreCompressed 1 triangle_bounds three_tables (cell_at triangle_tables) sides 7
+sides_compressed : AreCompressed 1 triangle_bounds three_tables (cell_at triangle_tables) triangle_equalities 7
 unfolding entries_of_set
 sides_compressed = record { rows = (refl, (refl, (refl, tt))); columns = (refl, (refl, (refl, (refl, (refl, (refl, tt)))))) }
 

@@ -2,7 +2,7 @@
 ghost use Rattle.std.specs.Prelude.{◌≡◌, ◌∷◌, [], length};
 ghost use Rattle.entry_sets.specs.Sets.{entries_of_set};
 ghost use Rattle.join_graph.specs.Conjuncts.{equalities_of};
-ghost use Rattle.join_graph.specs.Examples.{triangle as sides};
+ghost use Rattle.join_graph.specs.Examples.{triangle as triangle_equalities};
 ghost use Rattle.tree_bounds.specs.Examples.{triangle_bounds};
 ghost use Rattle.tree_bounds.specs.SetBounds.{bound_of_set};
 ghost use Rattle.sql_meaning.specs.Examples.{triangle, triangle_tables};
@@ -14,7 +14,7 @@ ghost use Rattle.level_bounds.specs.WholeTables.{AreCompressed};
 
 /// The order R, S, T has levels of 3, 5 and 4 rows, and bounds of 3, 5 and 9.
 pub fn triangles()
-    ensures joined { equalities_of triangle ≡ sides }
+    ensures joined { equalities_of triangle ≡ triangle_equalities }
     ensures first { length (triangle_level (0 ∷ [])) ≡ 3 }
     ensures second { length (triangle_level (0 ∷ 1 ∷ [])) ≡ 5 }
     ensures last { length (triangle_level (0 ∷ 1 ∷ 2 ∷ [])) ≡ 4 }

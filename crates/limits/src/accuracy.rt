@@ -4,7 +4,7 @@ ghost use Rattle.limits.specs.Profile.{most_accuracy};
 use std::marker::Model;
 
 /// The accuracy of compressed lists, from 1 to 64. At a higher accuracy a compressed list is nearer to the uncompressed one, and has more runs.
-/// Contracts see an accuracy as a number.
+/// In contracts an accuracy is a number.
 #[derive(Clone, Copy)]
 pub struct Accuracy {
     value: u8,

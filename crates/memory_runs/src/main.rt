@@ -9,7 +9,7 @@
 mod runs;
 
 use base_io::{MemSink, MemStore, Name, NoMemory, Seq};
-use runs::{RUNS, Run, Text, is_text, text_of};
+use runs::{RUNS, Run, Text, equals_text, text_of};
 use safebound_top::safebound;
 use std::alloc::Global;
 use std::process::ExitCode;
@@ -69,7 +69,7 @@ fn code_of(
 }
 
 fn outcome_of(run: &Run, code: u8, notes: &[u8], out: &[u8]) -> Outcome {
-    if code == 0 && notes == run.notes && is_text(out, run.out) {
+    if code == 0 && notes == run.notes && equals_text(out, run.out) {
         Outcome::Done
     } else if code == MEMORY_RAN_OUT && notes == b"error memory\n".as_slice() && out.is_empty() {
         Outcome::RanOutOfMemory
@@ -82,7 +82,7 @@ fn attempt(alloc: Global, run: &Run) -> Result<Outcome, NoMemory> {
     let mut store = store_of(alloc, run)?;
     let mut out = sink(alloc)?;
     let mut notes = sink(alloc)?;
-    let code = code_of(alloc, run.words, &mut store, &mut out, &mut notes);
+    let code = code_of(alloc, run.command_line, &mut store, &mut out, &mut notes);
     Ok(outcome_of(run, code, notes.written(), out.written()))
 }
 

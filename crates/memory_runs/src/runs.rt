@@ -1,4 +1,4 @@
-//! The runs: their words and files, and what they have to write.
+//! The test runs: the command line and the files of each, and what each has to write.
 use base_io::NoMemory;
 use std::alloc::Global;
 
@@ -9,11 +9,11 @@ pub enum Text<'a> {
     Column { record: &'a [u8], count: u32 },
 }
 
-/// A run: its name, its words, its files, and what it has to write to `notes` and to `out`.
+/// A run: its name, the words of its command line, its files, and what it has to write to `notes` and `out`.
 #[derive(Clone, Copy)]
 pub struct Run<'a> {
     pub name: &'a str,
-    pub words: &'a [&'a str],
+    pub command_line: &'a [&'a str],
     pub files: &'a [(&'a str, Text<'a>)],
     pub notes: &'a [u8],
     pub out: Text<'a>,
@@ -25,7 +25,7 @@ const TWO_TABLES: Text<'static> = Text::Whole(
 
 const JOIN: Text<'static> = Text::Whole(b"SELECT R.X FROM R, S WHERE R.X = S.X");
 
-const RUN_WORDS: &[&str] = &["run", "schema.sql", "query.sql"];
+const RUN_COMMAND_LINE: &[&str] = &["run", "schema.sql", "query.sql"];
 
 const HUNDRED_ONES: Text<'static> = Text::Column {
     record: b"1\r\n",
@@ -41,9 +41,9 @@ const PLAN_OF_HUNDREDS: &[u8] = b"scan R 100\nscan S 100\nlevel 1 R 100\nlevel 2
 
 const TABLE_K: Text<'static> = Text::Whole(b"CREATE TABLE K (X INTEGER NOT NULL)");
 
-const ONE_OF_THREE: Text<'static> = Text::Whole(b"SELECT X FROM K WHERE X = 2");
+const SELECT_TWO: Text<'static> = Text::Whole(b"SELECT X FROM K WHERE X = 2");
 
-// The statistics file of a table whose only column has 1, 2 and 3. It is the filter column too, with 32 leaves over three values.
+// The statistics file of a table whose only column has 1, 2 and 3. This column is also the filter column, with 32 leaves over three values.
 const FILE_OF_THREE: Text<'static> = Text::Whole(
     b"safebound-stats 1 1\ntable x4b 3\npair x58 x58\nwhole 1*3\nfrequent 1 1*1\nfrequent 2 1*1\nfrequent 3 1*1\nrest -\ncut 1\ncut 1\ncut 1\ncut 1\ncut 1\ncut 1\ncut 1\ncut 1\ncut 1\ncut 1\ncut 1\ncut 2\ncut 2\ncut 2\ncut 2\ncut 2\ncut 2\ncut 2\ncut 2\ncut 2\ncut 2\ncut 2\ncut 3\ncut 3\ncut 3\ncut 3\ncut 3\ncut 3\ncut 3\ncut 3\ncut 3\ncut 3\nnode -\nnode -\nnode -\nnode -\nnode -\nnode -\nnode -\nnode -\nnode -\nnode -\nnode 1*1\nnode -\nnode -\nnode -\nnode -\nnode -\nnode -\nnode -\nnode -\nnode -\nnode -\nnode 1*1\nnode -\nnode -\nnode -\nnode -\nnode -\nnode -\nnode -\nnode -\nnode -\nnode 1*1\nnode -\nnode -\nnode -\nnode -\nnode -\nnode 1*1\nnode -\nnode -\nnode -\nnode -\nnode 1*1\nnode -\nnode -\nnode -\nnode -\nnode 1*1\nnode -\nnode -\nnode 1*1\nnode -\nnode -\nnode 1*1\nnode -\nnode 1*1\nnode -\nnode 1*1\nnode 1*1\nnode 1*1\nnode 1*1\nnode 1*2\nnode 1*3\nend\n",
 );
@@ -64,12 +64,13 @@ const SIX_ONES: Text<'static> = Text::Column {
 };
 
 /// A join of two tables, in four ways: plain, over reduced scans, as a tree, and as a tree over reduced scans. Then a condition that is carried
-/// through a key, a table of texts, and a triangle. Then two pairs of tables with the same bounds and different answers. The last three runs make
-/// the statistics file of a table, a plan from this file, and the statistics file after a row is appended.
+/// through a key, a table of texts, and a triangle. Then two pairs of tables with the same bounds and different answers: in `meeting` every key
+/// matches, in `apart` none does. The last three runs make the statistics file of a table, a plan from this file, and the statistics file after a row
+/// is appended.
 pub const RUNS: [Run<'static>; 12] = [
     Run {
         name: "join",
-        words: RUN_WORDS,
+        command_line: RUN_COMMAND_LINE,
         files: &[
             ("schema.sql", TWO_TABLES),
             ("query.sql", JOIN),
@@ -81,7 +82,7 @@ pub const RUNS: [Run<'static>; 12] = [
     },
     Run {
         name: "reduced",
-        words: &["run", "schema.sql", "query.sql", "--reduce"],
+        command_line: &["run", "schema.sql", "query.sql", "--reduce"],
         files: &[
             ("schema.sql", TWO_TABLES),
             ("query.sql", JOIN),
@@ -93,7 +94,7 @@ pub const RUNS: [Run<'static>; 12] = [
     },
     Run {
         name: "tree",
-        words: &["run", "schema.sql", "query.sql", "--bushy"],
+        command_line: &["run", "schema.sql", "query.sql", "--bushy"],
         files: &[
             ("schema.sql", TWO_TABLES),
             ("query.sql", JOIN),
@@ -105,7 +106,7 @@ pub const RUNS: [Run<'static>; 12] = [
     },
     Run {
         name: "reduced-tree",
-        words: &["run", "schema.sql", "query.sql", "--reduce", "--bushy"],
+        command_line: &["run", "schema.sql", "query.sql", "--reduce", "--bushy"],
         files: &[
             ("schema.sql", TWO_TABLES),
             ("query.sql", JOIN),
@@ -117,7 +118,7 @@ pub const RUNS: [Run<'static>; 12] = [
     },
     Run {
         name: "keys",
-        words: &["run", "schema.sql", "query.sql", "--keys"],
+        command_line: &["run", "schema.sql", "query.sql", "--keys"],
         files: &[
             (
                 "schema.sql",
@@ -143,7 +144,7 @@ pub const RUNS: [Run<'static>; 12] = [
     },
     Run {
         name: "texts",
-        words: RUN_WORDS,
+        command_line: RUN_COMMAND_LINE,
         files: &[
             (
                 "schema.sql",
@@ -160,7 +161,7 @@ pub const RUNS: [Run<'static>; 12] = [
     },
     Run {
         name: "triangle",
-        words: RUN_WORDS,
+        command_line: RUN_COMMAND_LINE,
         files: &[
             (
                 "schema.sql",
@@ -183,7 +184,7 @@ pub const RUNS: [Run<'static>; 12] = [
     },
     Run {
         name: "meeting",
-        words: RUN_WORDS,
+        command_line: RUN_COMMAND_LINE,
         files: &[
             ("schema.sql", TWO_TABLES),
             ("query.sql", JOIN),
@@ -198,7 +199,7 @@ pub const RUNS: [Run<'static>; 12] = [
     },
     Run {
         name: "apart",
-        words: RUN_WORDS,
+        command_line: RUN_COMMAND_LINE,
         files: &[
             ("schema.sql", TWO_TABLES),
             ("query.sql", JOIN),
@@ -213,10 +214,10 @@ pub const RUNS: [Run<'static>; 12] = [
     },
     Run {
         name: "stats",
-        words: &["stats", "schema.sql", "query.sql"],
+        command_line: &["stats", "schema.sql", "query.sql"],
         files: &[
             ("schema.sql", TABLE_K),
-            ("query.sql", ONE_OF_THREE),
+            ("query.sql", SELECT_TWO),
             ("k.csv", Text::Whole(b"X\r\n1\r\n2\r\n3\r\n")),
         ],
         notes: b"",
@@ -224,10 +225,10 @@ pub const RUNS: [Run<'static>; 12] = [
     },
     Run {
         name: "filed",
-        words: &["plan", "schema.sql", "query.sql", "--stats", "k.stats"],
+        command_line: &["plan", "schema.sql", "query.sql", "--stats", "k.stats"],
         files: &[
             ("schema.sql", TABLE_K),
-            ("query.sql", ONE_OF_THREE),
+            ("query.sql", SELECT_TWO),
             ("k.stats", FILE_OF_THREE),
         ],
         notes: b"scan K 1\nlevel 1 K 1\n",
@@ -235,7 +236,7 @@ pub const RUNS: [Run<'static>; 12] = [
     },
     Run {
         name: "append",
-        words: &["append", "schema.sql", "k.stats", "K", "new.csv"],
+        command_line: &["append", "schema.sql", "k.stats", "K", "new.csv"],
         files: &[
             ("schema.sql", TABLE_K),
             ("k.stats", FILE_OF_THREE),
@@ -276,7 +277,7 @@ fn is_column(bytes: &[u8], record: &[u8], count: u32) -> bool {
 }
 
 /// Whether these are the bytes of a text. It takes no memory.
-pub fn is_text(bytes: &[u8], text: Text) -> bool {
+pub fn equals_text(bytes: &[u8], text: Text) -> bool {
     match text {
         Text::Whole(whole) => bytes == whole,
         Text::Column { record, count } => is_column(bytes, record, count),

@@ -1,6 +1,6 @@
 -- Orders in which entries are joined, and the best order. `bounds` has a bound for every set of entries. The index of {0, 2} is 5, which is 101 in
 -- binary.
-use Rattle.std.specs.Prelude.{◌≡◌, ℕ, ◌+◌, ◌^◌, ◌<◌, ◌≤◌, ◌⊎◌, max, List, [], ◌∷◌, map, slice_index, ⊤}
+use Rattle.std.specs.Prelude.{◌≡◌, ℕ, ◌<◌, ◌≤◌, ◌⊎◌, max, List, [], ◌∷◌, map, slice_index, ⊤}
 use Rattle.std.specs.List.{sum}
 use Rattle.entry_sets.specs.Sets.{set_of}
 use Rattle.plans.specs.LeftDeep.{IsOrder}

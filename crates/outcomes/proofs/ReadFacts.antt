@@ -1,10 +1,9 @@
 -- If two steps read files one after the other, both together are one step that reads files.
-use Rattle.std.proofs.Common.{◌≡◌, ℕ, inl, inr, Option, None, Some, Result, Ok, Err, refl, ap, sym, ◌∙◌, subst, arith}
-use Rattle.base_io.specs.Causes.{Rose}
+use Rattle.std.proofs.Common.{◌≡◌, Some, Result, Ok, Err, refl, sym, ◌∙◌, subst, arith}
 use Rattle.base_io.specs.Files.{Files}
 use Rattle.base_io.specs.Devices.{Reading}
 use Rattle.base_io.proofs.CountFacts.{later_then_rose}
-use Rattle.outcomes.specs.Reads.{◌>>=◌, EndsEarly, Gives, IsNotMissing, MissesNothing, Reads, StopsBy}
+use Rattle.outcomes.specs.Reads.{◌>>=◌, EndsEarly, Gives, MissesNothing, Reads, StopsBy}
 use Rattle.outcomes.specs.declared.failure.Failure.{Failure}
 use Rattle.outcomes.specs.declared.failure.Failure.TheVariants as failure
 use Rattle.outcomes.specs.declared.names.FileId.{FileId}

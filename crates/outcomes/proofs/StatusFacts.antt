@@ -6,7 +6,6 @@ use Rattle.outcomes.specs.declared.failure.Failure.TheVariants as failure
 use Rattle.outcomes.specs.declared.names.FileId.{FileId}
 use Rattle.outcomes.specs.declared.names.SinkId.{SinkId}
 use Rattle.outcomes.specs.declared.refusal.Refusal.{Refusal}
-use Rattle.outcomes.specs.declared.status.Status.{Status}
 use Rattle.outcomes.specs.declared.status.Status.TheVariants as status
 
 pub ended_refused : (e : Failure) (r : Refusal) → status_of_failure e ≡ status.Refused r → e ≡ failure.Refused r

@@ -1,5 +1,5 @@
 -- The result of a step that reads from a store. `stage` is the definition of the step: for the files of the store it gives a value or a refusal.
-use Rattle.std.specs.Prelude.{ℕ, ◌≡◌, ◌≢◌, ◌≤◌, Option, None, Some, Result, Ok, Err, ⊤}
+use Rattle.std.specs.Prelude.{◌≡◌, ◌≢◌, ◌≤◌, None, Some, Result, Ok, Err, ⊤}
 use Rattle.base_io.specs.Causes.{Rose}
 use Rattle.base_io.specs.Files.{Files}
 use Rattle.base_io.specs.Devices.{Reading}

@@ -61,7 +61,7 @@ pub fn gather(
         stats_of pool.now (kind_of_column cells.now filter) accuracy (rows_of_pair cells.now filter joined)) }
     ensures valid { IfOk result IsValid }
 
-    // each value and each range has the list that cond_stats makes for it on demand
+    // each value and each range has the list that cond_stats makes of the rows
     ensures values { IfOk result (GivesValueLists accuracy (rows_of_pair cells.now filter joined)) }
     ensures ranges { IfOk result (GivesRangeLists (cell_le pool.now (kind_of_column cells.now filter)) accuracy
         (rows_of_pair cells.now filter joined)) }

@@ -1,8 +1,8 @@
 //! Tables of a filter column and a joined column, their statistics, and the lists that the statistics give, for tests and measurements.
 //!
 //! In: cells, a pool and the filter column's kind. Out: a table (`table_of`, in `specs/Tables.antt`), and from its cells a `ColumnStats`. The
-//! contract says that the table has columns 0 and 1, by `HasColumn` of column_stats. Contracts of statistics use `stats_of`, `list_for_value`,
-//! `list_for_range` and `leaf_by_cuts`.
+//! contract of `table_of` says, with `HasColumn` of column_stats, that the table has columns 0 and 1. Contracts of statistics use `stats_of`,
+//! `list_for_value`, `list_for_range` and `leaf_by_cuts`.
 #![tactic(auto)]
 
 ghost use Rattle.std.specs.Prelude.{◌≡◌, ◌↔◌, All, IfOk, IsTrue};

@@ -12,7 +12,7 @@ use Rattle.degree_sequences.proofs.FewRuns.{empty_if_sum_reached}
 use Rattle.degree_sequences.proofs.Ranks.{rank_reaches, rank_least}
 use Rattle.degree_sequences.proofs.RunningSums.{running_sum-mono, running_sum-suc, running_sum-past, running_sum-le-sum}
 
--- ---- elements at indices, and their heads
+-- ---- elements at indices, and the values that compression gives them (heads)
 
 pub is_element : (f : List ℕ) (i m : ℕ) → running_sum f i ≤ m → m < sum f → i < length f
 is_element f i m h j = elim (cases_lt i (length f)) [ inl l ↦ l | inr l ↦ absurd (omega (arith, running_sum-past f i l)) ]
@@ -63,7 +63,7 @@ pub record Growing (k : ℕ) (f : List ℕ) (i : ℕ) (pieces : List ℕ) (value
   pub head_above : get_or f i 0 ≤ head
   pub head_most : head ≤ sum f
   pub lower : head ≤ value
-  pub falls : All (λ x. value ≤ x) pieces
+  pub descends : All (λ x. value ≤ x) pieces
   pub ahead : running_sum f i ≤ covered
   pub none_yet : count ≡ 0 → (pieces ≡ []) × (covered ≡ 0)
   pub to_come : covered < sum f → (pieces ++ replicate count value) ++ compressed_from k f (length f - (length pieces + count)) covered ≡ compressed k f
@@ -80,7 +80,7 @@ growing_start k f = record {
   head_above = omega arith;
   head_most = omega (arith, running_sum-suc f 0, running_sum-le-sum f 1);
   lower = omega arith;
-  falls = λ i d h. absurd (omega arith);
+  descends = λ i d h. absurd (omega arith);
   ahead = omega arith;
   none_yet = λ e. (refl, refl);
   to_come = λ h. let e : length f - 0 ≡ length f = omega arith in rw e refl;
@@ -106,7 +106,7 @@ growing_passed k f i pieces value count head rows covered head' rows' fall g her
       head_above = omega (arith, fall i, between.0);
       head_most = omega (arith, between.1, g.head_most);
       lower = omega (arith, between.1, g.lower);
-      falls = g.falls;
+      descends = g.descends;
       ahead = omega (arith, g.rows_are);
       none_yet = g.none_yet;
       to_come = g.to_come;
@@ -123,13 +123,13 @@ replicate-suc (suc n) x = ap (λ (s : List ℕ). x ∷ s) (replicate-suc n x)
 replicate-last : (n x : ℕ) → 0 < n → replicate n x ≡ replicate (n - 1) x ++ x ∷ []
 replicate-last n x some = let e : n ≡ suc (n - 1) = omega arith in ap (λ m. replicate m x) e ∙ replicate-suc (n - 1) x
 
--- A row of the next element isn't covered, so the run gets one element more. If the value of the run isn't the new head, the run was moved to the
--- pieces first, and a new run begins.
+-- A row of the next element isn't covered, so the run gets one element more. If the new head differs from the run's value, the step first moves the
+-- run to the pieces, and begins a new run.
 pub growing_more : (k : ℕ) (f : List ℕ) (i : ℕ) (pieces : List ℕ) (value count head rows covered : ℕ) (pieces' : List ℕ) (count' head' rows' : ℕ) → IsDescending f
     → Growing k f i pieces value count head rows covered → i < length f → head' ≡ next_head k head (get_or f i 0) → rows' ≡ rows + get_or f i 0 → covered < rows'
     → 0 < count' → pieces' ++ replicate (count' - 1) head' ≡ pieces ++ replicate count value → All (λ x. head' ≤ x) pieces'
     → Growing k f (suc i) pieces' head' count' head' rows' (covered + head')
-growing_more k f i pieces value count head rows covered pieces' count' head' rows' fall g here head_is rows_is short some same falls' =
+growing_more k f i pieces value count head rows covered pieces' count' head' rows' fall g here head_is rows_is short some same descends' =
     let x : ℕ = get_or f i 0 in
     let sums : running_sum f (suc i) ≡ running_sum f i + x = running_sum-suc f i in
     let inside : covered < sum f = omega (arith, g.rows_are, running_sum-le-sum f (suc i)) in
@@ -164,7 +164,7 @@ growing_more k f i pieces value count head rows covered pieces' count' head' row
       head_above = omega (arith, fall i, between.0);
       head_most = omega (arith, between.1, g.head_most);
       lower = omega arith;
-      falls = falls';
+      descends = descends';
       ahead = omega (arith, between.0, g.ahead);
       none_yet = λ e. absurd (omega arith);
       to_come = λ h. let e : next ≡ head' = omega arith in

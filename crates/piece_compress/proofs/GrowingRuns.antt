@@ -47,8 +47,8 @@ are_more (suc n) h pieces value count pieces' value' count' some more = more
 
 but_first : (n h count' : ℕ) (pieces' : List ℕ) (value' : ℕ) → value' ≡ h → n ≤ count' → All (λ x. h ≤ x) pieces'
     → AreMore n h pieces' h (count' - n) pieces' value' count'
-but_first zero h count' pieces' value' is fits falls = (refl, is, omega arith)
-but_first (suc n) h count' pieces' value' is fits falls = (is, fits, refl, falls)
+but_first zero h count' pieces' value' is fits descends = (refl, is, omega arith)
+but_first (suc n) h count' pieces' value' is fits descends = (is, fits, refl, descends)
 
 -- ---- the elements of a run
 
@@ -119,7 +119,7 @@ length_at_most_sum [] pos = omega arith
 length_at_most_sum (x ∷ s) pos = omega (arith, sum_by-cons (λ (y : ℕ). y) x s, pos.0, length_at_most_sum s pos.1)
 
 keys_within : (ps : List Piece) → ArePieces ps → length (expanded ps) ≤ sum (expanded ps)
-keys_within ps are = length_at_most_sum (expanded ps) (positive-expanded ps are.falls)
+keys_within ps are = length_at_most_sum (expanded ps) (positive-expanded ps are.descends)
 
 -- `no_piece` is the default for reading past the last run
 abbrev pub no_piece : Piece
@@ -127,7 +127,7 @@ no_piece = record { value = 0; count = 0 }
 
 pub first_piece_value : (ps : List Piece) → ArePieces ps → 0 < length ps → (get_or ps 0 no_piece).value ≡ get_or (expanded ps) 0 0
 first_piece_value [] are some = absurd (omega arith)
-first_piece_value (p ∷ ps) are some = sym (get_or-front p.count p.value (expanded ps) 0 are.falls.1)
+first_piece_value (p ∷ ps) are some = sym (get_or-front p.count p.value (expanded ps) 0 are.descends.1)
 
 counts_are_positive : (ps : List Piece) (j : ℕ) (d : Piece) → AreRuns ps → j < length ps → 0 < (get_or ps j d).count
 counts_are_positive [] j d fall low = absurd (omega arith)
@@ -159,7 +159,7 @@ module _ (k : ℕ) (ps : List Piece) (j : ℕ) (pieces : List ℕ) (value count 
   its_run = piece_run ps j g.rank no_piece run_exists g.before
 
   some_keys : 0 < p.count
-  some_keys = counts_are_positive ps j no_piece are_pieces.falls run_exists
+  some_keys = counts_are_positive ps j no_piece are_pieces.descends run_exists
 
   pub positive : 0 < p.value
   positive = value_positive ps j no_piece are_pieces run_exists
@@ -198,7 +198,7 @@ module _ (k : ℕ) (ps : List Piece) (j : ℕ) (pieces : List ℕ) (value count 
     run_passed n covered' pieces' value' count' covered_is enough close more = record {
       rank = g.rank + p.count;
       before = piece_passed ps j g.rank no_piece run_exists g.before;
-      growing = grown k (expanded ps) (IsDescending-expanded ps are_pieces.falls) p.value h (g.rank + p.count) rows' covered' pieces' value' count' enough
+      growing = grown k (expanded ps) (IsDescending-expanded ps are_pieces.descends) p.value h (g.rank + p.count) rows' covered' pieces' value' count' enough
           p.count g.rank head rows covered n pieces value count g.growing (sym head_is) (λ none. absurd (omega (arith, some_keys, none))) keys_fit its_keys refl
           (omega (arith, rows_is)) covered_is close more;
     }
@@ -233,6 +233,6 @@ module _ (k : ℕ) (ps : List Piece) (j : ℕ) (pieces : List ℕ) (value count 
       pub run_covered : (pieces' : List ℕ) (value' count' : ℕ) → value' ≡ h → n ≤ count'
           → pieces' ++ replicate (count' - n) h ≡ pieces ++ replicate count value → All (λ x. h ≤ x) pieces'
           → GrowingRuns k ps (j + 1) pieces' value' count' h rows' (covered + h * n)
-      run_covered pieces' value' count' value_is more_is before_is falls =
+      run_covered pieces' value' count' value_is more_is before_is descends =
           run_passed n (covered + h * n) pieces' value' count' (omega arith) (omega (arith, its_times.1)) (λ some. omega (arith, its_times.2))
-          (are_more n h pieces value count pieces' value' count' its_times.0 (value_is, more_is, before_is, falls))
+          (are_more n h pieces value count pieces' value' count' its_times.0 (value_is, more_is, before_is, descends))

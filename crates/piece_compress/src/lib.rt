@@ -34,7 +34,7 @@ struct Run {
 
 /// A degree list compressed with an accuracy.
 pub fn compress(alloc: Global, falling: &[u64], accuracy: Accuracy) -> Result<Pieces, NoMemory>
-    requires falls { IsDescending falling.now }
+    requires descends { IsDescending falling.now }
     requires positive { All (λ degree. 0 < degree) falling.now }
     requires small { sum falling.now ≤ greatest_rows }
     ensures compressed { IfOk result (λ list. list ≡ compressed accuracy falling.now) }
@@ -117,13 +117,13 @@ fn head_after(head: u64, degree: u64, accuracy: Accuracy) -> u64
 fn extended(pieces: &mut Pieces, run: Run, value: u64, times: u64) -> Result<Run, NoMemory>
     requires positive { 0 < value }
     requires lower { value ≤ run.value }
-    requires falls { All (λ x. run.value ≤ x) pieces.old }
+    requires descends { All (λ x. run.value ≤ x) pieces.old }
     requires room { length pieces.old + run.count + times < 2 ^ 64 }
     ensures value { IfOk result (λ longer. longer.value ≡ value) }
     ensures more { IfOk result (λ longer. times ≤ longer.count) }
     ensures before { IfOk result (λ longer. pieces.new ++ replicate (longer.count - times) longer.value ≡ pieces.old
         ++ replicate run.count run.value) }
-    ensures falls { IfOk result (λ longer. All (λ x. longer.value ≤ x) pieces.new) }
+    ensures descends { IfOk result (λ longer. All (λ x. longer.value ≤ x) pieces.new) }
 {
     if run.value == value {
         return Ok(Run {
@@ -144,7 +144,7 @@ fn extended(pieces: &mut Pieces, run: Run, value: u64, times: u64) -> Result<Run
 fn finish(pieces: &mut Pieces, run: Run, excess: u64) -> Result<(), NoMemory>
     requires some { 0 < run.count }
     requires excess { excess < run.value }
-    requires falls { All (λ x. run.value ≤ x) pieces.old }
+    requires descends { All (λ x. run.value ≤ x) pieces.old }
     requires room { length pieces.old + run.count < 2 ^ 64 }
     ensures { OnOk result (pieces.new ≡ (pieces.old ++ replicate (run.count - 1) run.value) ++ replicate 1 (run.value - excess)) }
 {

@@ -70,12 +70,12 @@ pub record CombinedSoFar (how : Combination) (a b : List Piece) (places : PieceP
 pub goal_falls : (how : Combination) (a b : List Piece) → ArePieces a → ArePieces b → IsDescending (goal_of how a b)
 goal_falls how a b are_a are_b =
     IsDescending-saturated (combined_by_rank how (expanded a) (expanded b))
-    (IsDescending-combined how (expanded a) (expanded b) (IsDescending-expanded a are_a.falls) (IsDescending-expanded b are_b.falls))
+    (IsDescending-combined how (expanded a) (expanded b) (IsDescending-expanded a are_a.descends) (IsDescending-expanded b are_b.descends))
 
 pub goal_positive : (how : Combination) (a b : List Piece) → ArePieces a → ArePieces b → AllByRecursion (λ x. 0 < x) (goal_of how a b)
 goal_positive how a b are_a are_b =
     positive-saturated (combined_by_rank how (expanded a) (expanded b))
-    (positive-combined how (expanded a) (expanded b) (positive-expanded a are_a.falls) (positive-expanded b are_b.falls))
+    (positive-combined how (expanded a) (expanded b) (positive-expanded a are_a.descends) (positive-expanded b are_b.descends))
 
 pub goal_length : (how : Combination) (a b : List Piece) → length (goal_of how a b) ≤ max (length (expanded a)) (length (expanded b))
 goal_length how a b = omega (arith, length-map (combined_by_rank how (expanded a) (expanded b)) saturated, length-combined-le how (expanded a) (expanded b))

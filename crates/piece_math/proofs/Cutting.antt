@@ -61,20 +61,20 @@ pub record CutSoFar (ps : List Piece) (n i left : ℕ) (list : List ℕ) : Type 
 
 module _ {ps : List Piece} (are_pieces : ArePieces ps) {n i left : ℕ} {list : List ℕ} (so_far : CutSoFar ps n i left list) where
   pub cut_falls : IsDescending (capped_at (expanded ps) n)
-  cut_falls = IsDescending-capped_at (expanded ps) n (IsDescending-expanded ps are_pieces.falls)
+  cut_falls = IsDescending-capped_at (expanded ps) n (IsDescending-expanded ps are_pieces.descends)
 
   pub cut_positive : AllByRecursion (λ y. 0 < y) (capped_at (expanded ps) n)
-  cut_positive = positive-capped_at (expanded ps) n (IsDescending-expanded ps are_pieces.falls)
+  cut_positive = positive-capped_at (expanded ps) n (IsDescending-expanded ps are_pieces.descends)
 
   pub cut_fits : length (capped_at (expanded ps) n) < 2 ^ 64
-  cut_fits = omega (arith, are_pieces.fits, cut_no_longer (expanded ps) n (length (expanded ps)) (IsDescending-expanded ps are_pieces.falls) (omega arith))
+  cut_fits = omega (arith, are_pieces.fits, cut_no_longer (expanded ps) n (length (expanded ps)) (IsDescending-expanded ps are_pieces.descends) (omega arith))
 
   pub cut_end : length ps ≤ i → list ≡ capped_at (expanded ps) n
   cut_end over =
       let nothing : drop so_far.rank (expanded ps) ≡ [] = so_far.before.rest ∙ ap expanded (drop_all i ps over) in
       so_far.built
       ∙ take_all so_far.rank (capped_at (expanded ps) n)
-      (cut_no_longer (expanded ps) n so_far.rank (IsDescending-expanded ps are_pieces.falls) (omega (arith, ap length nothing, length-drop so_far.rank (expanded ps))))
+      (cut_no_longer (expanded ps) n so_far.rank (IsDescending-expanded ps are_pieces.descends) (omega (arith, ap length nothing, length-drop so_far.rank (expanded ps))))
 
   module _ (d : Piece) (piece_exists : i < length ps) where
     cut_sums : (k : ℕ) → k ≤ (get_or ps i d).count → running_sum (capped_at (expanded ps) n) (so_far.rank + k) ≡ min (running_sum (expanded ps) so_far.rank + k * (get_or ps i d).value) n
@@ -156,7 +156,7 @@ module _ {ps : List Piece} (are_pieces : ArePieces ps) {n i left : ℕ} {list : 
 -- ---- what remains of n, divided by a value
 
 pub value_positive : (ps : List Piece) (i : ℕ) (d : Piece) → ArePieces ps → i < length ps → 0 < (get_or ps i d).value
-value_positive ps i d are h = go ps i are.falls h
+value_positive ps i d are h = go ps i are.descends h
   where
     go : (ps : List Piece) (i : ℕ) → AreRuns ps → i < length ps → 0 < (get_or ps i d).value
     go [] i fall h = absurd (omega arith)

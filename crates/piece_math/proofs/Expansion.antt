@@ -85,8 +85,8 @@ module _ (old : List Piece) (d : Piece) (v n : ℕ) (not_empty : 0 < length old)
   pub ArePieces-with_last : ArePieces old → length (expanded old) + n < 2 ^ 64
       → ArePieces (take (length old - 1) old ++ record { value = v; count = (get_or old (length old - 1) d).count + n } ∷ [])
   ArePieces-with_last are room = record {
-    falls = AreRuns-grown (take (length old - 1) old) (get_or old (length old - 1) d) (record { value = v; count = (get_or old (length old - 1) d).count + n }) n (sym last_has_value) refl
-        (subst AreRuns (split_last old d not_empty) are.falls);
+    descends = AreRuns-grown (take (length old - 1) old) (get_or old (length old - 1) d) (record { value = v; count = (get_or old (length old - 1) d).count + n }) n (sym last_has_value) refl
+        (subst AreRuns (split_last old d not_empty) are.descends);
     fits = omega (arith, ap length expanded-with_last, length-append (expanded old) (replicate n v), length-replicate n v);
   }
 
@@ -99,7 +99,7 @@ last_fits old d some =
 pub ArePieces-added : (old : List Piece) (d : Piece) (v n : ℕ) → (0 < length old → (get_or old (length old - 1) d).value ≡ v → ⊥) → All (λ x. v ≤ x) (expanded old)
     → 0 < v → 0 < n → ArePieces old → length (expanded old) + n < 2 ^ 64 → ArePieces (old ++ record { value = v; count = n } ∷ [])
 ArePieces-added old d v n other least pos some are room = record {
-  falls = still_descending old other least are.falls;
+  descends = still_descending old other least are.descends;
   fits = omega (arith, ap length (expanded-push old (record { value = v; count = n })), length-append (expanded old) (replicate n v), length-replicate n v);
 }
   where

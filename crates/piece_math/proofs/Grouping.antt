@@ -98,7 +98,7 @@ grouped_start g u are_g are_u = record {
 
 module _ {g u : List Piece} (are_g : ArePieces g) (are_u : ArePieces u) where
   falls_blocks : IsDescending (block_sums (expanded g) (expanded u))
-  falls_blocks = IsDescending-block_sums (expanded g) (expanded u) (IsDescending-expanded g are_g.falls) (IsDescending-expanded u are_u.falls)
+  falls_blocks = IsDescending-block_sums (expanded g) (expanded u) (IsDescending-expanded g are_g.descends) (IsDescending-expanded u are_u.descends)
 
   pub grouped_falls : IsDescending (grouped_list g u)
   grouped_falls = IsDescending-saturated (trimmed (block_sums (expanded g) (expanded u))) (IsDescending-trimmed (block_sums (expanded g) (expanded u)) falls_blocks)

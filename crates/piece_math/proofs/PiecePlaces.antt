@@ -37,10 +37,10 @@ some_first (p ∷ ps) fall zero = omega (arith, fall.1)
 some_first (p ∷ ps) fall (suc i) = some_first ps fall.2 i
 
 pub IsPiecePlace-next : (ps : List Piece) (i : ℕ) → ArePieces ps → i < length ps → IsPiecePlace ps (record { at = i + 1; used = 0 })
-IsPiecePlace-next ps i are h = record { within = omega arith; inside = some_first ps are.falls (i + 1) }
+IsPiecePlace-next ps i are h = record { within = omega arith; inside = some_first ps are.descends (i + 1) }
 
 pub IsPiecePlace-start : (ps : List Piece) → ArePieces ps → IsPiecePlace ps (record { at = 0; used = 0 })
-IsPiecePlace-start ps are = record { within = omega arith; inside = some_first ps are.falls 0 }
+IsPiecePlace-start ps are = record { within = omega arith; inside = some_first ps are.descends 0 }
 
 pub place_fits : (ps : List Piece) (i used n : ℕ) → i < length ps → 0 < (first_remaining (drop i ps) used).count → n ≤ (first_remaining (drop i ps) used).count → used + n ≤ length (expanded ps)
 place_fits [] i used n h some le = absurd (omega arith)

@@ -61,7 +61,7 @@ lesser_ends s t r over_s over_t fs ft =
       running_sum-past t (r + 1) (omega arith),
     )))
 
--- This is the state of the walk. The lesser list is built up to the positions; `left_sum` and `right_sum` are the two running sums there
+-- This is the state of the walk. `list` is built up to the positions; `left_sum` and `right_sum` are the two running sums there
 pub record LesserSoFar (a b : List Piece) (places : PiecePlaces) (list : List ℕ) (left_sum right_sum : ℕ) : Type 0 where
   pub walked : Walked a b places
   pub left : left_sum ≡ running_sum (expanded a) walked.rank
@@ -75,10 +75,10 @@ lesser_start a b are_a are_b = record { walked = walk_start a b are_a are_b; lef
 
 module _ {a b : List Piece} (are_a : ArePieces a) (are_b : ArePieces b) where
   falls_a : IsDescending (expanded a)
-  falls_a = IsDescending-expanded a are_a.falls
+  falls_a = IsDescending-expanded a are_a.descends
 
   falls_b : IsDescending (expanded b)
-  falls_b = IsDescending-expanded b are_b.falls
+  falls_b = IsDescending-expanded b are_b.descends
 
   pub lesser_fits : length (lesser (expanded a) (expanded b)) < 2 ^ 64
   lesser_fits =
@@ -107,7 +107,7 @@ module _ {a b : List Piece} (are_a : ArePieces a) (are_b : ArePieces b) where
     pub right_sum_rises : (k : ℕ) → k ≤ stretch.count → running_sum (expanded b) (so_far.walked.rank + k) ≡ right_sum + k * stretch.right
     right_sum_rises k h = omega (arith, so_far.right, running_sum-has_run (expanded b) so_far.walked.rank stretch.count stretch.right (record { same = at_right t so_far.walked }) k h)
 
-    -- Along a stretch the running sums of both lists are lines. Those of the lesser list are the lower line.
+    -- Along a stretch the running sums of both lists are lines. Those of `lesser` are the lower line.
     lesser_sum_rises : (k : ℕ) → k ≤ stretch.count
         → running_sum (lesser (expanded a) (expanded b)) (so_far.walked.rank + k) ≡ lower_at (record { sum = left_sum; step = stretch.left }) (record { sum = right_sum; step = stretch.right }) k
     lesser_sum_rises k h = omega (arith, running_sum-lesser (expanded a) (expanded b) (so_far.walked.rank + k), left_sum_rises k h, right_sum_rises k h)

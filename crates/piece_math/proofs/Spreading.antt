@@ -1,4 +1,4 @@
--- The class weights of rows are built one run of equal weights after another.
+-- The weights that a child gives to rows are built one run of equal weights after another.
 use Rattle.std.proofs.Common.{◌≡◌, ℕ, zero, suc, ◌+◌, ◌-◌, ◌*◌, ◌^◌, ◌<◌, ◌≤◌, List, [], ◌∷◌, ◌++◌, length, get_or, map, take, drop, replicate, refl, ap, sym, ◌∙◌, sum, arith, zero-add, inl, inr, eqb, cond}
 use Rattle.std.specs.List.{AllByRecursion, range_with_len}
 use Rattle.std.proofs.Math.Nat.{mul-one, suc-mul, zero-mul}
@@ -153,10 +153,10 @@ spread_start a b are_a are_b = record { walked = walk_start a b are_a are_b; bui
 
 module _ {a b : List Piece} (are_a : ArePieces a) (are_b : ArePieces b) {places : PiecePlaces} {list : List ℕ} (so_far : SpreadSoFar a b places list) where
   pub spread_falls : IsDescending (trimmed (spread (expanded a) (expanded b)))
-  spread_falls = IsDescending-trimmed (spread (expanded a) (expanded b)) (IsDescending-spread (expanded a) (expanded b) (IsDescending-expanded b are_b.falls))
+  spread_falls = IsDescending-trimmed (spread (expanded a) (expanded b)) (IsDescending-spread (expanded a) (expanded b) (IsDescending-expanded b are_b.descends))
 
   pub spread_positive : AllByRecursion (λ x. 0 < x) (trimmed (spread (expanded a) (expanded b)))
-  spread_positive = trimmed_positive (spread (expanded a) (expanded b)) (IsDescending-spread (expanded a) (expanded b) (IsDescending-expanded b are_b.falls))
+  spread_positive = trimmed_positive (spread (expanded a) (expanded b)) (IsDescending-spread (expanded a) (expanded b) (IsDescending-expanded b are_b.descends))
 
   pub spread_short : length (trimmed (spread (expanded a) (expanded b))) ≤ sum (expanded a)
   spread_short = omega (arith, length-trimmed-le (spread (expanded a) (expanded b)), length-spread (expanded a) (expanded b))

@@ -20,7 +20,7 @@ AreRuns (p ∷ ps) = (first_value ps < p.value) × (0 < p.count) × AreRuns ps
 
 -- pieces that stand for a list whose length fits 64 bits
 pub record ArePieces (ps : List Piece) : Type 0 where
-  pub falls : AreRuns ps
+  pub descends : AreRuns ps
   pub fits : length (expanded ps) < 2 ^ 64
 
 -- `new` is `old` with `count` more elements of this value, or `old` itself if the value is 0. `new` has at most one run more than `old`. The value

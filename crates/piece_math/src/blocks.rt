@@ -49,7 +49,7 @@ fn block_from(weights: &[Piece], start: PiecePlace, rows: u128) -> Block
 // Sums the weights by blocks. Equal blocks that lie within one piece of weights make one piece of the result. A block that crosses the
 // end of a piece makes a piece of its own.
 fn grouped(parent: &Pieces, weights: &Pieces) -> Result<Pieces, NoMemory>
-    ensures falls { IsDescending parent.now }
+    ensures descends { IsDescending parent.now }
     ensures positive { All (λ x. 0 < x) parent.now }
     ensures value { IfOk result (λ list. list ≡ map saturated (trimmed (block_sums parent.now weights.now))) }
     ensures few_pieces { IfOk result (λ list. runs list ≤ runs parent.now + 2 * runs weights.now) }

@@ -1,9 +1,9 @@
 //! Why bounds are safe: five laws of lists in descending order.
 //!
 //! Lists have natural numbers of any size, and a list is 0 past its end. Each law says which lists have to be in descending order (`IsDescending`).
-//! Domination is a statement about any different keys, in any order. No law computes anything: the bodies are empty, and the contract is the law.
+//! Domination doesn't depend on the order of the keys. No law computes anything: the bodies are empty, and the contract is the law.
 //! Products and compositions of dominating lists are from Degree Sequence Bound (ICDT 2023).
-ghost use Rattle.std.specs.Prelude.{◌≡◌, ℕ, ◌+◌, ◌*◌, ◌≤◌, List, [], ◌∷◌, length, map};
+ghost use Rattle.std.specs.Prelude.{ℕ, ◌+◌, ◌*◌, ◌≤◌, List, [], ◌∷◌, length, map};
 ghost use Rattle.std.specs.List.{AllByRecursion, AllZip, sum, sum_by, range_with_len};
 ghost use Rattle.degree_sequences.specs.ByRank.{rank_product, rank_product_of};
 ghost use Rattle.degree_sequences.specs.Composition.{ChildLists, composed, root_total};
@@ -21,30 +21,32 @@ pub fn product_dominates()
         → DominatesWeights s v → DominatesWeights t w → DominatesWeights (rank_product s t) (λ a. v a * w a) }
 {}
 
-/// Composition dominates. Each row has a parent key and a key for each child. Suppose that the composed lists dominate the parent keys, the keys of
-/// each child, and the class weights of these keys. Then the composition dominates the weights of the parent keys. The lists that dominate keys may
-/// have different sums. Each sum is at least the number of rows, because the list dominates.
+/// Composition dominates. Each row has a parent key and a key for each child. Suppose that the parent list dominates the parent keys. Suppose also
+/// that each child's column dominates the child's keys, and its class list the weights of these keys. Then the composition dominates the
+/// weights of the parent keys. The lists that dominate keys may have different sums. Each sum is at least the number of rows, because the list
+/// dominates. Class lists have to be in descending order.
 pub fn compose_dominates()
     // the composition dominates the weights that the rows give to the parent keys
     ensures keys { (parent parent_keys : List ℕ) (lists : List ChildLists) (children : List ChildKeys)
         → DominatesKeys parent parent_keys → AllZip (DominatesChild (length parent_keys)) lists children
         → DominatesWeights (composed parent lists) (weight_of_key parent_keys children) }
-    // the sum of the row weights by rank is at least the sum of the weights of the rows
+    // the total that `root_total` computes from the lists is at least the sum of the rows' weights
     ensures rows { (total rows : ℕ) (lists : List ChildLists) (children : List ChildKeys)
         → rows ≤ total → AllZip (DominatesChild rows) lists children
         → sum_by (weight_of_row children) (range_with_len 0 rows) ≤ root_total lists total }
 {}
 
-/// Product is monotone. Suppose that each list of one family is above the matching list of another family. Then the product of the first
-/// family is above that of the second. All lists have to be in descending order. A list is above another if its running sum at
-/// every rank is at least the other's.
+/// Product is monotone. A list is above another if its running sum at every rank is at least the other's. Suppose that each list of one family is
+/// above the matching list of another family. Then the product of the first family is above that of the second. All lists have to be in descending
+/// order.
 pub fn product_is_monotone()
     ensures { (lists lower : List (List ℕ)) → AllByRecursion IsDescending lists → AllByRecursion IsDescending lower
         → AllZip HasHigherSums lists lower → HasHigherSums (rank_product_of lists) (rank_product_of lower) }
 {}
 
-/// Composition is monotone in the same way. In each family the parent list and the columns have the same sum. The
-/// upper family's sum is at least the lower's. Only the columns of the lower family have to be in descending order.
+/// Composition is monotone in the same way. Suppose that the parent list, the columns and the class lists of one family are above those of another.
+/// Then the composition of the first family is above that of the second. In each family the parent list and the columns have the same sum. All class
+/// lists, and the columns of the second family, have to be in descending order.
 pub fn compose_is_monotone()
     ensures { (parent lower_parent : List ℕ) (children lower : List ChildLists)
         → AllByRecursion (IsChildOf (sum parent)) children → AllByRecursion (IsChildOf (sum lower_parent)) lower
@@ -52,9 +54,10 @@ pub fn compose_is_monotone()
         → HasHigherSums (composed parent children) (composed lower_parent lower) }
 {}
 
-/// Composition scales. Suppose that K times each running sum of the near parent list is at most K + 1 times the exact list's running sum. Suppose
-/// it also of each child's column, and, with the child's scale and factor for K and K + 1, of its class list. Then the compositions satisfy it
-/// with K times the product of the scales, and K + 1 times that of the factors. Only the near columns have to be in descending order.
+/// Composition scales. Suppose that K times each running sum of the near parent list is at most `K + 1` times the exact list's running sum. Suppose
+/// the same of each child's column. For its class list, the child's scale and factor stand in place of K and `K + 1`. Then `K * scales` times each
+/// running sum of the near composition is at most `(K + 1) * factors` times the exact composition's. Here `scales` and `factors` are products over
+/// the children. All class lists, and the near columns, have to be in descending order.
 pub fn compose_scales()
     ensures { (accuracy : ℕ) (parent exact_parent : List ℕ) (children : List MatchedChild)
         → SumsAreWithin accuracy (accuracy + 1) parent exact_parent → AllByRecursion (IsNear accuracy) children
@@ -81,7 +84,7 @@ pub fn instances()
         DominatesKeys (3 ∷ 3 ∷ []) parent_keys
         × AllZip (DominatesChild (length parent_keys)) lists children
         × DominatesWeights (composed (3 ∷ 3 ∷ []) lists) (weight_of_key parent_keys children) }
-    ensures root_dominates { let lists : List ChildLists = record { column = 2 ∷ 2 ∷ 2 ∷ []; class = 4 ∷ 1 ∷ [] } ∷ [] in
+    ensures compose_dominates_rows { let lists : List ChildLists = record { column = 2 ∷ 2 ∷ 2 ∷ []; class = 4 ∷ 1 ∷ [] } ∷ [] in
         let children : List ChildKeys = record { keys = 5 ∷ 5 ∷ 6 ∷ 6 ∷ 7 ∷ 7 ∷ []; weight = degree (5 ∷ 5 ∷ 5 ∷ 5 ∷ 6 ∷ []) } ∷ [] in
         (6 ≤ 6)
         × AllZip (DominatesChild 6) lists children

@@ -4,7 +4,7 @@
 //! time of an operation depends on the number of pieces and never on the number of ranks (Degree Sequence Bound, ICDT 2023;
 //! SafeBound, SIGMOD 2023). Statistics are kept as pieces, and the bound of a join tree is a total (`root_total`).
 //!
-//! Contracts see a `Pieces` as the list that its pieces stand for. In contracts `expanded` is the list of a slice of pieces, and `runs` is
+//! In contracts a `Pieces` is the list that its pieces stand for. There `expanded` is the list of a slice of pieces, and `runs` is
 //! the number of pieces of a list.
 //!
 //! ```text

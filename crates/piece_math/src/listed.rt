@@ -9,7 +9,7 @@ use std::alloc::Global;
 
 // How many elements, from `start` on, are equal to the element at `start`. In a descending list equal elements are neighbours.
 fn run_length(list: &[u64], start: usize) -> usize
-    requires falls { IsDescending list.now }
+    requires descends { IsDescending list.now }
     requires start { start < length list.now }
     ensures some { 0 < result }
     ensures within { start + result ≤ length list.now }
@@ -22,7 +22,7 @@ fn run_length(list: &[u64], start: usize) -> usize
 impl Pieces {
     /// The given list, as pieces. The end of each run is found by binary search, so the time grows with the number of runs, hardly with the length.
     pub fn from_list(alloc: Global, list: &[u64]) -> Result<Pieces, NoMemory>
-        requires falls { IsDescending list.now }
+        requires descends { IsDescending list.now }
         requires positive { All (λ x. 0 < x) list.now }
         ensures { IfOk result (λ pieces. pieces ≡ list.now) }
     {

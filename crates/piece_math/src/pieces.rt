@@ -67,7 +67,7 @@ impl Pieces {
     /// Appends `count` elements of a value that is at most each element so far. On `NoMemory` the list is unchanged.
     pub fn push_run(&mut self, value: u128, count: u64) -> Result<(), NoMemory>
         requires value { 0 < value }
-        requires falls { All (λ x. value ≤ x) self.old }
+        requires descends { All (λ x. value ≤ x) self.old }
         requires count { 0 < count }
         requires room { length self.old + count < 2 ^ 64 }
         ensures ok { OnOk result (self.new ≡ self.old ++ replicate count value) }
@@ -89,7 +89,7 @@ impl Pieces {
 
     // Appends `count` elements of a value, unless the value is 0.
     pub(crate) fn put(&mut self, value: u128, count: u64) -> Result<(), NoMemory>
-        requires falls { 0 < value → 0 < count → All (λ x. value ≤ x) self.old }
+        requires descends { 0 < value → 0 < count → All (λ x. value ≤ x) self.old }
         requires room { 0 < value → 0 < count → length self.old + count < 2 ^ 64 }
         ensures { OnOk result (IsAppended self.old self.new value count) }
     {

@@ -1,4 +1,4 @@
-//! Walks along pieces: how many elements from a position (`PiecePlace`) on are equal, and the position after them.
+//! Walks along pieces: how many equal elements follow a position (`PiecePlace`), and the position after them.
 ghost use Rattle.std.specs.Prelude.{◌≡◌, ◌+◌, ◌<◌, ◌≤◌, ◌⊎◌, drop, length};
 ghost use Rattle.piece_math.specs.Expanded.{ArePieces};
 ghost use Rattle.piece_math.specs.PiecePlaces.{rest_from, ahead_of, IsPiecePlace, IsStretch};

@@ -13,14 +13,15 @@ use crate::walk::{PiecePlaces, START, next_stretch};
 use base_io::NoMemory;
 use std::alloc::Global;
 
-/// A child of a table: the list of the table's column that joins the child, and the list of the child's class weights.
+/// A child of a table. `column` is the list of the column by which the table joins the child. `class` has the weights that the child gives to rows,
+/// by their rank in this column.
 #[derive(Debug, Drop)]
 pub struct Child {
     pub column: Pieces,
     pub class: Pieces,
 }
 
-// The class weight of each row, by its rank in the column.
+// For each row the weight that the child gives it: the element of `class` at the row's rank in `column`.
 fn spread(child: &Child) -> Result<Pieces, NoMemory>
     requires { sum child.now.column < 2 ^ 64 }
     ensures lists { IsChildOf (sum child.now.column) (lists_of child.now) }

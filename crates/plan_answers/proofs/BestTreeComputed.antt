@@ -5,7 +5,7 @@ use Rattle.std.specs.List.{AllByRecursion as Each, list_all}
 use Rattle.std.proofs.lemmas.Bool.{and_from, and_parts, both_ways, cases_Bool, cases_lt, eq-eqb, eqb-true, false_from_ne_true, lt-ltb, ltb-true, not-true, not_from_false, or_cases, or_left, or_right}
 use Rattle.plan_answers.proofs.AllOrders.{each_so}
 use Rattle.bushy_plan.specs.BestTree.{IsTreeBefore, IsBest, full_set, cost, total}
-use Rattle.bushy_plan.specs.PlanTrees.{IsTreeOver, PlanTree, leaf, node, leaf_set}
+use Rattle.bushy_plan.specs.PlanTrees.{IsTreeOver, PlanTree, leaf, node, leaf_bits}
 use Rattle.bushy_plan.proofs.SomeBest.{some_best}
 use Rattle.plan_answers.specs.AllTrees.{all_trees, best_tree, is_before, is_no_worse, is_same}
 use Rattle.plan_answers.proofs.AllTreesListed.{at_tree, listed_are_trees}
@@ -32,11 +32,11 @@ second_decides a b c d = is_before a b || (is_same a b && is_before c d)
 before_if_test : (a b : PlanTree) → is_before a b ≡ true → IsTreeBefore a b
 before_if_test (leaf a) b h = absurd (both_ways false refl h)
 before_if_test (node left right) (leaf b) h = absurd (both_ways false refl h)
-before_if_test (node left right) (node left' right') h = elim (or_cases (ltb (leaf_set left) (leaf_set left')) (eqb (leaf_set left) (leaf_set left') && second_decides left left' right right') h) [
-  | inl less ↦ inl (ltb-true (leaf_set left) (leaf_set left') less)
-  | inr here ↦ (let parts : (eqb (leaf_set left) (leaf_set left') ≡ true) × (second_decides left left' right right' ≡ true) = and_parts (eqb (leaf_set left) (leaf_set left')) (second_decides left left' right right') here in
+before_if_test (node left right) (node left' right') h = elim (or_cases (ltb (leaf_bits left) (leaf_bits left')) (eqb (leaf_bits left) (leaf_bits left') && second_decides left left' right right') h) [
+  | inl less ↦ inl (ltb-true (leaf_bits left) (leaf_bits left') less)
+  | inr here ↦ (let parts : (eqb (leaf_bits left) (leaf_bits left') ≡ true) × (second_decides left left' right right' ≡ true) = and_parts (eqb (leaf_bits left) (leaf_bits left')) (second_decides left left' right right') here in
       inr (
-        eqb-true (leaf_set left) (leaf_set left') parts.0,
+        eqb-true (leaf_bits left) (leaf_bits left') parts.0,
         elim (or_cases (is_before left left') (is_same left left' && is_before right right') parts.1) [
           | inl first ↦ inl (before_if_test left left' first)
           | inr second ↦ (let both : (is_same left left' ≡ true) × (is_before right right' ≡ true) = and_parts (is_same left left') (is_before right right') second in
@@ -49,9 +49,9 @@ test_if_before : (a b : PlanTree) → IsTreeBefore a b → is_before a b ≡ tru
 test_if_before (leaf a) b h = absurd h
 test_if_before (node left right) (leaf b) h = absurd h
 test_if_before (node left right) (node left' right') h = elim h [
-  | inl less ↦ or_left (ltb (leaf_set left) (leaf_set left')) (eqb (leaf_set left) (leaf_set left') && second_decides left left' right right') (lt-ltb (leaf_set left) (leaf_set left') less)
-  | inr here ↦ or_right (ltb (leaf_set left) (leaf_set left')) (eqb (leaf_set left) (leaf_set left') && second_decides left left' right right')
-      (and_from (eqb (leaf_set left) (leaf_set left')) (second_decides left left' right right') (eq-eqb (leaf_set left) (leaf_set left') here.0) (elim here.1 [
+  | inl less ↦ or_left (ltb (leaf_bits left) (leaf_bits left')) (eqb (leaf_bits left) (leaf_bits left') && second_decides left left' right right') (lt-ltb (leaf_bits left) (leaf_bits left') less)
+  | inr here ↦ or_right (ltb (leaf_bits left) (leaf_bits left')) (eqb (leaf_bits left) (leaf_bits left') && second_decides left left' right right')
+      (and_from (eqb (leaf_bits left) (leaf_bits left')) (second_decides left left' right right') (eq-eqb (leaf_bits left) (leaf_bits left') here.0) (elim here.1 [
         | inl first ↦ or_left (is_before left left') (is_same left left' && is_before right right') (test_if_before left left' first)
         | inr second ↦ or_right (is_before left left') (is_same left left' && is_before right right')
             (and_from (is_same left left') (is_before right right') (subst (λ (t : PlanTree). is_same left t ≡ true) second.0 (same_itself left)) (test_if_before right right' second.1))

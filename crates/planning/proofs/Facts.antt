@@ -20,7 +20,7 @@ pub record Facts (tables : Tables) (accuracy : ℕ) : Type 0 where
   pub lists : (entry column : ℕ) → ListsStandFor (column_lists tables accuracy entry column) tables entry (key entry column)
   pub counts : (entry : ℕ) → CountsStandFor (entry_counts tables entry) tables entry
   pub sums : (entry column : ℕ) → SumTo (column_lists tables accuracy entry column) (entry_counts tables entry)
-  pub falls : (entry column : ℕ) → ListsDescend (column_lists tables accuracy entry column)
+  pub descends : (entry column : ℕ) → ListsDescend (column_lists tables accuracy entry column)
 
 pub facts : (tables : Tables) (accuracy : ℕ) → Facts tables accuracy
 facts tables accuracy =
@@ -31,7 +31,7 @@ facts tables accuracy =
       lists = λ entry column. lists_stand tables accuracy entry column (keys.0 entry column) (keys.1 entry column);
       counts = counts_stand tables;
       sums = lists_sum tables accuracy;
-      falls = lists_descend tables accuracy;
+      descends = lists_descend tables accuracy;
     }
 
 pub each_column : (Q : ℕ → ℕ → Type 0) (es : List Edge) → ((entry column : ℕ) → Q entry column) → EachNamedColumn Q es

@@ -52,7 +52,7 @@ scans_from_statistics query stats lists are =
 
 list_there : (lists : EntryLists) (entry column : ℕ) (list : List ℕ) → list_of lists entry column ≡ Some list → HasList (bounds_of lists) entry column
 list_there lists entry column list is = record {
-  falls = subst (λ (o : Option (List ℕ)). IsDescending (unwrap_or o [])) (sym is) (lists.sums entry column list is).0;
+  descends = subst (λ (o : Option (List ℕ)). IsDescending (unwrap_or o [])) (sym is) (lists.sums entry column list is).0;
   total = ap (λ (o : Option (List ℕ)). sum (unwrap_or o [])) is ∙ sym (ap (λ (o : Option ℕ). unwrap_or o 0) (lists.sums entry column list is).1);
 }
 

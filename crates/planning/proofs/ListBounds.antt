@@ -38,7 +38,7 @@ module _ (tables : Tables) (lists : List (List ℕ)) (accuracy : ℕ) where
   has_list entry column =
       let values : List Value = listed_values tables lists entry column in
       record {
-        falls = IsDescending-compressed accuracy (degree_list (as_first_rows values)) (IsDescending-degree_list (as_first_rows values));
+        descends = IsDescending-compressed accuracy (degree_list (as_first_rows values)) (IsDescending-degree_list (as_first_rows values));
         total =
             sum-compressed accuracy (degree_list (as_first_rows values)) (IsDescending-degree_list (as_first_rows values)) ∙ sum-degree_list (as_first_rows values)
             ∙ length-map values (first_row values) ∙ length-map (list_at lists entry) (value_in_row tables entry column);

@@ -66,7 +66,7 @@ module _ (query : Query) (tables : Tables) (accuracy : ℕ) where
       stand_for_scans query (statistics_of tables accuracy) tables f.key (stand_for query tables accuracy f)
       (have_lists query (statistics_of tables accuracy)
       (each_column (λ entry column. ListsDescend (column_lists tables accuracy entry column) × SumTo (column_lists tables accuracy entry column) (entry_counts tables entry))
-      (equalities_of query) (λ entry column. (f.falls entry column, f.sums entry column))))
+      (equalities_of query) (λ entry column. (f.descends entry column, f.sums entry column))))
       (f.joins (equalities_of query))
 
   pub scan_never_under : (entry : ℕ) → entry < length query.from

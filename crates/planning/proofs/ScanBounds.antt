@@ -43,8 +43,8 @@ module _ (query : Query) (known : Statistics) where
   has_list : (entry column : ℕ) → ListsDescend (known.lists entry column) → SumTo (known.lists entry column) (known.counts entry)
       → entry < length query.from
       → is_among (joined_columns query) entry column ≡ true → HasList (entry_bounds query known) entry column
-  has_list entry column falls sums entry_in_range among = record {
-    falls = subst IsDescending (sym (joined_list entry column among)) (filtered_descends (known.lists entry column) entry query.conjuncts falls);
+  has_list entry column descends sums entry_in_range among = record {
+    descends = subst IsDescending (sym (joined_list entry column among)) (filtered_descends (known.lists entry column) entry query.conjuncts descends);
     total =
         ap (λ (s : List ℕ). sum s) (joined_list entry column among)
         ∙ sum-filtered (known.lists entry column) (known.counts entry) entry query.conjuncts sums ∙ sym (rows_at entry entry_in_range);

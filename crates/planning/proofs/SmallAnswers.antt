@@ -14,7 +14,7 @@ use Rattle.query_types.specs.declared.types.Operand.TheVariants as operand
 use Rattle.query_types.specs.declared.types.Query.{Query}
 use Rattle.query_types.proofs.CondFacts.{entries_compare}
 use Rattle.join_graph.specs.Conjuncts.{column_operand}
-use Rattle.join_graph.specs.Examples.{triangle as sides}
+use Rattle.join_graph.specs.Examples.{triangle as triangle_equalities}
 use Rattle.join_graph.proofs.Comparing.{equality_two}
 use Rattle.sql_meaning.specs.Answers.{answer, entries_of, query_holds, selected}
 use Rattle.sql_meaning.specs.Choices.{choices_of}
@@ -31,7 +31,7 @@ use Rattle.join_steps.specs.Lists.{scans_of}
 use Rattle.planning.specs.ListedBounds.{set_bounds_over}
 use Rattle.planning.specs.ReducedExamples.{crossed_tables, empty_first_tables, never_true_query, unjoined_entry_query}
 use Rattle.planning.specs.Plans.{planned_reduced}
-use Rattle.planning.proofs.SmallReductions.{another_reduced, plan_computed, reduced_from}
+use Rattle.planning.proofs.SmallReductions.{empty_first_reduced, plan_computed, reduced_from}
 
 -- the answer, computed by a single test that says whether every conjunct holds
 answer_by_test : (query : Query) (tables : Tables) (test : (ℕ → ℕ) → Bool) → ((row_of : ℕ → ℕ) → query_holds query tables row_of ≡ test row_of)
@@ -71,18 +71,18 @@ never_answer =
 
 -- ---- an empty table, and a table that isn't joined
 
-another_sets : set_bounds_over unjoined_entry_query empty_first_tables ([] ∷ [] ∷ (0 ∷ 1 ∷ []) ∷ []) 1 ≡ 1 ∷ 0 ∷ 0 ∷ 0 ∷ 2 ∷ 0 ∷ 0 ∷ 0 ∷ []
+empty_first_sets : set_bounds_over unjoined_entry_query empty_first_tables ([] ∷ [] ∷ (0 ∷ 1 ∷ []) ∷ []) 1 ≡ 1 ∷ 0 ∷ 0 ∷ 0 ∷ 2 ∷ 0 ∷ 0 ∷ 0 ∷ []
 unfolding entries_of_set
-another_sets = rw (equality_two 0 0 1 0 (λ e. absurd (omega (arith, e)))) refl
+empty_first_sets = rw (equality_two 0 0 1 0 (λ e. absurd (omega (arith, e)))) refl
 
-another_chosen : plan_answer (1 ∷ 0 ∷ 0 ∷ 0 ∷ 2 ∷ 0 ∷ 0 ∷ 0 ∷ []) (0 ∷ 0 ∷ 2 ∷ []) 1 ≡ Ok (plan_of (0 ∷ 1 ∷ 2 ∷ []) (0 ∷ 0 ∷ 2 ∷ []) (0 ∷ 0 ∷ 0 ∷ []))
+empty_first_chosen : plan_answer (1 ∷ 0 ∷ 0 ∷ 0 ∷ 2 ∷ 0 ∷ 0 ∷ 0 ∷ []) (0 ∷ 0 ∷ 2 ∷ []) 1 ≡ Ok (plan_of (0 ∷ 1 ∷ 2 ∷ []) (0 ∷ 0 ∷ 2 ∷ []) (0 ∷ 0 ∷ 0 ∷ []))
 unfolding plan_answer best_order
-another_chosen = refl
+empty_first_chosen = refl
 
-pub another_plan : planned_reduced unjoined_entry_query empty_first_tables 1 1 ≡ Ok (plan_of (0 ∷ 1 ∷ 2 ∷ []) (0 ∷ 0 ∷ 2 ∷ []) (0 ∷ 0 ∷ 0 ∷ []))
-another_plan =
-    plan_computed unjoined_entry_query empty_first_tables ([] ∷ [] ∷ (0 ∷ 1 ∷ []) ∷ []) 1 1 (1 ∷ 0 ∷ 0 ∷ 0 ∷ 2 ∷ 0 ∷ 0 ∷ 0 ∷ []) (0 ∷ 0 ∷ 2 ∷ []) another_reduced another_sets refl
-    ∙ another_chosen
+pub empty_first_plan : planned_reduced unjoined_entry_query empty_first_tables 1 1 ≡ Ok (plan_of (0 ∷ 1 ∷ 2 ∷ []) (0 ∷ 0 ∷ 2 ∷ []) (0 ∷ 0 ∷ 0 ∷ []))
+empty_first_plan =
+    plan_computed unjoined_entry_query empty_first_tables ([] ∷ [] ∷ (0 ∷ 1 ∷ []) ∷ []) 1 1 (1 ∷ 0 ∷ 0 ∷ 0 ∷ 2 ∷ 0 ∷ 0 ∷ 0 ∷ []) (0 ∷ 0 ∷ 2 ∷ []) empty_first_reduced empty_first_sets refl
+    ∙ empty_first_chosen
 
 -- ---- three tables joined in a cycle
 
@@ -97,11 +97,11 @@ crossed_scans =
       entries_compare op.Eq (column_operand 2 1) (column_operand 0 1),
     ) refl
 
-crossed_rounds : after_rounds sides (are_equal_at crossed_tables) 7 two_each ≡ two_each
+crossed_rounds : after_rounds triangle_equalities (are_equal_at crossed_tables) 7 two_each ≡ two_each
 crossed_rounds = refl
 
 pub crossed_reduced : reduced_of triangle crossed_tables ≡ two_each
-crossed_reduced = reduced_from triangle crossed_tables sides two_each triangle_joined crossed_scans ∙ crossed_rounds
+crossed_reduced = reduced_from triangle crossed_tables triangle_equalities two_each triangle_joined crossed_scans ∙ crossed_rounds
 
 abbrev crossed_says : (ℕ → ℕ) → Bool
 crossed_says row_of =

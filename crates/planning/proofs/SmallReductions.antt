@@ -14,7 +14,7 @@ use Rattle.query_types.specs.declared.types.Operand.TheVariants as operand
 use Rattle.query_types.specs.declared.types.Query.{Query}
 use Rattle.query_types.proofs.CondFacts.{entries_compare}
 use Rattle.join_graph.specs.Conjuncts.{column_operand, equalities_of}
-use Rattle.join_graph.specs.Examples.{triangle as sides}
+use Rattle.join_graph.specs.Examples.{triangle as triangle_equalities}
 use Rattle.join_graph.proofs.Comparing.{equality_literal, equality_two}
 use Rattle.sql_meaning.specs.Answers.{conjuncts_of}
 use Rattle.sql_meaning.specs.Conditions.{comparison_holds}
@@ -167,11 +167,11 @@ triangle_scans =
       entries_compare op.Eq (column_operand 2 1) (column_operand 0 1),
     ) refl
 
-triangle_rounds : after_rounds sides (are_equal_at three_tables) 10 three_each ≡ three_each
+triangle_rounds : after_rounds triangle_equalities (are_equal_at three_tables) 10 three_each ≡ three_each
 triangle_rounds = refl
 
 pub triangle_reduced : reduced_of triangle three_tables ≡ three_each
-triangle_reduced = reduced_from triangle three_tables sides three_each triangle_joined triangle_scans ∙ triangle_rounds
+triangle_reduced = reduced_from triangle three_tables triangle_equalities three_each triangle_joined triangle_scans ∙ triangle_rounds
 
 triangle_sets : set_bounds_over triangle three_tables three_each 1 ≡ 1 ∷ 3 ∷ 3 ∷ 5 ∷ 3 ∷ 5 ∷ 5 ∷ 9 ∷ []
 unfolding entries_of_set
@@ -188,18 +188,18 @@ triangle_plan =
 
 -- ---- an empty table, and a constant condition that is false
 
-another_joined : equalities_of unjoined_entry_query ≡ edge_of 0 0 1 0 ∷ []
-another_joined = rw (equality_two 0 0 1 0 (λ e. absurd (omega (arith, e)))) refl
+empty_first_joined : equalities_of unjoined_entry_query ≡ edge_of 0 0 1 0 ∷ []
+empty_first_joined = rw (equality_two 0 0 1 0 (λ e. absurd (omega (arith, e)))) refl
 
-another_scans : scans_of unjoined_entry_query empty_first_tables ≡ [] ∷ (0 ∷ 1 ∷ []) ∷ (0 ∷ 1 ∷ []) ∷ []
-another_scans = rw (entries_compare op.Eq (column_operand 0 0) (column_operand 1 0)) refl
+empty_first_scans : scans_of unjoined_entry_query empty_first_tables ≡ [] ∷ (0 ∷ 1 ∷ []) ∷ (0 ∷ 1 ∷ []) ∷ []
+empty_first_scans = rw (entries_compare op.Eq (column_operand 0 0) (column_operand 1 0)) refl
 
-another_rounds : after_rounds (edge_of 0 0 1 0 ∷ []) (are_equal_at empty_first_tables) 5 ([] ∷ (0 ∷ 1 ∷ []) ∷ (0 ∷ 1 ∷ []) ∷ []) ≡ [] ∷ [] ∷ (0 ∷ 1 ∷ []) ∷ []
-another_rounds = refl
+empty_first_rounds : after_rounds (edge_of 0 0 1 0 ∷ []) (are_equal_at empty_first_tables) 5 ([] ∷ (0 ∷ 1 ∷ []) ∷ (0 ∷ 1 ∷ []) ∷ []) ≡ [] ∷ [] ∷ (0 ∷ 1 ∷ []) ∷ []
+empty_first_rounds = refl
 
-pub another_reduced : reduced_of unjoined_entry_query empty_first_tables ≡ [] ∷ [] ∷ (0 ∷ 1 ∷ []) ∷ []
-another_reduced =
-    reduced_from unjoined_entry_query empty_first_tables (edge_of 0 0 1 0 ∷ []) ([] ∷ (0 ∷ 1 ∷ []) ∷ (0 ∷ 1 ∷ []) ∷ []) another_joined another_scans ∙ another_rounds
+pub empty_first_reduced : reduced_of unjoined_entry_query empty_first_tables ≡ [] ∷ [] ∷ (0 ∷ 1 ∷ []) ∷ []
+empty_first_reduced =
+    reduced_from unjoined_entry_query empty_first_tables (edge_of 0 0 1 0 ∷ []) ([] ∷ (0 ∷ 1 ∷ []) ∷ (0 ∷ 1 ∷ []) ∷ []) empty_first_joined empty_first_scans ∙ empty_first_rounds
 
 never_joined : equalities_of never_true_query ≡ edge_of 0 0 1 0 ∷ []
 never_joined = rw (equality_two 0 0 1 0 (λ e. absurd (omega (arith, e))), equality_literal (operand.Int (pos 1)) (operand.Int (pos 2)) refl) refl

@@ -15,10 +15,10 @@ node_after left own (suc m) = own + m
 
 along_more : (left own : ℕ) (entries bounds : List ℕ) (entry bound : ℕ) → length bounds ≡ length entries
     → joins_along left own (entries ++ entry ∷ []) (bounds ++ bound ∷ []) ≡ joins_along left own entries bounds ++ join_of (node_after left own (length entries)) entry bound ∷ []
-along_more left own [] [] entry bound long = refl
-along_more left own [] (b ∷ bounds) entry bound long = absurd (omega arith)
-along_more left own (e ∷ entries) [] entry bound long = absurd (omega arith)
-along_more left own (e ∷ entries) (b ∷ bounds) entry bound long =
+along_more left own [] [] entry bound lengths = refl
+along_more left own [] (b ∷ bounds) entry bound lengths = absurd (omega arith)
+along_more left own (e ∷ entries) [] entry bound lengths = absurd (omega arith)
+along_more left own (e ∷ entries) (b ∷ bounds) entry bound lengths =
     ap (λ (s : List Join). join_of left e b ∷ s) (along_more own (own + 1) entries bounds entry bound (omega arith) ∙ ap (λ (m : ℕ). joins_along own (own + 1) entries bounds ++ join_of m entry bound ∷ []) (next (length entries)))
   where
     next : (m : ℕ) → node_after own (own + 1) m ≡ node_after left own (suc m)
@@ -31,9 +31,9 @@ level_later n order k later = ap (λ (b : Bool). cond b (get_or order 0 0) (n + 
 
 order_more : (n : ℕ) (order levels : List ℕ) (entry level k : ℕ) → length levels ≡ length order → k ≡ length order → 1 ≤ k
     → joins_of_order n (order ++ entry ∷ []) (levels ++ level ∷ []) ≡ joins_of_order n order levels ++ join_of (level_node n order k) entry level ∷ []
-order_more n [] levels entry level k long is some = absurd (omega arith)
-order_more n (first ∷ others) [] entry level k long is some = absurd (omega arith)
-order_more n (first ∷ others) (l ∷ levels) entry level k long is some =
+order_more n [] levels entry level k lengths is some = absurd (omega arith)
+order_more n (first ∷ others) [] entry level k lengths is some = absurd (omega arith)
+order_more n (first ∷ others) (l ∷ levels) entry level k lengths is some =
     along_more first n others levels entry level (omega arith) ∙ ap (λ (m : ℕ). joins_along first n others levels ++ join_of m entry level ∷ []) (here others k (omega arith))
   where
     here : (others : List ℕ) (k : ℕ) → k ≡ length others + 1 → node_after first n (length others) ≡ level_node n (first ∷ others) k
@@ -51,7 +51,7 @@ level_node_taken n (first ∷ others) (suc k) some = refl
 -- one more join is that of the next entry
 pub next_join : (n : ℕ) (order levels : List ℕ) (k : ℕ) (d e : ℕ) → length levels ≡ length order → 1 ≤ k → k < length order → (joins : List Join) → joins ≡ joins_of_order n (take k order) (take k levels)
     → joins ++ join_of (level_node n order k) (get_or order k d) (get_or levels k e) ∷ [] ≡ joins_of_order n (take (k + 1) order) (take (k + 1) levels)
-next_join n order levels k d e long some low joins so_far =
+next_join n order levels k d e lengths some low joins so_far =
     let first : length (take k order) ≡ k = length-take-le k order (omega arith) in
     let firsts : length (take k levels) ≡ k = length-take-le k levels (omega arith) in
     ap (λ (s : List Join). s ++ join_of (level_node n order k) (get_or order k d) (get_or levels k e) ∷ []) so_far
@@ -67,10 +67,10 @@ greatest_more (first ∷ joins) join = let rest = greatest_more joins join in om
 pub next_written : (n : ℕ) (order levels : List ℕ) (k : ℕ) (d e left : ℕ) → length levels ≡ length order → 1 ≤ k → k < length order → (into : List Join) → length into + 1 ≡ length order → left ≡ level_node n order k
     → take (k - 1) into ≡ joins_of_order n (take k order) (take k levels)
     → take (k + 1 - 1) (set into (k - 1) (join_of left (get_or order k d) (get_or levels k e))) ≡ joins_of_order n (take (k + 1) order) (take (k + 1) levels)
-next_written n order levels k d e left long some low into room is so_far =
+next_written n order levels k d e left lengths some low into room is so_far =
     let join : Join = join_of left (get_or order k d) (get_or levels k e) in
     let place : k + 1 - 1 ≡ (k - 1) + 1 = omega (arith, some) in
     ap (λ (m : ℕ). take m (set into (k - 1) join)) place
     ∙ take_more_set into (k - 1) join (omega (arith, some, low, room))
     ∙ ap (λ (m : ℕ). take (k - 1) into ++ join_of m (get_or order k d) (get_or levels k e) ∷ []) is
-    ∙ next_join n order levels k d e long some low (take (k - 1) into) so_far
+    ∙ next_join n order levels k d e lengths some low (take (k - 1) into) so_far

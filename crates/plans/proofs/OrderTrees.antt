@@ -71,9 +71,9 @@ entry_once n order is entry low = elim (cases_eq (count_in entry order) 0) [
 -- ---- the joins along some entries
 
 along_length : (left own : ℕ) (entries bounds : List ℕ) → length bounds ≡ length entries → length (joins_along left own entries bounds) ≡ length entries
-along_length left own [] bounds long = refl
-along_length left own (e ∷ entries) [] long = absurd (omega arith)
-along_length left own (e ∷ entries) (b ∷ bounds) long = ap suc (along_length own (own + 1) entries bounds (omega arith))
+along_length left own [] bounds lengths = refl
+along_length left own (e ∷ entries) [] lengths = absurd (omega arith)
+along_length left own (e ∷ entries) (b ∷ bounds) lengths = ap suc (along_length own (own + 1) entries bounds (omega arith))
 
 along_behind : (n left own : ℕ) (entries bounds : List ℕ) → left < own → n ≤ own → AllByRecursion (λ e. e < n) entries → HaveHigherNumbers own (joins_along left own entries bounds)
 along_behind n left own [] bounds low from below = tt
@@ -94,9 +94,9 @@ named_more node join joins =
 
 -- a node numbered below these joins, except the first left node, is joined as often as it occurs in `entries`
 named_entry : (node left own : ℕ) (entries bounds : List ℕ) → length bounds ≡ length entries → node < own → (left ≡ node → ⊥) → times_joined node (joins_along left own entries bounds) ≡ count_in node entries
-named_entry node left own [] bounds long low other = refl
-named_entry node left own (e ∷ entries) [] long low other = absurd (omega arith)
-named_entry node left own (e ∷ entries) (b ∷ bounds) long low other = omega (
+named_entry node left own [] bounds lengths low other = refl
+named_entry node left own (e ∷ entries) [] lengths low other = absurd (omega arith)
+named_entry node left own (e ∷ entries) (b ∷ bounds) lengths low other = omega (
   arith,
   named_more node (join_of left e b) (joins_along own (own + 1) entries bounds),
   one_other left node other,
@@ -110,9 +110,9 @@ none_of_entries n node (e ∷ entries) from below =
     omega (arith, times_more node e entries, one_other e node (λ same. absurd (omega (arith, same, below.0, from))), none_of_entries n node entries from below.1)
 
 first_left : (n own : ℕ) (entries bounds : List ℕ) → length bounds ≡ length entries → AllByRecursion (λ e. e < n) entries → n ≤ own → 1 ≤ length entries → times_joined own (joins_along own (own + 1) entries bounds) ≡ 1
-first_left n own [] bounds long below from some = absurd (omega arith)
-first_left n own (e ∷ entries) [] long below from some = absurd (omega arith)
-first_left n own (e ∷ entries) (b ∷ bounds) long below from some = omega (
+first_left n own [] bounds lengths below from some = absurd (omega arith)
+first_left n own (e ∷ entries) [] lengths below from some = absurd (omega arith)
+first_left n own (e ∷ entries) (b ∷ bounds) lengths below from some = omega (
   arith,
   named_more own (join_of own e b) (joins_along (own + 1) (own + 1 + 1) entries bounds),
   one_same own own refl,
@@ -124,9 +124,9 @@ first_left n own (e ∷ entries) (b ∷ bounds) long below from some = omega (
 -- each join except the last is the left node of the next join, and isn't joined anywhere else
 named_join : (n node left own : ℕ) (entries bounds : List ℕ) → length bounds ≡ length entries → AllByRecursion (λ e. e < n) entries → n ≤ own → own ≤ node → node + 1 < own + length entries → (left ≡ node → ⊥)
     → times_joined node (joins_along left own entries bounds) ≡ 1
-named_join n node left own [] bounds long below from under within other = absurd (omega arith)
-named_join n node left own (e ∷ entries) [] long below from under within other = absurd (omega arith)
-named_join n node left own (e ∷ entries) (b ∷ bounds) long below from under within other =
+named_join n node left own [] bounds lengths below from under within other = absurd (omega arith)
+named_join n node left own (e ∷ entries) [] lengths below from under within other = absurd (omega arith)
+named_join n node left own (e ∷ entries) (b ∷ bounds) lengths below from under within other =
     let rest : times_joined node (joins_along own (own + 1) entries bounds) ≡ 1 =
     elim (cases_eq own node) [
       | inr later ↦ named_join n node own (own + 1) entries bounds (omega arith) below.1 (omega arith) (omega (arith, under, later)) (omega arith) later
@@ -137,11 +137,11 @@ named_join n node left own (e ∷ entries) (b ∷ bounds) long below from under 
 -- ---- the joins of an order
 
 named_in_order : (n : ℕ) (order levels : List ℕ) → IsOrder n order → length levels ≡ length order → (node : ℕ) → node < 2 * n - 2 → times_joined node (joins_of_order n order levels) ≡ 1
-named_in_order n [] levels is long node low = absurd (omega (arith, is.all))
-named_in_order n (first ∷ others) [] is long node low = absurd (omega arith)
-named_in_order n (first ∷ []) (l ∷ levels) is long node low = absurd (omega (arith, is.all))
-named_in_order n (first ∷ second ∷ others) (l ∷ []) is long node low = absurd (omega arith)
-named_in_order n (first ∷ second ∷ others) (l ∷ m ∷ levels) is long node low = elim (cases_lt node n) [
+named_in_order n [] levels is lengths node low = absurd (omega (arith, is.all))
+named_in_order n (first ∷ others) [] is lengths node low = absurd (omega arith)
+named_in_order n (first ∷ []) (l ∷ levels) is lengths node low = absurd (omega (arith, is.all))
+named_in_order n (first ∷ second ∷ others) (l ∷ []) is lengths node low = absurd (omega arith)
+named_in_order n (first ∷ second ∷ others) (l ∷ m ∷ levels) is lengths node low = elim (cases_lt node n) [
   | inl entry ↦ omega (
     arith,
     named_more node (join_of first second m) (joins_along n (n + 1) others levels),
@@ -154,9 +154,9 @@ named_in_order n (first ∷ second ∷ others) (l ∷ m ∷ levels) is long node
 ]
 
 pub order_length : (n : ℕ) (order levels : List ℕ) → 1 ≤ length order → length levels ≡ length order → length (joins_of_order n order levels) + 1 ≡ length order
-order_length n [] levels some long = absurd (omega arith)
-order_length n (first ∷ others) [] some long = absurd (omega arith)
-order_length n (first ∷ others) (l ∷ levels) some long = omega (arith, along_length first n others levels (omega arith))
+order_length n [] levels some lengths = absurd (omega arith)
+order_length n (first ∷ others) [] some lengths = absurd (omega arith)
+order_length n (first ∷ others) (l ∷ levels) some lengths = omega (arith, along_length first n others levels (omega arith))
 
 order_behind : (n : ℕ) (order levels : List ℕ) → AllByRecursion (λ e. e < n) order → HaveHigherNumbers n (joins_of_order n order levels)
 order_behind n [] levels below = tt
@@ -172,14 +172,14 @@ order_leaves n (first ∷ others) (l ∷ levels) below = along_leaves n first n 
 
 pub order_is_tree : (n : ℕ) (plan : Plan) → 1 ≤ n → n ≤ 12 → IsPlan n plan → IsTreePlan n (tree_of_order plan)
 order_is_tree n plan some few is =
-    let long : length plan.levels ≡ length plan.order = is.levels ∙ sym is.order.all in
+    let lengths : length plan.levels ≡ length plan.order = is.levels ∙ sym is.order.all in
     subst (λ (m : ℕ). IsTreePlan n (record { joins = joins_of_order m plan.order plan.levels; scans = plan.scans; cost = (tree_of_order plan).cost })) (sym is.scans)
     (record {
       few = few;
       scans = is.scans;
-      joins = order_length n plan.order plan.levels (omega (arith, is.order.all, some)) long ∙ is.order.all;
+      joins = order_length n plan.order plan.levels (omega (arith, is.order.all, some)) lengths ∙ is.order.all;
       behind = order_behind n plan.order plan.levels is.order.entries;
-      once = named_in_order n plan.order plan.levels is.order long;
+      once = named_in_order n plan.order plan.levels is.order lengths;
     })
 
 pub right_leaves : (n : ℕ) (plan : Plan) → IsPlan n plan → AllByRecursion (λ join. join.right < n) (tree_of_order plan).joins

@@ -18,41 +18,41 @@ bounds_of joins = map (λ join. join.bound) joins
 
 along_rights : (left own : ℕ) (entries bounds : List ℕ) → length bounds ≡ length entries → rights (joins_along left own entries bounds) ≡ entries
 unfolding rights
-along_rights left own [] bounds long = refl
-along_rights left own (e ∷ entries) [] long = absurd (omega arith)
-along_rights left own (e ∷ entries) (b ∷ bounds) long = ap (λ (s : List ℕ). e ∷ s) (along_rights own (own + 1) entries bounds (omega arith))
+along_rights left own [] bounds lengths = refl
+along_rights left own (e ∷ entries) [] lengths = absurd (omega arith)
+along_rights left own (e ∷ entries) (b ∷ bounds) lengths = ap (λ (s : List ℕ). e ∷ s) (along_rights own (own + 1) entries bounds (omega arith))
 
 along_bounds : (left own : ℕ) (entries bounds : List ℕ) → length bounds ≡ length entries → bounds_of (joins_along left own entries bounds) ≡ bounds
 unfolding bounds_of
-along_bounds left own [] [] long = refl
-along_bounds left own [] (b ∷ bounds) long = absurd (omega arith)
-along_bounds left own (e ∷ entries) [] long = absurd (omega arith)
-along_bounds left own (e ∷ entries) (b ∷ bounds) long = ap (λ (s : List ℕ). b ∷ s) (along_bounds own (own + 1) entries bounds (omega arith))
+along_bounds left own [] [] lengths = refl
+along_bounds left own [] (b ∷ bounds) lengths = absurd (omega arith)
+along_bounds left own (e ∷ entries) [] lengths = absurd (omega arith)
+along_bounds left own (e ∷ entries) (b ∷ bounds) lengths = ap (λ (s : List ℕ). b ∷ s) (along_bounds own (own + 1) entries bounds (omega arith))
 
 -- ---- the entries and the bounds of the joins of an order
 
 first_read : (n m : ℕ) (order levels : List ℕ) → IsOrder n order → length levels ≡ length order → 1 ≤ n → first_entry (joins_of_order m order levels) ≡ get_or order 0 0
-first_read n m [] levels is long some = absurd (omega (arith, is.all))
-first_read n m (first ∷ others) [] is long some = absurd (omega arith)
-first_read n m (first ∷ []) (l ∷ levels) is long some = omega (arith, is.all, is.entries.0)
-first_read n m (first ∷ second ∷ others) (l ∷ []) is long some = absurd (omega arith)
-first_read n m (first ∷ second ∷ others) (l ∷ b ∷ levels) is long some = refl
+first_read n m [] levels is lengths some = absurd (omega (arith, is.all))
+first_read n m (first ∷ others) [] is lengths some = absurd (omega arith)
+first_read n m (first ∷ []) (l ∷ levels) is lengths some = omega (arith, is.all, is.entries.0)
+first_read n m (first ∷ second ∷ others) (l ∷ []) is lengths some = absurd (omega arith)
+first_read n m (first ∷ second ∷ others) (l ∷ b ∷ levels) is lengths some = refl
 
 rights_read : (m : ℕ) (order levels : List ℕ) → length levels ≡ length order → 1 ≤ length order → get_or order 0 0 ∷ rights (joins_of_order m order levels) ≡ order
-rights_read m [] levels long some = absurd (omega arith)
-rights_read m (first ∷ others) [] long some = absurd (omega arith)
-rights_read m (first ∷ others) (l ∷ levels) long some = ap (λ (s : List ℕ). first ∷ s) (along_rights first m others levels (omega arith))
+rights_read m [] levels lengths some = absurd (omega arith)
+rights_read m (first ∷ others) [] lengths some = absurd (omega arith)
+rights_read m (first ∷ others) (l ∷ levels) lengths some = ap (λ (s : List ℕ). first ∷ s) (along_rights first m others levels (omega arith))
 
 bounds_read : (m : ℕ) (order levels : List ℕ) → length levels ≡ length order → 1 ≤ length order → get_or levels 0 0 ∷ bounds_of (joins_of_order m order levels) ≡ levels
-bounds_read m [] levels long some = absurd (omega arith)
-bounds_read m (first ∷ others) [] long some = absurd (omega arith)
-bounds_read m (first ∷ others) (l ∷ levels) long some = ap (λ (s : List ℕ). l ∷ s) (along_bounds first m others levels (omega arith))
+bounds_read m [] levels lengths some = absurd (omega arith)
+bounds_read m (first ∷ others) [] lengths some = absurd (omega arith)
+bounds_read m (first ∷ others) (l ∷ levels) lengths some = ap (λ (s : List ℕ). l ∷ s) (along_bounds first m others levels (omega arith))
 
 -- the joins don't depend on the bound of level 1
 first_unused : (m l : ℕ) (order levels : List ℕ) → length levels ≡ length order → 1 ≤ length order → joins_of_order m order (l ∷ bounds_of (joins_of_order m order levels)) ≡ joins_of_order m order levels
-first_unused m l [] levels long some = absurd (omega arith)
-first_unused m l (first ∷ others) [] long some = absurd (omega arith)
-first_unused m l (first ∷ others) (level ∷ levels) long some = ap (joins_along first m others) (along_bounds first m others levels (omega arith))
+first_unused m l [] levels lengths some = absurd (omega arith)
+first_unused m l (first ∷ others) [] lengths some = absurd (omega arith)
+first_unused m l (first ∷ others) (level ∷ levels) lengths some = ap (joins_along first m others) (along_bounds first m others levels (omega arith))
 
 -- ---- the order of a tree
 
@@ -60,39 +60,39 @@ module _ (n : ℕ) (plan : Plan) (some : 1 ≤ n) (is : IsPlan n plan) where
   abbrev joins : List Join
   joins = joins_of_order (length plan.scans) plan.order plan.levels
 
-  long : length plan.levels ≡ length plan.order
-  long = is.levels ∙ sym is.order.all
+  lengths : length plan.levels ≡ length plan.order
+  lengths = is.levels ∙ sym is.order.all
 
   abbrev with_first : ℕ → Plan
   with_first level = record { order = plan.order; scans = plan.scans; levels = level ∷ bounds_of joins }
 
   order_read : first_entry joins ∷ rights joins ≡ plan.order
   order_read =
-      ap (λ (first : ℕ). first ∷ rights joins) (first_read n (length plan.scans) plan.order plan.levels is.order long some)
-      ∙ rights_read (length plan.scans) plan.order plan.levels long (omega (arith, is.order.all, some))
+      ap (λ (first : ℕ). first ∷ rights joins) (first_read n (length plan.scans) plan.order plan.levels is.order lengths some)
+      ∙ rights_read (length plan.scans) plan.order plan.levels lengths (omega (arith, is.order.all, some))
 
   read_as : order_of_tree (tree_of_order plan) ≡ with_first (get_or plan.scans (get_or plan.order 0 0) 0)
   unfolding rights bounds_of
   read_as =
       ap (λ (order : List ℕ). record { order = order; scans = plan.scans; levels = get_or plan.scans (first_entry joins) 0 ∷ bounds_of joins }) order_read
-      ∙ ap (λ (first : ℕ). with_first (get_or plan.scans first 0)) (first_read n (length plan.scans) plan.order plan.levels is.order long some)
+      ∙ ap (λ (first : ℕ). with_first (get_or plan.scans first 0)) (first_read n (length plan.scans) plan.order plan.levels is.order lengths some)
 
   -- an order is read as it was, if level 1 has the bound of its scan
   pub order_is_read : get_or plan.levels 0 0 ≡ get_or plan.scans (get_or plan.order 0 0) 0 → order_of_tree (tree_of_order plan) ≡ plan
   order_is_read level =
       read_as ∙ ap with_first (sym level)
-      ∙ ap (λ (levels : List ℕ). record { order = plan.order; scans = plan.scans; levels = levels }) (bounds_read (length plan.scans) plan.order plan.levels long (omega (arith, is.order.all, some)))
+      ∙ ap (λ (levels : List ℕ). record { order = plan.order; scans = plan.scans; levels = levels }) (bounds_read (length plan.scans) plan.order plan.levels lengths (omega (arith, is.order.all, some)))
 
   -- the tree is that of the order that is read from it
   pub tree_is_kept : IsOrderTree n (tree_of_order plan)
   tree_is_kept =
       let first : ℕ = get_or plan.scans (get_or plan.order 0 0) 0 in
-      let same : joins_of_order (length plan.scans) plan.order (first ∷ bounds_of joins) ≡ joins = first_unused (length plan.scans) first plan.order plan.levels long (omega (arith, is.order.all, some)) in
+      let same : joins_of_order (length plan.scans) plan.order (first ∷ bounds_of joins) ≡ joins = first_unused (length plan.scans) first plan.order plan.levels lengths (omega (arith, is.order.all, some)) in
       record {
         order = subst (IsPlan n) (sym read_as) (record {
           order = is.order;
           scans = is.scans;
-          levels = ap (λ (s : List ℕ). length s) (bounds_read (length plan.scans) plan.order plan.levels long (omega (arith, is.order.all, some))) ∙ is.levels;
+          levels = ap (λ (s : List ℕ). length s) (bounds_read (length plan.scans) plan.order plan.levels lengths (omega (arith, is.order.all, some))) ∙ is.levels;
         });
         its_tree = sym (ap tree_of_order read_as ∙ ap (λ (s : List Join). record { joins = s; scans = plan.scans; cost = cost_of plan.scans s }) same);
       }

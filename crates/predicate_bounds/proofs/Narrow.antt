@@ -9,7 +9,7 @@ use Rattle.std.proofs.lemmas.List.Elements.{filter-append}
 use Rattle.csv_tables.specs.Values.{Value}
 use Rattle.degree_sequences.specs.Degrees.{different}
 use Rattle.filtered_lists.specs.Ranges as ranges
-use Rattle.filtered_lists.specs.Ranges.{greatest_value, least_value, intersection_of, ranges_of, intersection_for_each_column}
+use Rattle.filtered_lists.specs.Ranges.{greatest_value, least_value, intersection_of, ranges_of}
 use Rattle.predicate_bounds.specs.declared.steps.Range.{Range}
 use Rattle.predicate_bounds.specs.declared.steps.Step.{Step}
 use Rattle.predicate_bounds.specs.Narrowing.{lower_high_end, greater_low_end, narrowed}

@@ -1,6 +1,6 @@
 //! Comparisons of a column with a literal, turned so that the literal is on the right.
 ghost use Rattle.std.specs.Prelude.{◌≡◌, IfOk, option_map};
-ghost use Rattle.filtered_lists.specs.Comparisons.{comparison_of, negated_operator, mirrored};
+ghost use Rattle.filtered_lists.specs.Comparisons.{negated_operator, mirrored};
 ghost use Rattle.predicate_bounds.specs.Comparing.{comparison_with_literal, literal_of_operand};
 
 use crate::steps::Literal;

@@ -1,11 +1,11 @@
 //! Turns an entry's own conjuncts into steps over a stack of answers (see `steps`). NOT is pushed down while conditions are read: if `holds`
 //! is false, the opposite of the condition is read. The recursion is as deep as the condition.
-ghost use Rattle.std.specs.Prelude.{◌≡◌, ◌<◌, ◌++◌, ◌∷◌, [], false, true, map, length, IfOk, OnOk};
+ghost use Rattle.std.specs.Prelude.{◌≡◌, ◌<◌, ◌++◌, [], false, true, map, length, IfOk, OnOk};
 ghost use Rattle.filtered_lists.specs.Comparisons.{comparison_of};
 ghost use Rattle.filtered_lists.specs.Filters.{and_answer, conjunction_of, one_conjunction, or_answer};
 ghost use Rattle.filtered_lists.specs.Filters.{of_answer, of_comparison, of_comparison_or_whole};
 ghost use Rattle.predicate_bounds.specs.Added.{IsConjunctionAdded, and_if_earlier, range_steps};
-ghost use Rattle.predicate_bounds.specs.Steps.{range_of, step_answers, steps_of, value_of};
+ghost use Rattle.predicate_bounds.specs.Steps.{step_answers, steps_of, value_of};
 ghost use Rattle.join_graph.specs.Conjuncts.{local_of, is_own_conjunct, numbers_where};
 
 use crate::comparing::{LiteralComparison, comparison_with_literal, negated_operator};

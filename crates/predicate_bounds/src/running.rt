@@ -1,6 +1,6 @@
 //! Runs steps over a stack of lists.
-ghost use Rattle.std.specs.Prelude.{◌≡◌, ◌+◌, ◌*◌, ◌^◌, ◌<◌, ◌≤◌, [], reverse, length, true, IfOk, OnOk, IsTrue};
-ghost use Rattle.std.specs.List.{list_all, sum_by, sum};
+ghost use Rattle.std.specs.Prelude.{◌≡◌, ◌+◌, ◌^◌, ◌<◌, ◌≤◌, [], reverse, IfOk, OnOk, IsTrue};
+ghost use Rattle.std.specs.List.{list_all, sum};
 ghost use Rattle.degree_sequences.specs.ByRank.{rank_sum};
 ghost use Rattle.degree_sequences.specs.RunningSums.{lesser};
 ghost use Rattle.predicate_bounds.specs.Runs.{combine_top};

@@ -24,7 +24,7 @@ use Rattle.table_files.specs.EntryTables.{tables_in}
 use Rattle.prepared_runs.specs.Limits.{limit_test, within_limit}
 use Rattle.prepared_runs.specs.RunOutcome.{RunOutcome, Planned}
 use Rattle.prepared_runs.specs.Shapes.{planned_within}
-use Rattle.prepared_runs.specs.Verdict.{plan_asked, plan_stage, run_asked}
+use Rattle.prepared_runs.specs.Verdict.{plan_asked, plan_stage, accepted_query}
 use Rattle.plans.specs.declared.bushy.BushyPlan.{BushyPlan}
 use Rattle.tree_rows.specs.Memory.{tree_bytes}
 use Rattle.safebound_words.specs.declared.command.PlanWork.{PlanWork}
@@ -111,10 +111,10 @@ module _ (task : PlanWork) (schema : Schema) (query : Query) (rows : List (List 
   over_rows = ap (plan_asked task schema query) same_tables
 
   abbrev made : BushyPlan → RunOutcome
-  made p = Planned (run_asked task query rows p)
+  made p = Planned (accepted_query task query rows p)
 
   pub plan_stage_ok : (p : BushyPlan) → plan_asked task schema query t ≡ Ok p → limit_test task.terms.memory (tree_bytes p) ≡ Ok tt
-      → plan_stage task schema query rows ≡ Ok (Planned (run_asked task query rows p))
+      → plan_stage task schema query rows ≡ Ok (Planned (accepted_query task query rows p))
   unfolding plan_stage
   plan_stage_ok p is fits = planned_kept task.terms.memory made (plan_asked task schema query (tables_in rows)) p (over_rows ∙ is) fits
 

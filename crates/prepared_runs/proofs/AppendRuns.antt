@@ -1,6 +1,6 @@
 -- Every outcome of `append` is an earlier statistics file after new rows were counted. It stands for the earlier file's tables with these rows
 -- (`StandsAfterAppend`).
-use Rattle.std.proofs.Common.{◌≡◌, ℕ, ◌+◌, List, Result, Ok, Err, length, refl, subst, sym, inl, inr}
+use Rattle.std.proofs.Common.{ℕ, ◌+◌, List, Result, Ok, Err, length, refl, inl, inr}
 use Rattle.std.specs.Prelude.{IfOk, nat_le}
 use Rattle.std.proofs.lemmas.Bool.{cases_Bool}
 use Rattle.appended_stats.specs.Appended.{file_after}
@@ -19,7 +19,7 @@ use Rattle.table_files.specs.TableFile.{rows_in}
 use Rattle.prepared_runs.specs.Appending.{append_run, grown_stage, rows_run, section_stage, stats_run}
 use Rattle.safebound_words.specs.declared.command.NewRows.{NewRows}
 use Rattle.prepared_runs.specs.StatsFiles.{stats_stage}
-use Rattle.prepared_runs.specs.RunOutcome.{Appended, AppendedRows, NoBoundIsTooLow, RunOutcome, StandsAfterAppend}
+use Rattle.prepared_runs.specs.RunOutcome.{Appended, AppendedRows, RunOutcome, StandsAfterAppend}
 use Rattle.prepared_runs.proofs.StatsFileRuns.{stats_keep}
 
 pub then_ok : {A B : Type 0} (P : A → Type 0) (Q : B → Type 0) (r : Result A Refusal) (f : A → Result B Refusal) → IfOk r P → ((x : A) → P x → IfOk (f x) Q) → IfOk (r >>= f) Q

@@ -1,5 +1,5 @@
 -- Each function of `append` does what its stage of the verdict requires.
-use Rattle.std.proofs.Common.{◌≡◌, ℕ, ◌+◌, ◌<◌, ◌≤◌, Bool, true, false, if◌then◌else◌, inl, inr, List, [], length, get_or, Option, None, Some, Result, Ok, Err, refl, ap, sym, ◌∙◌, subst, arith}
+use Rattle.std.proofs.Common.{◌≡◌, ℕ, ◌+◌, ◌<◌, ◌≤◌, Bool, true, false, inl, inr, List, [], length, get_or, Option, None, Some, Result, Ok, Err, refl, ap, sym, ◌∙◌, subst, arith}
 use Rattle.std.specs.Prelude.{IfErr, IfOk, IsOkAnd, find, nat_le}
 use Rattle.std.specs.List.{All}
 use Rattle.std.proofs.lemmas.Bool.{cases_lt}
@@ -11,7 +11,7 @@ use Rattle.base_io.specs.Files.{Files}
 use Rattle.csv_tables.specs.Rows.{Row}
 use Rattle.stats_file_of_query.proofs.Finding.{found_in}
 use Rattle.limits.specs.Profile.{most_rows}
-use Rattle.outcomes.specs.Reads.{◌>>=◌, AtFile, IsNotMissing, Reads, StopsBy, mapped}
+use Rattle.outcomes.specs.Reads.{◌>>=◌, AtFile, Reads, StopsBy, mapped}
 use Rattle.outcomes.specs.declared.failure.Failure.{Failure}
 use Rattle.outcomes.specs.declared.failure.Failure.TheVariants as failure
 use Rattle.outcomes.specs.declared.names.FileId.{FileId}
@@ -29,12 +29,12 @@ use Rattle.table_files.specs.Stage.{table_at}
 use Rattle.table_files.specs.TableFile.{rows_in}
 use Rattle.prepared_runs.specs.Appending.{append_run, grown_stage, is_of_table, or_missing, rows_run, section_read, section_stage, stats_run}
 use Rattle.safebound_words.specs.declared.command.NewRows.{NewRows}
-use Rattle.safebound_words.specs.declared.command.SchemaTask.TheVariants as aims
+use Rattle.safebound_words.specs.declared.command.SchemaTask.TheVariants as schema_tasks
 use Rattle.prepared_runs.specs.SectionRows.{HasAsMany, section_rows}
 use Rattle.prepared_runs.specs.StatsFiles.{stats_stage}
 use Rattle.prepared_runs.specs.RunOutcome.{Appended, RunOutcome}
 use Rattle.prepared_runs.specs.PreparedRun.{appended_from}
-use Rattle.prepared_runs.specs.Verdict.{IsAimFile}
+use Rattle.prepared_runs.specs.Verdict.{IsSchemaTaskFile}
 use Rattle.prepared_runs.specs.declared.append.SectionRows.{SectionRows}
 use Rattle.prepared_runs.specs.declared.append.PreparedAppend.{PreparedAppend}
 
@@ -177,21 +177,21 @@ module _ (append : NewRows) (schema : Schema) (stats : StatsFile) where
 
 module _ (append : NewRows) (schema : Schema) where
   pub append_stops : {store : Reading} (e : Failure) → Reads store (stats_stage append.stats_file schema) (AtFile file.Stats) (Err e)
-      → Reads store (append_run append schema) (IsAimFile (aims.Append append) schema) (Err e)
+      → Reads store (append_run append schema) (IsSchemaTaskFile (schema_tasks.Append append) schema) (Err e)
   unfolding append_run
   append_stops {store} e h =
-      then_stops (stats_stage append.stats_file schema) (stats_run append schema) store (AtFile file.Stats) (IsAimFile (aims.Append append) schema) e (λ files id at'. inl at') h
+      then_stops (stats_stage append.stats_file schema) (stats_run append schema) store (AtFile file.Stats) (IsSchemaTaskFile (schema_tasks.Append append) schema) e (λ files id at'. inl at') h
 
   reached : (stats : StatsFile) (files : Files) (id : FileId) → stats_stage append.stats_file schema files ≡ Ok stats → AtRows append schema stats files id
-      → IsAimFile (aims.Append append) schema files id
+      → IsSchemaTaskFile (schema_tasks.Append append) schema files id
   unfolding section_read
   reached stats files id is at' =
       inr (subst (λ (r : Result StatsFile Refusal). IsOkAnd (r >>= λ s. section_stage append.table schema s) (λ section. id ≡ file.Table section.table)) (sym is) at')
 
   pub append_ran : (first second : Reading) (stats : StatsFile) (answer : Result RunOutcome Failure) → IsFollowedBy first second
       → Reads first (stats_stage append.stats_file schema) (AtFile file.Stats) (Ok stats) → Reads second (stats_run append schema stats) (AtRows append schema stats) answer
-      → Reads (joined first second) (append_run append schema) (IsAimFile (aims.Append append) schema) answer
+      → Reads (joined first second) (append_run append schema) (IsSchemaTaskFile (schema_tasks.Append append) schema) answer
   unfolding append_run
   append_ran first second stats answer meets h k =
-      then_reads (stats_stage append.stats_file schema) (stats_run append schema) first second (AtFile file.Stats) (AtRows append schema stats) (IsAimFile (aims.Append append) schema) stats answer meets
+      then_reads (stats_stage append.stats_file schema) (stats_run append schema) first second (AtFile file.Stats) (AtRows append schema stats) (IsSchemaTaskFile (schema_tasks.Append append) schema) stats answer meets
       (reached stats) h k

@@ -33,7 +33,7 @@ use Rattle.prepared_runs.specs.RunOutcome.{RunOutcome, Planned}
 use Rattle.prepared_runs.specs.PreparedQuery.{room_and_list_bytes, pending_plan, pending_text, AreOverLists, HoldsBytes}
 use Rattle.prepared_runs.specs.Shapes.{part_count, part_rows, part_sizes, IsShapedPlan}
 use Rattle.prepared_runs.specs.Shops.{demo_number_of, store_read}
-use Rattle.prepared_runs.specs.Verdict.{aim_run, command_run, command_stage, schema_stage, verdict}
+use Rattle.prepared_runs.specs.Verdict.{schema_task_run, command_run, command_stage, schema_stage, verdict}
 use Rattle.prepared_runs.specs.declared.joined.Joined.{Joined}
 use Rattle.prepared_runs.specs.declared.prepare.PendingOutput.{PendingOutput}
 use Rattle.prepared_runs.specs.declared.prepare.PendingOutput.TheVariants as rest
@@ -63,8 +63,8 @@ own_sizes query lists count full =
 pub own_bytes : (query : Query) (tables : Tables) (family : List (List ℕ)) (lists : List (Rows ℕ)) (held : ℕ) → AreOfScans query tables family → lists_of lists ≡ family → held ≡ length query.from → HaveNoSpare lists
     → BUFFER_BYTES * held + ROW_NUMBER_BYTES * sum (map capacity lists) ≡ lists_bytes (list_sizes query family)
 own_bytes query tables family lists held are same count full =
-    let long : length lists ≡ length query.from = sym (length-lists_of lists) ∙ ap (λ (f : List (List ℕ)). length f) same ∙ are.count ∙ scans_of_length query tables in
-    let sizes : map capacity lists ≡ list_sizes query family = own_sizes query lists long full ∙ ap (list_sizes query) same in
+    let lengths : length lists ≡ length query.from = sym (length-lists_of lists) ∙ ap (λ (f : List (List ℕ)). length f) same ∙ are.count ∙ scans_of_length query tables in
+    let sizes : map capacity lists ≡ list_sizes query family = own_sizes query lists lengths full ∙ ap (list_sizes query) same in
     let one_each : held ≡ length (list_sizes query family) = count ∙ sym (list_sizes_length query family) in
     rw (one_each, sizes) refl
 
@@ -136,11 +136,11 @@ module _ (query : Query) (db : Database) (source : ListSource) (lists : List (Li
 -- ---- the buffers of a run over the files of a store
 
 pub keeps_so : (ask : Command) {first : Reading} (after : Option Files) (schema : Schema) (kept : Option Joined) → Reads first (schema_stage ask.schema_file) (AtFile file.Schema) (Ok schema)
-    → first.files_after ≡ after → ((files : Files) → after ≡ Some files → IsOkAnd (aim_run ask.aim schema files) (λ outcome. HasBuffersOf outcome kept))
+    → first.files_after ≡ after → ((files : Files) → after ≡ Some files → IsOkAnd (schema_task_run ask.schema_task schema files) (λ outcome. HasBuffersOf outcome kept))
     → (files : Files) → first.files ≡ Some files → IsOkAnd (command_run ask files) (λ outcome. HasBuffersOf outcome kept)
 unfolding command_run
 keeps_so ask {first} after schema kept reads meets keeps files told =
-    let stage : (schema_stage ask.schema_file files >>= (λ (s : Schema). aim_run ask.aim s files)) ≡ aim_run ask.aim schema files = rw (reads.gives files told) refl in
+    let stage : (schema_stage ask.schema_file files >>= (λ (s : Schema). schema_task_run ask.schema_task s files)) ≡ schema_task_run ask.schema_task schema files = rw (reads.gives files told) refl in
     subst (λ (r : Result RunOutcome Refusal). IsOkAnd r (λ outcome. HasBuffersOf outcome kept)) (sym stage) (keeps files (sym meets ∙ reads.same ∙ told))
 
 pub keeps_verdict : (words : List (List ℕ)) (ask : Command) → command_stage words ≡ Ok ask → (handed_in : Reading) (shop : Option ℕ) (kept : Option Joined) → demo_number_of words ≡ shop

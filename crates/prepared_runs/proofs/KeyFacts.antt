@@ -1,8 +1,6 @@
 -- Declared keys hold in tables that were read from their files.
-use Rattle.std.proofs.Common.{◌≡◌, ℕ, ◌<◌, Bool, true, false, List, [], ◌∷◌, Ok, None, Some, length, get_or, pos, refl, ap, sym, ◌∙◌, subst, inl, inr}
-use Rattle.std.specs.Prelude.{◌==◌, slice_get}
-use Rattle.std.specs.List.{AllByRecursion, Contains, list_any}
-use Rattle.std.specs.Ordering.{is_eq}
+use Rattle.std.proofs.Common.{◌≡◌, ℕ, ◌<◌, true, false, List, [], ◌∷◌, Ok, None, length, get_or, ap, subst, inl, inr}
+use Rattle.std.specs.List.{AllByRecursion, list_any}
 use Rattle.std.proofs.lemmas.Bool.{cases_Bool, eqb-true, false≢true}
 use Rattle.std.proofs.lemmas.List.{get_or-map}
 use Rattle.berge_tree.specs.Equalities.{places_of}
@@ -12,14 +10,12 @@ use Rattle.schema_types.specs.declared.types.Schema.{Schema}
 use Rattle.schema_types.specs.declared.types.Table.{Table}
 use Rattle.csv_tables.specs.Keys.{first_repeat}
 use Rattle.csv_tables.specs.Rows.{Row}
-use Rattle.csv_tables.specs.Values.{value_cmp}
 use Rattle.query_types.specs.Named.{NamesItsEntries}
 use Rattle.query_types.specs.Validity.{IsQueryOf}
 use Rattle.query_types.specs.declared.types.Query.{Query}
 use Rattle.query_types.specs.declared.types.Source.{Source}
 use Rattle.join_graph.specs.Conjuncts.{equalities_of}
-use Rattle.sql_meaning.specs.Tables.{Tables, row_counts}
-use Rattle.level_bounds.specs.Keys.{value_at}
+use Rattle.sql_meaning.specs.Tables.{Tables}
 use Rattle.level_bounds.proofs.Lists.{from_members}
 use Rattle.key_carriers.specs.Carriers.{is_only_column, is_declared_key, no_source, table_at, table_of}
 use Rattle.key_carriers.specs.DeclaredKeys.{HaveUniqueValues, DeclaredKeysHold}

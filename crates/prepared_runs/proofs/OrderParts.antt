@@ -59,11 +59,11 @@ module _ (query : Query) (db : Database) (lists : List (List ℕ)) (plan : Plan)
   pub counts_of_levels : level_counts (constants_of query (tables_of db)) plan.order nodes ≡ map (λ k. length (list_levels query (tables_of db) lists plan.order (k + 1))) (range_with_len 0 (length plan.order))
   counts_of_levels =
       let many : ℕ = length plan.order in
-      let long : length (level_counts (constants_of query (tables_of db)) plan.order nodes) ≡ many = length-map-range_with_len counted 0 many in
+      let lengths : length (level_counts (constants_of query (tables_of db)) plan.order nodes) ≡ many = length-map-range_with_len counted 0 many in
       ext_get_or 0 (level_counts (constants_of query (tables_of db)) plan.order nodes) (map size (range_with_len 0 many))
-      (long ∙ sym (length-map-range_with_len size 0 many))
+      (lengths ∙ sym (length-map-range_with_len size 0 many))
       (λ k low.
-      let within : k < many = omega (arith, low, long) in
+      let within : k < many = omega (arith, low, lengths) in
       get_or-map-range_with_len counted 0 many k k 0 within (omega arith)
       ∙ ap (λ (s : List (List ℕ)). length s) (each_part k within)
       ∙ sym (get_or-map-range_with_len size 0 many k k 0 within (omega arith)))

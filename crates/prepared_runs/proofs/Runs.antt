@@ -20,7 +20,7 @@ use Rattle.text_answers.specs.SchemaTexts.{schema_answer}
 use Rattle.text_answers.proofs.QueryAnswers as queries
 use Rattle.text_answers.proofs.SchemaAnswers as schemas
 use Rattle.outcomes.specs.Errors.{plan_refusal, query_refusal, schema_refusal}
-use Rattle.outcomes.specs.Reads.{◌>>=◌, with_refusal}
+use Rattle.outcomes.specs.Reads.{with_refusal}
 use Rattle.outcomes.specs.declared.names.FileId.TheVariants as file
 use Rattle.outcomes.specs.declared.refusal.Refusal.{Refusal}
 use Rattle.table_files.specs.EntryTables.{tables_in}
@@ -34,8 +34,8 @@ use Rattle.safebound_words.specs.InRange.{HasRanges, IsInRange, WorkHasRanges}
 use Rattle.safebound_words.specs.declared.command.SchemaTask.{SchemaTask}
 use Rattle.safebound_words.specs.declared.command.Command.{Command}
 use Rattle.safebound_words.specs.declared.command.QueryTask.{QueryTask}
-use Rattle.safebound_words.specs.declared.command.SchemaTask.TheVariants as aims
-use Rattle.safebound_words.specs.declared.command.QueryTask.TheVariants as works
+use Rattle.safebound_words.specs.declared.command.SchemaTask.TheVariants as schema_tasks
+use Rattle.safebound_words.specs.declared.command.QueryTask.TheVariants as query_tasks
 use Rattle.prepared_runs.specs.StatsFiles.{stats_stage}
 use Rattle.prepared_runs.specs.Limits.{IsWithinLimit}
 use Rattle.prepared_runs.specs.RunOutcome.{Appended, StatsMade, KeepsItsLimit, NoBoundIsTooLow, RunOutcome, Planned, PlannedFromStats, PrintsTheAnswer}
@@ -44,7 +44,7 @@ use Rattle.prepared_runs.specs.Sources.{SourceNeeds, BoundsAndLists, lists_by, s
 use Rattle.prepared_runs.specs.Standing.{IsSource, LoseNoRow}
 use Rattle.safebound_words.specs.declared.command.ListSource.{ListSource}
 use Rattle.safebound_words.specs.declared.command.ListSource.TheVariants as sources
-use Rattle.prepared_runs.specs.Verdict.{aim_run, command_run, command_stage, plan_asked, plan_stage, query_of_text, query_stage, run_asked, schema_of_text, schema_stage, verdict, work_run}
+use Rattle.prepared_runs.specs.Verdict.{schema_task_run, command_run, command_stage, plan_asked, plan_stage, query_of_text, query_stage, accepted_query, schema_of_text, schema_stage, verdict, query_task_run}
 use Rattle.join_graph.proofs.FromEntries.{names_its_entries}
 use Rattle.prepared_runs.proofs.AppendRuns.{any_ok, append_holds, then_ok}
 use Rattle.prepared_runs.proofs.StatsFileRuns.{filed_plan_holds, filed_stands, stats_keep}
@@ -54,7 +54,7 @@ use Rattle.tree_rows.specs.Memory.{tree_bytes}
 use Rattle.safebound_words.specs.declared.command.PlanWork.{PlanWork}
 use Rattle.prepared_runs.proofs.LimitFacts.{within_so}
 use Rattle.prepared_runs.proofs.CommandFacts.{has_ranges}
-use Rattle.prepared_runs.proofs.ShapeFacts.{Fits, order_is, plan_fits, scans_are_given, shaped_is_tree, whole_part}
+use Rattle.prepared_runs.proofs.ShapeFacts.{Fits, order_is, plan_fits, scans_are_given, shaped_is_tree, part_over_tables}
 use Rattle.prepared_runs.proofs.KeyFacts.{needs_read}
 use Rattle.prepared_runs.proofs.SourceFacts.{stand}
 
@@ -98,10 +98,10 @@ unfolding plan_stage
 plan_ok task schema query rows needs range some few own =
     then_ok IsMade IsSound (with_refusal plan_refusal (plan_asked task schema query (tables_in rows))) _
     (ok_with_refusal IsMade plan_refusal (plan_asked task schema query (tables_in rows)) made_ok)
-    (λ plan is. within_so IsSound task.terms.memory (tree_bytes plan) (Planned (run_asked task query rows plan)) is)
+    (λ plan is. within_so IsSound task.terms.memory (tree_bytes plan) (Planned (accepted_query task query rows plan)) is)
   where
     IsMade : BushyPlan → Type 0
-    IsMade plan = IsWithinLimit task.terms.memory (tree_bytes plan) → IsRun (run_asked task query rows plan)
+    IsMade plan = IsWithinLimit task.terms.memory (tree_bytes plan) → IsRun (accepted_query task query rows plan)
 
     made_ok : (plan : BushyPlan) → plan_asked task schema query (tables_in rows) ≡ Ok plan → IsMade plan
     made_ok plan made within =
@@ -113,7 +113,7 @@ plan_ok task schema query rows needs range some few own =
           lists = refl;
           rows = is.rows;
           limit = within;
-          tree = shaped_is_tree (length query.from) task.terms.shape plan some few fits.plan;
+          tree = shaped_is_tree (length query.from) task.terms.shape plan some few fits.is_shaped;
           bounds = fits;
           scans = (
             task.accuracy,
@@ -121,28 +121,28 @@ plan_ok task schema query rows needs range some few own =
           );
         }
 
-work_ok : (work : QueryTask) (schema : Schema) (query : Query) (files : Files) → WorkHasRanges work → IsValid schema → IsQueryOf schema query → IfOk (work_run work schema query files) IsSound
-work_ok (works.Plan task) schema query files range valid of =
+query_task_ok : (work : QueryTask) (schema : Schema) (query : Query) (files : Files) → WorkHasRanges work → IsValid schema → IsQueryOf schema query → IfOk (query_task_run work schema query files) IsSound
+query_task_ok (query_tasks.Plan task) schema query files range valid of =
     then_ok (λ rows. tables_stage schema query.from files ≡ Ok rows) IsSound (tables_stage schema query.from files) _ (is_ok (tables_stage schema query.from files))
     (λ rows is. plan_ok task schema query rows (needs_read task.source schema query files rows of is) range (omega (arith, of.has_entries)) of.entries_within_limit (names_its_entries schema query of))
-work_ok (works.WriteStats accuracy) schema query files range valid of =
+query_task_ok (query_tasks.WriteStats accuracy) schema query files range valid of =
     then_ok (λ rows. tables_stage schema query.from files ≡ Ok rows) IsSound (tables_stage schema query.from files) _ (is_ok (tables_stage schema query.from files))
     (λ rows is. filed_stands schema query files accuracy rows is)
-work_ok (works.PlanFromStats name terms) schema query files range valid of =
+query_task_ok (query_tasks.PlanFromStats name terms) schema query files range valid of =
     then_ok (KeepsRules schema) IsSound (stats_stage name schema files) _ (stats_keep name schema files valid)
     (λ stats keeps. filed_plan_holds schema query of stats keeps terms range IsSound (λ plan holds within. (holds, within)))
 
-aim_ok : (aim : SchemaTask) (schema : Schema) (files : Files) → HasRanges aim → IsValid schema → IfOk (aim_run aim schema files) IsSound
-aim_ok (aims.Query name work) schema files range valid =
+schema_task_ok : (schema_task : SchemaTask) (schema : Schema) (files : Files) → HasRanges schema_task → IsValid schema → IfOk (schema_task_run schema_task schema files) IsSound
+schema_task_ok (schema_tasks.Query name work) schema files range valid =
     then_ok (IsQueryOf schema) IsSound (query_stage name schema files) _ (query_ok name schema files)
-    (λ query of. work_ok work schema query files range valid of)
-aim_ok (aims.Append append) schema files range valid = append_holds append schema IsSound (λ made stands. stands) files valid
+    (λ query of. query_task_ok work schema query files range valid of)
+schema_task_ok (schema_tasks.Append append) schema files range valid = append_holds append schema IsSound (λ made stands. stands) files valid
 
-command_ok : (command : Command) (files : Files) → HasRanges command.aim → IfOk (command_run command files) IsSound
+command_ok : (command : Command) (files : Files) → HasRanges command.schema_task → IfOk (command_run command files) IsSound
 unfolding command_run
 command_ok command files range =
     then_ok IsValid IsSound (schema_stage command.schema_file files) _ (schema_ok command.schema_file files)
-    (λ schema valid. aim_ok command.aim schema files range valid)
+    (λ schema valid. schema_task_ok command.schema_task schema files range valid)
 
 verdict_ok : (words : List (List ℕ)) (files : Files) → IfOk (verdict words files) IsSound
 unfolding verdict
@@ -160,7 +160,7 @@ module _ (run : AcceptedQuery) (is : IsRun run) where
     scans = λ entry low. ap (λ (l : List (List ℕ)). list_at l entry) whole ∙ scans_of_at run.query (tables run) entry low;
     parts = λ k low.
         ap (λ (l : List (List ℕ)). part_rows run.query (tables run) l run.shape run.plan k) whole
-        ∙ whole_part run.query (tables run) run.shape run.plan is.bounds.plan k low;
+        ∙ part_over_tables run.query (tables run) run.shape run.plan is.bounds.is_shaped k low;
   }
 
   of_columns : run.source ≡ sources.Columns → IsOverWholeScans run
@@ -193,7 +193,7 @@ module _ (run : AcceptedQuery) (is : IsRun run) where
 
   run_bounds : BoundsHold run
   run_bounds = record {
-    plan = is.bounds.plan;
+    plan = is.bounds.is_shaped;
     scans = is.bounds.scans;
     parts = is.bounds.parts;
     of_columns = of_columns;

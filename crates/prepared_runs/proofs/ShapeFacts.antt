@@ -37,7 +37,7 @@ use Rattle.planning.specs.Standing.{BoundLevels}
 use Rattle.planning.proofs.FromLists.{is_plan_from, plan_over_lists}
 use Rattle.planning.proofs.ReducedPlans.{levels_of_scans}
 use Rattle.bushy_planning.proofs.ChosenTrees as stages
-use Rattle.prepared_runs.specs.Shapes.{IsOrderOver, IsPlanOver, IsShapedPlan, answer_of, joined_entries, part_bound, part_count, part_rows, planned_by, whole_parts}
+use Rattle.prepared_runs.specs.Shapes.{IsOrderOver, IsPlanOver, IsShapedPlan, answer_of, joined_entries, part_bound, part_count, part_rows, planned_by, parts_over_tables}
 use Rattle.safebound_words.specs.Commands.{most_budget_of}
 use Rattle.prepared_runs.specs.Sources.{BoundsAndLists}
 use Rattle.prepared_runs.specs.Standing.{IsSource}
@@ -62,13 +62,13 @@ mapped_never_err f (Err other) e never is = let same : other ≡ e = cc in never
 abbrev pub its_tree : Plan → BushyPlan
 its_tree plan = tree_of_order plan
 
-pub never_no_memory : (shape : Shape) (sets scans : List ℕ) (budget : ℕ) → answer_of shape sets scans budget ≢ Err error.NoMemory
-never_no_memory shapes.Order sets scans budget = mapped_never_err its_tree (plan_answer sets scans budget) error.NoMemory (orders.never_out_of_memory sets scans budget)
-never_no_memory shapes.Tree sets scans budget = trees.never_out_of_memory sets scans budget
+pub answer_never_wants_memory : (shape : Shape) (sets scans : List ℕ) (budget : ℕ) → answer_of shape sets scans budget ≢ Err error.NoMemory
+answer_never_wants_memory shapes.Order sets scans budget = mapped_never_err its_tree (plan_answer sets scans budget) error.NoMemory (orders.never_out_of_memory sets scans budget)
+answer_never_wants_memory shapes.Tree sets scans budget = trees.never_out_of_memory sets scans budget
 
 pub never_wants_memory : (shape : Shape) (given : BoundsAndLists) (accuracy budget : ℕ) → planned_by shape given accuracy budget ≢ Err error.NoMemory
 unfolding planned_by
-never_wants_memory shape given accuracy budget = never_no_memory shape (given.sets accuracy) (given.scans accuracy) budget
+never_wants_memory shape given accuracy budget = answer_never_wants_memory shape (given.sets accuracy) (given.scans accuracy) budget
 
 pub planned_known : (shape : Shape) (given : BoundsAndLists) (accuracy budget : ℕ) (known : QueryBounds) → HasBounds (given.sets accuracy) (given.scans accuracy) known
     → answer_of shape known.sets known.scans budget ≡ planned_by shape given accuracy budget
@@ -82,13 +82,13 @@ tree_promised sets scans budget some few plan made = let P : Result BushyPlan Pl
 -- a plan has as many entries as there are bounds of scans
 pub answer_is_plan : (shape : Shape) (sets scans : List ℕ) (n budget : ℕ) → length scans ≡ n → 1 ≤ n → n ≤ 12 → (plan : BushyPlan)
     → answer_of shape sets scans budget ≡ Ok plan → IsShapedPlan n shape plan
-answer_is_plan shapes.Order sets scans n budget long not_empty at_most_12 plan made =
+answer_is_plan shapes.Order sets scans n budget one_each not_empty at_most_12 plan made =
     let it = mapped_ok its_tree (plan_answer sets scans budget) plan made in
-    subst (IsOrderTree n) it.2 (tree_is_kept n it.0 not_empty (is_plan_from sets scans n budget long it.0 it.1))
-answer_is_plan shapes.Tree sets scans n budget long not_empty at_most_12 plan made =
-    subst (λ (m : ℕ). IsTreePlan m plan) long (tree_promised sets scans budget (omega (arith, not_empty, long)) (omega (arith, at_most_12, long)) plan made).plan
+    subst (IsOrderTree n) it.2 (tree_is_kept n it.0 not_empty (is_plan_from sets scans n budget one_each it.0 it.1))
+answer_is_plan shapes.Tree sets scans n budget one_each not_empty at_most_12 plan made =
+    subst (λ (m : ℕ). IsTreePlan m plan) one_each (tree_promised sets scans budget (omega (arith, not_empty, one_each)) (omega (arith, at_most_12, one_each)) plan made).plan
 
--- a plan has the bounds of scans from which it was made
+-- a plan's scan bounds are those that it was made from
 pub answer_scans : (shape : Shape) (sets scans : List ℕ) (budget : ℕ) → 1 ≤ length scans → length scans ≤ 12 → (plan : BushyPlan) → answer_of shape sets scans budget ≡ Ok plan → plan.scans ≡ scans
 answer_scans shapes.Order sets scans budget not_empty at_most_12 plan made =
     let it = mapped_ok its_tree (plan_answer sets scans budget) plan made in
@@ -107,27 +107,27 @@ pub shaped_is_tree : (n : ℕ) (shape : Shape) (plan : BushyPlan) → 1 ≤ n �
 shaped_is_tree n shapes.Order plan not_empty at_most_12 is = order_tree_is_plan n plan not_empty at_most_12 is
 shaped_is_tree n shapes.Tree plan not_empty at_most_12 is = is
 
-pub own_size : (n : ℕ) (plan : BushyPlan) → IsTreePlan n plan → IsTreePlan (length plan.scans) plan
-own_size n plan is = subst (λ (m : ℕ). IsTreePlan m plan) (sym is.scans) is
+pub is_plan_of_its_scans : (n : ℕ) (plan : BushyPlan) → IsTreePlan n plan → IsTreePlan (length plan.scans) plan
+is_plan_of_its_scans n plan is = subst (λ (m : ℕ). IsTreePlan m plan) (sym is.scans) is
 
 -- ---- a plan by the bounds that a source gives
 
-pub record Fits (query : Query) (tables : Tables) (lists : List (List ℕ)) (shape : Shape) (made : BushyPlan) : Type 0 where
-  pub plan : IsShapedPlan (length query.from) shape made
-  pub scans : (entry : ℕ) → entry < length query.from → listed_row_count lists entry ≤ get_or made.scans entry 0
-  pub parts : (k : ℕ) → k < part_count shape made → length (part_rows query tables lists shape made k) ≤ part_bound shape made k
+pub record Fits (query : Query) (tables : Tables) (lists : List (List ℕ)) (shape : Shape) (plan : BushyPlan) : Type 0 where
+  pub is_shaped : IsShapedPlan (length query.from) shape plan
+  pub scans : (entry : ℕ) → entry < length query.from → listed_row_count lists entry ≤ get_or plan.scans entry 0
+  pub parts : (k : ℕ) → k < part_count shape plan → length (part_rows query tables lists shape plan k) ≤ part_bound shape plan k
 
 -- each plan over the lists fits them
 pub plan_over_fits : (query : Query) (tables : Tables) (lists : List (List ℕ)) (shape : Shape) (plan : BushyPlan) → IsPlanOver query tables lists shape plan → Fits query tables lists shape plan
-plan_over_fits query tables lists shapes.Order plan of = record {
-  plan = record { order = of.order.for_each_entry; its_tree = of.its_tree };
-  scans = of.order.scans;
-  parts = λ k low. of.order.levels k (omega (arith, low, of.order.for_each_entry.order.all));
+plan_over_fits query tables lists shapes.Order plan over = record {
+  is_shaped = record { order = over.order.for_each_entry; its_tree = over.its_tree };
+  scans = over.order.scans;
+  parts = λ k in_range. over.order.levels k (omega (arith, in_range, over.order.for_each_entry.order.all));
 }
-plan_over_fits query tables lists shapes.Tree plan of = record {
-  plan = of.for_each_entry;
-  scans = of.scans;
-  parts = λ k low. of.nodes (length plan.scans + k) (omega arith);
+plan_over_fits query tables lists shapes.Tree plan over = record {
+  is_shaped = over.for_each_entry;
+  scans = over.scans;
+  parts = λ k in_range. over.nodes (length plan.scans + k) (omega arith);
 }
 
 module _ (query : Query) (tables : Tables) (given : BoundsAndLists) (is : IsSource query tables given) (accuracy budget : ℕ) (not_empty : 1 ≤ length query.from) (at_most_12 : length query.from ≤ 12) where
@@ -140,24 +140,24 @@ module _ (query : Query) (tables : Tables) (given : BoundsAndLists) (is : IsSour
   levels : BoundLevels query tables given.lists sets
   levels = is.of_sets accuracy
 
-  read_again : (plan : Plan) → plan_answer sets scans budget ≡ Ok plan → order_of_tree (tree_of_order plan) ≡ plan
-  read_again plan made = read_back (length query.from) sets scans budget (is.of_scans accuracy).one_each not_empty at_most_12 (is.of_single accuracy) plan made
+  tree_reads_back : (plan : Plan) → plan_answer sets scans budget ≡ Ok plan → order_of_tree (tree_of_order plan) ≡ plan
+  tree_reads_back plan made = read_back (length query.from) sets scans budget (is.of_scans accuracy).one_each not_empty at_most_12 (is.of_single accuracy) plan made
 
   order_over : (plan : Plan) → budget ≤ 20000000 → plan_answer sets scans budget ≡ Ok plan → IsOrderOver query tables given.lists (tree_of_order plan)
   order_over plan small made = record {
-    order = subst (IsPlanOf query tables given.lists) (sym (read_again plan made)) (plan_over_lists query tables given.lists sets scans levels (is.of_scans accuracy) budget plan at_most_12 small made);
-    its_tree = sym (ap its_tree (read_again plan made));
+    order = subst (IsPlanOf query tables given.lists) (sym (tree_reads_back plan made)) (plan_over_lists query tables given.lists sets scans levels (is.of_scans accuracy) budget plan at_most_12 small made);
+    its_tree = sym (ap its_tree (tree_reads_back plan made));
   }
 
   tree_fits : (plan : BushyPlan) → budget ≤ 4000000 → tree_answer sets scans budget ≡ Ok plan → Fits query tables given.lists shapes.Tree plan
   tree_fits plan small made = record {
-    plan = stages.is_plan query tables given.lists sets scans budget plan (is.of_scans accuracy) not_empty at_most_12 made;
-    scans = λ entry low. omega (
+    is_shaped = stages.is_plan query tables given.lists sets scans budget plan (is.of_scans accuracy) not_empty at_most_12 made;
+    scans = λ entry in_range. omega (
       arith,
       ap (λ (s : List ℕ). get_or s entry 0) (stages.scans_kept query tables given.lists sets scans budget plan (is.of_scans accuracy) not_empty at_most_12 made),
-      (is.of_scans accuracy).fit entry low,
+      (is.of_scans accuracy).fit entry in_range,
     );
-    parts = λ k low. stages.nodes_fit query tables given.lists sets scans budget plan (is.of_scans accuracy) not_empty at_most_12 made levels small (length plan.scans + k) (omega arith);
+    parts = λ k in_range. stages.nodes_fit query tables given.lists sets scans budget plan (is.of_scans accuracy) not_empty at_most_12 made levels small (length plan.scans + k) (omega arith);
   }
 
   answer_fits : (shape : Shape) (plan : BushyPlan) → budget ≤ most_budget_of shape → answer_of shape sets scans budget ≡ Ok plan → Fits query tables given.lists shape plan
@@ -199,19 +199,19 @@ order_of query plan is =
     let once = plan_once n plan (node_count plan - 1) is (omega (arith, is.scans, is.joins)) in
     record { entries = once.1; once = once.0; all = root_all n plan is }
 
--- ---- the parts of a plan over complete scans: they are those over complete tables
+-- ---- over complete scans, a part of a plan has the same rows as over complete tables
 
-pub whole_part : (query : Query) (tables : Tables) (shape : Shape) (plan : BushyPlan) → IsShapedPlan (length query.from) shape plan → (k : ℕ) → k < part_count shape plan
-    → part_rows query tables (scans_of query tables) shape plan k ≡ whole_parts query tables shape plan k
-whole_part query tables shapes.Order plan is k low =
+pub part_over_tables : (query : Query) (tables : Tables) (shape : Shape) (plan : BushyPlan) → IsShapedPlan (length query.from) shape plan → (k : ℕ) → k < part_count shape plan
+    → part_rows query tables (scans_of query tables) shape plan k ≡ parts_over_tables query tables shape plan k
+part_over_tables query tables shapes.Order plan is k in_range =
     let its = is.order.order in levels_of_scans query tables (order_of_tree plan).order (k + 1) (order_of_all (length query.from) (order_of_tree plan).order its.entries its.once its.all)
-whole_part query tables shapes.Tree plan is k low = rows_over_whole_scans query tables plan (length plan.scans + k) is (omega arith)
+part_over_tables query tables shapes.Tree plan is k in_range = rows_over_whole_scans query tables plan (length plan.scans + k) is (omega arith)
 
 -- ---- the joins of a plan
 
 pub tree_over : (query : Query) (db : Database) (lists : List (List ℕ)) (shape : Shape) (plan : BushyPlan) → IsDatabaseOf query db → IsPlanOver query (tables_of db) lists shape plan
     → IsTreePlanOf query (tables_of db) lists plan
-tree_over query db lists shapes.Order plan database of =
-    subst (IsTreePlanOf query (tables_of db) lists) (sym of.its_tree)
-    (order_planned query (tables_of db) lists (order_of_tree plan) database.some database.few of.order.for_each_entry of.order database.rows_within_limit)
-tree_over query db lists shapes.Tree plan database of = of
+tree_over query db lists shapes.Order plan database over =
+    subst (IsTreePlanOf query (tables_of db) lists) (sym over.its_tree)
+    (order_planned query (tables_of db) lists (order_of_tree plan) database.some database.few over.order.for_each_entry over.order database.rows_within_limit)
+tree_over query db lists shapes.Tree plan database over = over

@@ -31,12 +31,12 @@ use Rattle.stats_file.specs.declared.types.StatsFile.{StatsFile}
 use Rattle.stats_reading.specs.Names.{HasByteColumns}
 use Rattle.table_files.specs.Stage.{tables_stage}
 use Rattle.table_files.specs.TableFile.{read}
-use Rattle.safebound_words.specs.declared.command.QueryTask.TheVariants as works
+use Rattle.safebound_words.specs.declared.command.QueryTask.TheVariants as query_tasks
 use Rattle.prepared_runs.specs.StatsFiles.{made_from_file, need_failure, plan_from_file_asked, stats_file_plan_stage, stats_of_text, stats_stage, stats_file_of_tables, unless_missing}
 use Rattle.prepared_runs.specs.RunOutcome.{RunOutcome}
 use Rattle.prepared_runs.specs.Shapes.{answer_of, planned_within}
 use Rattle.prepared_runs.specs.PreparedRun.{plan_from}
-use Rattle.prepared_runs.specs.Verdict.{work_run}
+use Rattle.prepared_runs.specs.Verdict.{query_task_run}
 use Rattle.prepared_runs.specs.declared.stats_files.PreparedStatsFilePlan.{PreparedStatsFilePlan}
 use Rattle.prepared_runs.proofs.Answered.{same_value}
 use Rattle.safebound_words.specs.declared.command.PlanTerms.{PlanTerms}
@@ -107,25 +107,25 @@ module _ (terms : PlanTerms) (query : Query) (stats : StatsFile) where
 -- ---- the file of a query's tables
 
 module _ {store : Reading} (accuracy : ℕ) (schema : Schema) (query : Query) (C : Files → FileId → Type 0) where
-  pub file_stops : (e : Failure) → Reads store (tables_stage schema query.from) C (Err e) → Reads store (work_run (works.WriteStats accuracy) schema query) C (Err e)
+  pub file_stops : (e : Failure) → Reads store (tables_stage schema query.from) C (Err e) → Reads store (query_task_run (query_tasks.WriteStats accuracy) schema query) C (Err e)
   file_stops e h = then_stops (tables_stage schema query.from) (λ rows files. Ok (stats_file_of_tables schema query rows accuracy)) store C C e (λ files id at. at) h
 
-  pub file_wants : (rows : List (List Row)) → Reads store (tables_stage schema query.from) C (Ok rows) → Reads store (work_run (works.WriteStats accuracy) schema query) C (Err failure.NoMemory)
+  pub file_wants : (rows : List (List Row)) → Reads store (tables_stage schema query.from) C (Ok rows) → Reads store (query_task_run (query_tasks.WriteStats accuracy) schema query) C (Err failure.NoMemory)
   file_wants rows h = then_fails store (tables_stage schema query.from) (λ rows. Ok (stats_file_of_tables schema query rows accuracy)) C C rows failure.NoMemory tt h
 
   pub file_made : (rows : List (List Row)) (outcome : RunOutcome) → outcome ≡ stats_file_of_tables schema query rows accuracy → Reads store (tables_stage schema query.from) C (Ok rows)
-      → Reads store (work_run (works.WriteStats accuracy) schema query) C (Ok outcome)
+      → Reads store (query_task_run (query_tasks.WriteStats accuracy) schema query) C (Ok outcome)
   file_made rows outcome is h =
       then_gives store (tables_stage schema query.from) (λ rows. Ok (stats_file_of_tables schema query rows accuracy)) C C rows outcome (ap (λ (o : RunOutcome). Ok o) (sym is)) h
 
 -- ---- a plan from a statistics file
 
 module _ {store : Reading} (name : List ℕ) (terms : PlanTerms) (schema : Schema) (query : Query) (C : Files → FileId → Type 0) where
-  pub plan_stops : (e : Failure) → Reads store (stats_stage name schema) C (Err e) → Reads store (work_run (works.PlanFromStats name terms) schema query) C (Err e)
+  pub plan_stops : (e : Failure) → Reads store (stats_stage name schema) C (Err e) → Reads store (query_task_run (query_tasks.PlanFromStats name terms) schema query) C (Err e)
   plan_stops e h = then_stops (stats_stage name schema) (λ stats files. stats_file_plan_stage terms query stats) store C C e (λ files id at. at) h
 
   pub plan_ran : (stats : StatsFile) (result : Result PreparedStatsFilePlan Failure) → IfOk result (λ made. stats_file_plan_stage terms query stats ≡ Ok (plan_from made))
       → IfErr result (StopsBy (stats_file_plan_stage terms query stats)) → Reads store (stats_stage name schema) C (Ok stats)
-      → Reads store (work_run (works.PlanFromStats name terms) schema query) C (mapped plan_from result)
+      → Reads store (query_task_run (query_tasks.PlanFromStats name terms) schema query) C (mapped plan_from result)
   plan_ran stats (Ok made) is tells h = then_gives store (stats_stage name schema) (stats_file_plan_stage terms query) C C stats (plan_from made) is h
   plan_ran stats (Err e) is tells h = then_fails store (stats_stage name schema) (stats_file_plan_stage terms query) C C stats e tells h

@@ -9,7 +9,7 @@ use Rattle.join_steps.specs.Lists.{list_at, list_levels}
 use Rattle.reduced_scans.specs.Rounds.{reduced_of}
 use Rattle.table_files.specs.EntryTables.{tables_in}
 use Rattle.plans.specs.declared.bushy.BushyPlan.{BushyPlan}
-use Rattle.prepared_runs.specs.Shapes.{IsShapedPlan, joined_entries, part_bound, part_count, part_rows, part_sizes, whole_parts}
+use Rattle.prepared_runs.specs.Shapes.{IsShapedPlan, joined_entries, part_bound, part_count, part_rows, part_sizes, parts_over_tables}
 use Rattle.safebound_words.specs.declared.command.ListSource.{ListSource}
 use Rattle.safebound_words.specs.declared.command.ListSource.TheVariants as sources
 use Rattle.safebound_words.specs.declared.command.OutText.{OutText}
@@ -52,7 +52,7 @@ pub record IsOverWholeScans (run : AcceptedQuery) : Type 0 where
   pub scans : (entry : ℕ) → entry < length run.query.from
       → scan_rows run entry ≡ scan (conjuncts_of run.query (tables run)) (row_counts (tables run)) entry
   pub parts : (k : ℕ) → k < part_count run.shape run.plan
-      → part_rows run.query (tables run) run.lists run.shape run.plan k ≡ whole_parts run.query (tables run) run.shape run.plan k
+      → part_rows run.query (tables run) run.lists run.shape run.plan k ≡ parts_over_tables run.query (tables run) run.shape run.plan k
 
 -- the lists are the reduced scans: the largest lists in which each row has a match across each equality (law `reduced_scans_are_by_rounds` of
 -- reduced_scans). Each list has exactly as many rows as the plan says

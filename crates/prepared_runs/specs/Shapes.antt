@@ -1,8 +1,8 @@
 -- A plan is a join tree, with a bound for each scan and each inner node. The shape of a plan says how it was searched and how it is printed: as an
 -- order, or as a tree. The plan of an order is the tree of this order. The parts of a plan are the levels of its order, or the inner nodes of its
--- tree. Each part has a bound and a list of rows. Memory and joins know only the tree. Five other files have a case for each shape: Allowed (costs),
--- KeptBuffers (rows of parts), Commands of safebound_words (budgets), Promise of safebound_top (plan texts) and FilePlans of safebound_laws (bounds
--- that are near).
+-- tree. Each part has a bound and a list of rows. What memory a plan takes, and how rows are joined, is defined for trees alone. Five other files
+-- have a case for each shape: Allowed (costs), KeptBuffers (rows of parts), Commands of safebound_words (budgets), Promise of safebound_top (plan
+-- texts) and FilePlans of safebound_laws (bounds near those without compression).
 use Rattle.std.specs.Prelude.{◌≡◌, ℕ, ◌+◌, ◌-◌, List, length, map, slice_index, Option, Result}
 use Rattle.std.specs.List.{range_with_len}
 use Rattle.order_search.specs.declared.refusal.PlanError.{PlanError}
@@ -34,10 +34,10 @@ use Rattle.safebound_words.specs.declared.command.Shape.TheVariants as shapes
 
 -- ---- the choice of a plan
 
--- the best plan by a bound for each set of entries and a bound for each scan, or the reason why no plan is within the budget
+-- given a bound for each set of entries and for each scan: the best plan, or the reason why no plan is within the budget
 abbrev pub answer_of : Shape → List ℕ → List ℕ → ℕ → Result BushyPlan PlanError
-answer_of shapes.Order sets scans budget = mapped (λ plan. tree_of_order plan) (plan_answer sets scans budget)
-answer_of shapes.Tree sets scans budget = tree_answer sets scans budget
+answer_of shapes.Order set_bounds scan_bounds budget = mapped (λ plan. tree_of_order plan) (plan_answer set_bounds scan_bounds budget)
+answer_of shapes.Tree set_bounds scan_bounds budget = tree_answer set_bounds scan_bounds budget
 
 -- the plan by the bounds that a source gives at an accuracy: the best plan of the shape, or PastBits, or Budget with the least cost
 unfoldable pub planned_by : Shape → BoundsAndLists → ℕ → ℕ → Result BushyPlan PlanError
@@ -64,8 +64,8 @@ abbrev pub part_bound : Shape → BushyPlan → ℕ → ℕ
 part_bound shapes.Order plan k = slice_index (order_of_tree plan).levels k
 part_bound shapes.Tree plan k = bound_at plan (length plan.scans + k)
 
--- the entries in the order of their row numbers in a choice for all of them: the order of the tree's leaves. An order's tree has its leaves in this
--- order
+-- The entries in the order of the tree's leaves. A choice for all of them has its row numbers in this order. For the tree of an order it is the
+-- order itself
 abbrev pub joined_entries : BushyPlan → List ℕ
 joined_entries plan = entries_at plan (node_count plan - 1)
 
@@ -89,9 +89,9 @@ part_rows query tables lists shapes.Order plan k = list_levels query tables list
 part_rows query tables lists shapes.Tree plan k = node_rows query tables lists plan (length plan.scans + k)
 
 -- the rows of part k over complete tables
-abbrev pub whole_parts : Query → Tables → Shape → BushyPlan → ℕ → List (List ℕ)
-whole_parts query tables shapes.Order plan k = level (conjuncts_of query tables) (row_counts tables) (order_of_tree plan).order (k + 1)
-whole_parts query tables shapes.Tree plan k = rows_over_tables query tables plan (length plan.scans + k)
+abbrev pub parts_over_tables : Query → Tables → Shape → BushyPlan → ℕ → List (List ℕ)
+parts_over_tables query tables shapes.Order plan k = level (conjuncts_of query tables) (row_counts tables) (order_of_tree plan).order (k + 1)
+parts_over_tables query tables shapes.Tree plan k = rows_over_tables query tables plan (length plan.scans + k)
 
 -- how many rows each part has over lists
 abbrev pub part_sizes : Query → Tables → List (List ℕ) → Shape → BushyPlan → List ℕ

@@ -1,5 +1,6 @@
--- The verdict: the result that the words and the files determine. It is computed in stages: the words, the schema, the query, the tables or the
--- statistics file, and the plan. For `append` the stages after the schema are the statistics file and the new rows of one of its tables.
+-- The verdict: the result that the words of the command line and the files determine. It is computed in stages: the words, the schema, the query, the
+-- tables or the statistics file, and the plan. For `append` the stages after the schema are the statistics file and the new rows of a table that this
+-- file has.
 use Rattle.std.specs.Prelude.{ℕ, ◌≡◌, ◌⊎◌, List, Option, None, Some, Result, Ok, Err, IsOkAnd}
 use Rattle.limits.specs.Profile.{most_text}
 use Rattle.base_io.specs.Files.{Files}
@@ -26,8 +27,8 @@ use Rattle.safebound_words.specs.Answer.{command_of}
 use Rattle.safebound_words.specs.declared.command.SchemaTask.{SchemaTask}
 use Rattle.safebound_words.specs.declared.command.Command.{Command}
 use Rattle.safebound_words.specs.declared.command.QueryTask.{QueryTask}
-use Rattle.safebound_words.specs.declared.command.SchemaTask.TheVariants as aims
-use Rattle.safebound_words.specs.declared.command.QueryTask.TheVariants as works
+use Rattle.safebound_words.specs.declared.command.SchemaTask.TheVariants as schema_tasks
+use Rattle.safebound_words.specs.declared.command.QueryTask.TheVariants as query_tasks
 use Rattle.prepared_runs.specs.StatsFiles.{stats_file_plan_stage, stats_stage, stats_file_of_tables}
 use Rattle.prepared_runs.specs.RunOutcome.{RunOutcome, Planned}
 use Rattle.prepared_runs.specs.Shapes.{planned_by, planned_within}
@@ -65,9 +66,9 @@ query_stage name schema files = do
 abbrev pub plan_asked : PlanWork → Schema → Query → Tables → Result BushyPlan PlanError
 plan_asked task schema query ts = planned_by task.terms.shape (bounds_and_lists_by task.source schema query ts) task.accuracy task.terms.budget
 
--- the accepted query for a plan, with the rows that the source gives
-abbrev pub run_asked : PlanWork → Query → List (List Row) → BushyPlan → AcceptedQuery
-run_asked task query rows plan = record {
+-- the accepted query: the query, its rows and its plan, and the lists that the task's source of bounds gives for these rows
+abbrev pub accepted_query : PlanWork → Query → List (List Row) → BushyPlan → AcceptedQuery
+accepted_query task query rows plan = record {
   query = query;
   rows = rows;
   shape = task.terms.shape;
@@ -82,32 +83,32 @@ run_asked task query rows plan = record {
 -- the least cost, and MemoryLimit with the bytes of the plan
 unfoldable pub plan_stage : PlanWork → Schema → Query → List (List Row) → Result RunOutcome Refusal
 plan_stage task schema query rows =
-    planned_within task.terms.memory (λ plan. Planned (run_asked task query rows plan)) (plan_asked task schema query (tables_in rows))
+    planned_within task.terms.memory (λ plan. Planned (accepted_query task query rows plan)) (plan_asked task schema query (tables_in rows))
 
 -- the outcome of the work on a query, or the first refusal
-abbrev pub work_run : QueryTask → Schema → Query → Files → Result RunOutcome Refusal
-work_run (works.Plan task) schema query files = do
+abbrev pub query_task_run : QueryTask → Schema → Query → Files → Result RunOutcome Refusal
+query_task_run (query_tasks.Plan task) schema query files = do
   rows ← tables_stage schema query.from files
   plan_stage task schema query rows
-work_run (works.WriteStats accuracy) schema query files = do
+query_task_run (query_tasks.WriteStats accuracy) schema query files = do
   rows ← tables_stage schema query.from files
   Ok (stats_file_of_tables schema query rows accuracy)
-work_run (works.PlanFromStats name terms) schema query files = do
+query_task_run (query_tasks.PlanFromStats name terms) schema query files = do
   stats ← stats_stage name schema files
   stats_file_plan_stage terms query stats
 
--- the outcome of an aim over a schema, or the first refusal. The aim is work on a query, or new rows to append
-abbrev pub aim_run : SchemaTask → Schema → Files → Result RunOutcome Refusal
-aim_run (aims.Query name work) schema files = do
+-- the outcome of what a command does after it has read the schema, or the first refusal. It works on a query, or appends new rows
+abbrev pub schema_task_run : SchemaTask → Schema → Files → Result RunOutcome Refusal
+schema_task_run (schema_tasks.Query name work) schema files = do
   query ← query_stage name schema files
-  work_run work schema query files
-aim_run (aims.Append append) schema files = append_run append schema files
+  query_task_run work schema query files
+schema_task_run (schema_tasks.Append append) schema files = append_run append schema files
 
 -- the outcome of a run, or the first refusal that applies
 unfoldable pub command_run : Command → Files → Result RunOutcome Refusal
 command_run command files = do
   schema ← schema_stage command.schema_file files
-  aim_run command.aim schema files
+  schema_task_run command.schema_task schema files
 
 unfoldable pub verdict : List (List ℕ) → Files → Result RunOutcome Refusal
 verdict words files = do
@@ -122,22 +123,23 @@ schema_read words files = do
 
 -- ---- which files the verdict reads
 
--- The file `id` is read for the query: it is the file of one of the query's tables, and no table before is refused; or it is the statistics file.
-abbrev pub IsWorkFile : QueryTask → Schema → Query → Files → FileId → Type 0
-IsWorkFile (works.Plan task) schema query files id = IsTableReached schema (tables_of_query query.from) files id
-IsWorkFile (works.WriteStats accuracy) schema query files id = IsTableReached schema (tables_of_query query.from) files id
-IsWorkFile (works.PlanFromStats name terms) schema query files id = id ≡ file.Stats
+-- The file `id` is read for the query: it is the file of one of the query's tables, and no earlier table is refused; or it is the statistics
+-- file.
+abbrev pub IsQueryTaskFile : QueryTask → Schema → Query → Files → FileId → Type 0
+IsQueryTaskFile (query_tasks.Plan task) schema query files id = IsTableReached schema (tables_of_query query.from) files id
+IsQueryTaskFile (query_tasks.WriteStats accuracy) schema query files id = IsTableReached schema (tables_of_query query.from) files id
+IsQueryTaskFile (query_tasks.PlanFromStats name terms) schema query files id = id ≡ file.Stats
 
 -- The file `id` is read after the schema. It is the file of the query, or it is read for the query. For `append` it is the statistics file,
 -- or, if the statistics file has a section of the table, the file of new rows.
-abbrev pub IsAimFile : SchemaTask → Schema → Files → FileId → Type 0
-IsAimFile (aims.Query name work) schema files id =
-    (id ≡ file.Query) ⊎ IsOkAnd (query_stage name schema files) (λ query. IsWorkFile work schema query files id)
-IsAimFile (aims.Append append) schema files id =
+abbrev pub IsSchemaTaskFile : SchemaTask → Schema → Files → FileId → Type 0
+IsSchemaTaskFile (schema_tasks.Query name work) schema files id =
+    (id ≡ file.Query) ⊎ IsOkAnd (query_stage name schema files) (λ query. IsQueryTaskFile work schema query files id)
+IsSchemaTaskFile (schema_tasks.Append append) schema files id =
     (id ≡ file.Stats) ⊎ IsOkAnd (section_read append schema files) (λ section. id ≡ file.Table section.table)
 
--- The verdict reads the file `id`, and no file before is refused. It is the schema's file; or the schema's file declares a schema, and the
+-- The verdict reads the file `id`, and no earlier file is refused. It is the schema's file; or the schema's file declares a schema, and the
 -- file `id` is read after it. If the words ask for no command, no file is read.
-abbrev pub IsReached : List (List ℕ) → Files → FileId → Type 0
-IsReached words files id = IsOkAnd (command_stage words)
-    (λ command. (id ≡ file.Schema) ⊎ IsOkAnd (schema_stage command.schema_file files) (λ schema. IsAimFile command.aim schema files id))
+abbrev pub IsReadByVerdict : List (List ℕ) → Files → FileId → Type 0
+IsReadByVerdict words files id = IsOkAnd (command_stage words)
+    (λ command. (id ≡ file.Schema) ⊎ IsOkAnd (schema_stage command.schema_file files) (λ schema. IsSchemaTaskFile command.schema_task schema files id))

@@ -11,10 +11,10 @@ ghost use Rattle.stats_reading.specs.Names.{HasByteColumns};
 ghost use Rattle.table_files.specs.EntryTables.{rows_of_read};
 ghost use Rattle.table_files.specs.Stage.{table_at};
 ghost use Rattle.prepared_runs.specs.Appending.{append_run, grown_stage, is_of_table, rows_run, section_stage, stats_run};
-ghost use Rattle.safebound_words.specs.declared.command.SchemaTask.TheVariants as aims;
+ghost use Rattle.safebound_words.specs.declared.command.SchemaTask.TheVariants as schema_tasks;
 ghost use Rattle.prepared_runs.specs.SectionRows.{HasAsMany, section_rows};
 ghost use Rattle.prepared_runs.specs.PreparedRun.{appended_from};
-ghost use Rattle.prepared_runs.specs.Verdict.{IsAimFile};
+ghost use Rattle.prepared_runs.specs.Verdict.{IsSchemaTaskFile};
 
 use crate::stats_files::load_stats;
 use appended_stats::append_rows;
@@ -183,7 +183,7 @@ pub fn prepare_append<S: Store>(
     requires bytes { HasByteColumns schema.now }
     ensures rules { IfOk result (λ made. KeepsRules schema.now made.file) }
     ensures reads { Reads (reading S.files S.faults S.misses store.old store.new) (append_run append.now schema.now)
-        (IsAimFile (aims.Append append.now) schema.now) (mapped (appended_from schema.now) result) }
+        (IsSchemaTaskFile (schema_tasks.Append append.now) schema.now) (mapped (appended_from schema.now) result) }
 {
     let stats = load_stats(alloc, store, &append.stats_file, schema)?;
     append_to(alloc, store, append, schema, stats)

@@ -10,7 +10,7 @@
 //!
 //! ```text
 //! let schema = load_schema(alloc, store, &command.schema_file)?;
-//! let ready = prepare_run(alloc, store, &command.aim, &schema)?;    // nothing is written so far
+//! let ready = prepare_run(alloc, store, &command.schema_task, &schema)?;    // nothing is written so far
 //! ```
 #![tactic(auto)]
 

@@ -13,14 +13,14 @@ ghost use Rattle.table_files.specs.EntryTables.{entry_rows, tables_in};
 ghost use Rattle.table_files.specs.Stage.{IsReached, tables_of_query};
 ghost use Rattle.tree_rows.specs.Memory.{tree_bytes};
 ghost use Rattle.safebound_words.specs.InRange.{HasRanges, IsInRange, WorkHasRanges};
-ghost use Rattle.safebound_words.specs.declared.command.SchemaTask.TheVariants as aims;
-ghost use Rattle.safebound_words.specs.declared.command.QueryTask.TheVariants as works;
+ghost use Rattle.safebound_words.specs.declared.command.SchemaTask.TheVariants as schema_tasks;
+ghost use Rattle.safebound_words.specs.declared.command.QueryTask.TheVariants as query_tasks;
 ghost use Rattle.prepared_runs.specs.Allowed.{shape_cost};
 ghost use Rattle.prepared_runs.specs.Limits.{IsWithinLimit};
 ghost use Rattle.prepared_runs.specs.PreparedQuery.{AreOverLists, HasRoom, HoldExactly, HoldsBytes, IsPrepared, lists_in, pending_plan, pending_text};
 ghost use Rattle.prepared_runs.specs.PreparedRun.{CanBeWritten, outcome_of, planned_outcome};
 ghost use Rattle.prepared_runs.specs.Standing.{LoseNoRow};
-ghost use Rattle.prepared_runs.specs.Verdict.{IsAimFile, IsWorkFile, aim_run, plan_stage, work_run};
+ghost use Rattle.prepared_runs.specs.Verdict.{IsSchemaTaskFile, IsQueryTaskFile, schema_task_run, plan_stage, query_task_run};
 
 use crate::append::{PreparedAppend, prepare_append};
 use crate::files::load_query;
@@ -155,7 +155,7 @@ fn prepare_tables<S: Store>(
     requires query { IsQueryOf schema.now query }
     requires ranges { IsInRange task.now }
     ensures ready { IfOk result IsPrepared }
-    ensures reads { Reads (reading S.files S.faults S.misses store.old store.new) (work_run (works.Plan task.now) schema.now query)
+    ensures reads { Reads (reading S.files S.faults S.misses store.old store.new) (query_task_run (query_tasks.Plan task.now) schema.now query)
         (IsReached schema.now (tables_of_query query.from)) (mapped planned_outcome result) }
 {
     let db = read_tables(alloc, store, schema, &query)?;
@@ -175,8 +175,8 @@ fn prepare_query<S: Store>(
     requires query { IsQueryOf schema.now query }
     requires ranges { WorkHasRanges work.now }
     ensures ready { IfOk result (CanBeWritten schema.now) }
-    ensures reads { Reads (reading S.files S.faults S.misses store.old store.new) (work_run work.now schema.now query)
-        (IsWorkFile work.now schema.now query) (mapped (outcome_of schema.now) result) }
+    ensures reads { Reads (reading S.files S.faults S.misses store.old store.new) (query_task_run work.now schema.now query)
+        (IsQueryTaskFile work.now schema.now query) (mapped (outcome_of schema.now) result) }
 {
     match work {
         QueryTask::Plan(plan) => {
@@ -212,8 +212,8 @@ fn prepare_work<S: Store>(
     requires bytes { HasByteColumns schema.now }
     requires ranges { WorkHasRanges work.now }
     ensures ready { IfOk result (CanBeWritten schema.now) }
-    ensures reads { Reads (reading S.files S.faults S.misses store.old store.new) (aim_run (aims.Query file.now work.now) schema.now)
-        (IsAimFile (aims.Query file.now work.now) schema.now) (mapped (outcome_of schema.now) result) }
+    ensures reads { Reads (reading S.files S.faults S.misses store.old store.new) (schema_task_run (schema_tasks.Query file.now work.now) schema.now)
+        (IsSchemaTaskFile (schema_tasks.Query file.now work.now) schema.now) (mapped (outcome_of schema.now) result) }
 {
     let query = load_query(alloc, store, file, schema)?;
     prepare_query(alloc, store, work, schema, query)
@@ -224,17 +224,17 @@ fn prepare_work<S: Store>(
 pub fn prepare_run<S: Store>(
     alloc: Global,
     store: &mut S,
-    aim: &SchemaTask,
+    schema_task: &SchemaTask,
     schema: &Schema,
 ) -> Result<PreparedRun, Failure>
     requires schema { IsValid schema.now }
     requires bytes { HasByteColumns schema.now }
-    requires ranges { HasRanges aim.now }
+    requires ranges { HasRanges schema_task.now }
     ensures ready { IfOk result (CanBeWritten schema.now) }
-    ensures reads { Reads (reading S.files S.faults S.misses store.old store.new) (aim_run aim.now schema.now)
-        (IsAimFile aim.now schema.now) (mapped (outcome_of schema.now) result) }
+    ensures reads { Reads (reading S.files S.faults S.misses store.old store.new) (schema_task_run schema_task.now schema.now)
+        (IsSchemaTaskFile schema_task.now schema.now) (mapped (outcome_of schema.now) result) }
 {
-    match aim {
+    match schema_task {
         SchemaTask::Query { file, work } => prepare_work(alloc, store, file, work, schema),
         SchemaTask::Append(append) => {
             let made = prepare_append(alloc, store, append, schema)?;

@@ -2,7 +2,6 @@
 ghost use Rattle.std.specs.Prelude.{◌≡◌, ◌⊎◌, ◌^◌, ◌≤◌, ℕ, List, Err, IfOk, length};
 ghost use Rattle.limits.specs.Profile.{most_budget, most_entries};
 ghost use Rattle.order_search.specs.declared.refusal.PlanError.TheVariants as error;
-ghost use Rattle.sql_meaning.specs.Databases.{IsDatabaseOf};
 ghost use Rattle.sql_meaning.specs.Tables.{tables_of};
 ghost use Rattle.bushy_join.specs.Trees.{IsTreePlanOf};
 ghost use Rattle.tree_rows.specs.Memory.{tree_rooms_bytes};

@@ -12,13 +12,13 @@ ghost use Rattle.stats_reading.specs.Names.{HasByteColumns};
 ghost use Rattle.sql_meaning.specs.Tables.{tables_of};
 ghost use Rattle.table_files.specs.EntryTables.{entry_rows, tables_in};
 ghost use Rattle.table_files.specs.Stage.{IsReached, tables_of_query};
-ghost use Rattle.safebound_words.specs.declared.command.QueryTask.TheVariants as works;
+ghost use Rattle.safebound_words.specs.declared.command.QueryTask.TheVariants as query_tasks;
 ghost use Rattle.stats_file_bounds.specs.Bounds.{scan_bounds_of_file, set_bounds_of_file};
 ghost use Rattle.safebound_words.specs.Commands.{most_budget_of};
 ghost use Rattle.prepared_runs.specs.Shapes.{planned_within};
 ghost use Rattle.prepared_runs.specs.StatsFiles.{made_from_file, need_failure, plan_from_file_asked, stats_file_plan_stage, stats_stage, stats_file_of_tables};
 ghost use Rattle.prepared_runs.specs.PreparedRun.{IsPlanned, file_from, plan_from};
-ghost use Rattle.prepared_runs.specs.Verdict.{work_run};
+ghost use Rattle.prepared_runs.specs.Verdict.{query_task_run};
 
 use crate::limit::check_limit;
 use crate::shapes::plan_by;
@@ -169,7 +169,7 @@ pub fn prepare_stats_file<S: Store>(
     requires schema { IsValid schema.now }
     requires query { IsQueryOf schema.now query }
     ensures rules { IfOk result (λ made_stats. KeepsRules schema.now made_stats.file) }
-    ensures reads { Reads (reading S.files S.faults S.misses store.old store.new) (work_run (works.WriteStats accuracy) schema.now query)
+    ensures reads { Reads (reading S.files S.faults S.misses store.old store.new) (query_task_run (query_tasks.WriteStats accuracy) schema.now query)
         (IsReached schema.now (tables_of_query query.from)) (mapped (file_from schema.now) result) }
 {
     let db = read_tables(alloc, store, schema, &query)?;
@@ -191,7 +191,7 @@ pub fn prepare_stats_file_plan<S: Store>(
     requires query { IsQueryOf schema.now query }
     requires budget { terms.now.budget ≤ most_budget_of terms.now.shape }
     ensures plan { IfOk result IsPlanned }
-    ensures reads { Reads (reading S.files S.faults S.misses store.old store.new) (work_run (works.PlanFromStats file.now terms.now) schema.now query)
+    ensures reads { Reads (reading S.files S.faults S.misses store.old store.new) (query_task_run (query_tasks.PlanFromStats file.now terms.now) schema.now query)
         (AtFile FileId.Stats) (mapped plan_from result) }
 {
     let stats = load_stats(alloc, store, file, schema)?;

@@ -2,7 +2,7 @@
 ghost use Rattle.std.specs.Prelude.{◌≡◌, ◌≢◌, ◌∷◌, [], codes, decimal, option_copied, option_map};
 ghost use Rattle.base_io.specs.Devices.{growth};
 ghost use Rattle.base_io.specs.Writes.{Wrote};
-ghost use Rattle.printed_texts.specs.Faults.{column_name_in, error_line, fault_line, file_name, file_of_rows, file_of_table, is_of_file as of_file, limit_word as word_of_limit, limit_words, query_cause, read_words, refusal_words, schema_cause, sink_name, stats_cause, table_cause, table_in, table_words};
+ghost use Rattle.printed_texts.specs.Faults.{column_name_in, error_line, fault_line, file_name, file_of_rows, file_of_table, is_of_file as of_file, limit_word as word_of_limit, limit_words, query_cause, read_words, refusal_words, schema_cause, sink_name, stats_cause, table_in, table_words};
 ghost use Rattle.printed_texts.specs.Words.{file_word_text, names_of_line};
 
 use crate::lines::{FileWord, write_error_line, write_words_about};

@@ -1,6 +1,6 @@
 //! Writes the line of a fault: `error`, then words with a blank before each, and LF. One of the words may be the name of a file. No function here
 //! takes memory.
-ghost use Rattle.std.specs.Prelude.{◌≡◌, ◌≤◌, ◌++◌, ◌∷◌, map};
+ghost use Rattle.std.specs.Prelude.{◌++◌, ◌∷◌, map};
 ghost use Rattle.std.specs.Char.{to_ascii_lowercase};
 ghost use Rattle.std.specs.List.{flat_map};
 ghost use Rattle.base_io.specs.Devices.{growth};

@@ -1,5 +1,4 @@
 //! Writes the line `memory BYTES`, which says how many bytes a plan takes. No function here allocates memory.
-ghost use Rattle.std.specs.Prelude.{◌≡◌};
 ghost use Rattle.base_io.specs.Devices.{growth};
 ghost use Rattle.base_io.specs.Writes.{WroteBuffered, Wrote};
 ghost use Rattle.printed_texts.specs.Memory.{memory_line, memory_text};

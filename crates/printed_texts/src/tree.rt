@@ -1,5 +1,5 @@
 //! Writes the plan text of a join tree. No function here allocates memory.
-ghost use Rattle.std.specs.Prelude.{◌≡◌, ◌<◌, ◌+◌, ◌^◌, length};
+ghost use Rattle.std.specs.Prelude.{◌<◌, ◌+◌, ◌^◌, length};
 ghost use Rattle.base_io.specs.Devices.{growth};
 ghost use Rattle.base_io.specs.Writes.{WroteBuffered, Wrote};
 ghost use Rattle.plans.specs.TreePlans.{IsTreePlan};

@@ -31,11 +31,11 @@ use Rattle.query_bounds.proofs.Holding.{pair_at}
 use Rattle.query_bounds.proofs.Sets.{both_among}
 
 from_positive : (k : ℕ) (f : List ℕ) → IsDescending f → All (λ x. 0 < x) f → (n m : ℕ) → AllByRecursion (λ x. 0 < x) (compressed_from k f n m)
-from_positive k f falls positive zero m = tt
-from_positive k f falls positive (suc n) m =
+from_positive k f descends positive zero m = tt
+from_positive k f descends positive (suc n) m =
     let next : ℕ = min (head_of_row k f m) (sum f - m) in
     cond_both (ltb m (sum f)) (next ∷ compressed_from k f n (m + next)) [] (AllByRecursion (λ x. 0 < x))
-    (λ e. (omega (arith, ltb-true m (sum f) e, head_of_row_pos k f falls positive m (ltb-true m (sum f) e)), from_positive k f falls positive n (m + next)))
+    (λ e. (omega (arith, ltb-true m (sum f) e, head_of_row_pos k f descends positive m (ltb-true m (sum f) e)), from_positive k f descends positive n (m + next)))
     (λ e. tt)
 
 list_positive : (k : ℕ) (keys : List ℕ) → All (λ x. 0 < x) (compressed k (degree_list keys))

@@ -1,5 +1,5 @@
 //! Reads conditions: OR, AND, NOT and parentheses. `depth` is how deep parentheses may still be nested. It limits the recursion.
-ghost use Rattle.std.specs.Prelude.{◌≡◌, List, IfOk, IfErr};
+ghost use Rattle.std.specs.Prelude.{◌≡◌, IfOk, IfErr};
 ghost use Rattle.ll_grammars.specs.Rules.{IsReadAs};
 ghost use Rattle.query_grammar.specs.Values.{negate, all_of, any_of};
 ghost use Rattle.query_grammar.specs.Readers.{read_factor, read_next_factor, read_factors, read_term, read_next_term, read_terms, read_cond, read_inside, read_test, read_within};

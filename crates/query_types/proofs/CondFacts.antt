@@ -80,9 +80,9 @@ every_compare Q op left right h =
 
 -- ---- a property P of all entries that a condition names
 
-pub all_of_append : (P : ℕ → Type 0) (a b : List ℕ) → AllByRecursion P a → AllByRecursion P b → AllByRecursion P (a ++ b)
-all_of_append P [] b h k = k
-all_of_append P (x ∷ a) b h k = (h.0, all_of_append P a b h.1 k)
+pub all_in_append : (P : ℕ → Type 0) (a b : List ℕ) → AllByRecursion P a → AllByRecursion P b → AllByRecursion P (a ++ b)
+all_in_append P [] b h k = k
+all_in_append P (x ∷ a) b h k = (h.0, all_in_append P a b h.1 k)
 
 module _ (Q : Cond-F Cond → Type 0) (P : ℕ → Type 0) (one : (op : Op) (left right : Operand) → Q (layer.Compare op left right) → AllByRecursion P (entries_of_operand left ++ entries_of_operand right)) where
   abbrev NamesOnly : Cond → Type 0
@@ -90,7 +90,7 @@ module _ (Q : Cond-F Cond → Type 0) (P : ℕ → Type 0) (one : (op : Op) (lef
 
   members : (ys : List ((c : Cond) × NamesOnly c)) → AllByRecursion (every-Cond Q) (map (λ y. y.0) ys) → AllByRecursion P (flat_map (λ inner. inner) (map entries_named (map (λ y. y.0) ys)))
   members [] h = tt
-  members (y ∷ ys) h = all_of_append P (entries_named y.0) (flat_map (λ inner. inner) (map entries_named (map (λ y. y.0) ys))) (y.1 h.0) (members ys h.1)
+  members (y ∷ ys) h = all_in_append P (entries_named y.0) (flat_map (λ inner. inner) (map entries_named (map (λ y. y.0) ys))) (y.1 h.0) (members ys h.1)
 
   layers : (y : Cond-F ((c : Cond) × NamesOnly c)) → every-Cond Q (roll-Cond (map-Cond ((c : Cond) × NamesOnly c) Cond (λ e. e.0) y)) → AllByRecursion P (entries_step (map-Cond Cond (List ℕ) entries_named (map-Cond ((c : Cond) × NamesOnly c) Cond (λ e. e.0) y)))
   layers (layer.And ys) h = members ys (every_and Q (map (λ y. y.0) ys) (subst (every-Cond Q) (rolls-And (map (λ y. y.0) ys)) h))
@@ -112,5 +112,5 @@ module _ (IsColumn : ColumnRef → Bool → Type 0) (P : ℕ → Type 0) (column
   pub entries_typed : (cond : Cond) → IsTyped IsColumn cond → All P (entries_named cond)
   entries_typed cond h = All-from_recursion P (entries_named cond)
       (all_named (IsTypedLayer IsColumn) P
-      (λ op left right can. all_of_append P (entries_of_operand left) (entries_of_operand right) (operand_entry left can.text can.left_kind) (operand_entry right can.text can.right_kind))
+      (λ op left right can. all_in_append P (entries_of_operand left) (entries_of_operand right) (operand_entry left can.text can.left_kind) (operand_entry right can.text can.right_kind))
       cond h)

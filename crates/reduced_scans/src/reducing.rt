@@ -20,7 +20,7 @@ use base_io::NoMemory;
 use berge_tree::Edge;
 use counted_sets::reduce;
 use csv_tables::Database;
-use join_steps::texts_are_different;
+use join_steps::recall_texts_are_different;
 use query_types::Query;
 use row_buf::RowBuf;
 use std::alloc::Global;
@@ -140,7 +140,7 @@ pub fn reduce_scans(
     ensures no_spare { IfOk result (λ reduced. HaveNoSpare reduced.items) }
     ensures capacity { IfOk result (λ reduced. vec_capacity reduced ≡ length query.now.from) }
 {
-    texts_are_different(&db.pool);
+    recall_texts_are_different(&db.pool);
     let lists = semi_join_all(alloc, db, scans, equalities)?;
     let remaining = lists.as_slice();
     let marks = marks_of(alloc, db, remaining, equalities)?;

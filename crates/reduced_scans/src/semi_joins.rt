@@ -44,7 +44,7 @@ fn rows_within(
     Ok(kept)
 }
 
-// The rows of a list that may have a partner. `None` if the partners' cells don't lie in a short range.
+// The rows of a list that have a partner. `None` if the partners' cells don't lie in a short range.
 fn semi_join(
     alloc: Global,
     cells: &[u64],
@@ -157,10 +157,10 @@ fn semi_join_back(
     ensures lists { OnOk result (AreRowLists db.now lists.new) }
     ensures stay { OnOk result (StaySifted (cell_at db.now) equalities.now (lists_of lists.old) (lists_of lists.new)) }
 {
-    let mut left = equalities.len();
-    'equalities: while left > 0 {
-        left -= 1;
-        semi_join_equality(alloc, db, lists, equalities[left])?;
+    let mut remaining = equalities.len();
+    'equalities: while remaining > 0 {
+        remaining -= 1;
+        semi_join_equality(alloc, db, lists, equalities[remaining])?;
     }
     Ok(())
 }

@@ -114,9 +114,9 @@ passing_of_rows value key rows passes other alike = from rows (column_contains_e
 
 pub zip_of_columns : (column joined : List ℕ) → length column ≡ length joined
     → (filter_values (zip column joined) ≡ column) × (joined_keys (zip column joined) ≡ joined)
-zip_of_columns [] [] long = (refl, refl)
-zip_of_columns [] (k ∷ joined) long = absurd (omega arith)
-zip_of_columns (v ∷ column) [] long = absurd (omega arith)
-zip_of_columns (v ∷ column) (k ∷ joined) long =
+zip_of_columns [] [] lengths = (refl, refl)
+zip_of_columns [] (k ∷ joined) lengths = absurd (omega arith)
+zip_of_columns (v ∷ column) [] lengths = absurd (omega arith)
+zip_of_columns (v ∷ column) (k ∷ joined) lengths =
     let rest = zip_of_columns column joined (omega arith) in
     (ap (λ (s : List ℕ). v ∷ s) rest.0, ap (λ (s : List ℕ). k ∷ s) rest.1)

@@ -108,7 +108,7 @@ module _ (rows : List ℕ) (equalities : List Equality) (lists : List ColumnList
   has_list entry column low any =
       let l = given_list_is_valid entry column any in
       record {
-        falls = rw (known_list entry column l.0 l.1) (fitted_descends (get_or rows entry 0) (list_of (runs_of runs l.0)) (valid_runs_descend (runs_of runs l.0) l.2));
+        descends = rw (known_list entry column l.0 l.1) (fitted_descends (get_or rows entry 0) (list_of (runs_of runs l.0)) (valid_runs_descend (runs_of runs l.0) l.2));
         total = rw (known_list entry column l.0 l.1) (fitted_sum (get_or rows entry 0) (list_of (runs_of runs l.0)));
       }
 

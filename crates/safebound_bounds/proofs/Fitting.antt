@@ -35,18 +35,18 @@ still_descending (x ∷ s) v n fall all (suc r) = still_descending s v n (λ k. 
 -- ---- valid runs stand for a descending list
 
 first_runs_descend : (runs : List Run) → AreValid runs → (n : ℕ) → n ≤ length runs → IsDescending (list_of (take n runs))
-first_runs_descend runs right zero low r = omega arith
-first_runs_descend runs right (suc n) low r =
+first_runs_descend runs valid zero low r = omega arith
+first_runs_descend runs valid (suc n) low r =
     let here : n < length runs = omega arith in
     let next : suc n ≡ n + 1 = omega arith in
-    let falls : IsDescending (list_of (take (suc n) runs)) =
+    let descends : IsDescending (list_of (take (suc n) runs)) =
     subst IsDescending (sym (ap (λ k. list_of (take k runs)) next ∙ ap list_of (take_more runs n no_run here) ∙ list_with_one_more_run (take n runs) (run_at runs n)))
-    (still_descending (list_of (take n runs)) (run_at runs n).degree (run_at runs n).keys (first_runs_descend runs right n (omega arith))
-    (elements_at_least (run_at runs n).degree (take n runs) (right n here).falls)) in
-    falls r
+    (still_descending (list_of (take n runs)) (run_at runs n).degree (run_at runs n).keys (first_runs_descend runs valid n (omega arith))
+    (elements_at_least (run_at runs n).degree (take n runs) (valid n here).descends)) in
+    descends r
 
 pub valid_runs_descend : (runs : List Run) → AreValid runs → IsDescending (list_of runs)
-valid_runs_descend runs right = subst (λ (s : List Run). IsDescending (list_of s)) (take_all (length runs) runs (omega arith)) (first_runs_descend runs right (length runs) (omega arith))
+valid_runs_descend runs valid = subst (λ (s : List Run). IsDescending (list_of s)) (take_all (length runs) runs (omega arith)) (first_runs_descend runs valid (length runs) (omega arith))
 
 -- ---- the sum and the elements of a fitted list
 

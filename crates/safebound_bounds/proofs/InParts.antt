@@ -103,7 +103,7 @@ module _ (rows : List ℕ) (lists : List ColumnList) (runs : List Run) (es : Lis
         by false is k later = later k
 
   pub looks_at_parts : DependsOnPartsOnly (known_in rows lists runs es) es
-  looks_at_parts subset part rest falls = (
-    same_bound_in_part subset part falls.within falls.unjoined,
-    same_bound_in_part subset rest (rest_within subset part rest falls.others) (rest_unjoined subset part rest falls.others es falls.unjoined),
+  looks_at_parts subset part rest parted = (
+    same_bound_in_part subset part parted.within parted.unjoined,
+    same_bound_in_part subset rest (rest_within subset part rest parted.others) (rest_unjoined subset part rest parted.others es parted.unjoined),
   )

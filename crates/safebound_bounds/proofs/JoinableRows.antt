@@ -80,16 +80,16 @@ module _ (rows : List ℕ) (lists : List ColumnList) (runs : List Run) (es : Lis
   ]
 
   pub arguments_stay_valid_in_set : (equalities : List Equality) → AreArgumentsValid rows equalities lists runs → AreArgumentsValid (rows_in_set rows lists runs es subset) equalities lists runs
-  arguments_stay_valid_in_set equalities right = record {
+  arguments_stay_valid_in_set equalities valid = record {
     rows_are_valid = record {
-      some = omega (arith, in_set_counted, right.rows_are_valid.some);
-      few = omega (arith, in_set_counted, right.rows_are_valid.few);
-      each = λ i low. omega (arith, in_set_at_most i, right.rows_are_valid.each i (omega (arith, low, in_set_counted)));
+      some = omega (arith, in_set_counted, valid.rows_are_valid.some);
+      few = omega (arith, in_set_counted, valid.rows_are_valid.few);
+      each = λ i low. omega (arith, in_set_at_most i, valid.rows_are_valid.each i (omega (arith, low, in_set_counted)));
     };
-    equalities_are_valid = subst (λ (n : ℕ). AreEqualitiesValid n equalities) (sym in_set_counted) right.equalities_are_valid;
-    lists_are_valid = subst (λ (n : ℕ). AreListsValid n (length runs) lists) (sym in_set_counted) right.lists_are_valid;
-    runs_are_valid = right.runs_are_valid;
-    listed = right.listed;
+    equalities_are_valid = subst (λ (n : ℕ). AreEqualitiesValid n equalities) (sym in_set_counted) valid.equalities_are_valid;
+    lists_are_valid = subst (λ (n : ℕ). AreListsValid n (length runs) lists) (sym in_set_counted) valid.lists_are_valid;
+    runs_are_valid = valid.runs_are_valid;
+    listed = valid.listed;
   }
 
   same_list_of : (f : ℕ → ℕ) (xs : List ℕ) (i : ℕ) → ((k : ℕ) → k < length xs → f (i + k) ≡ get_or xs k 0) → map f (range_with_len i (length xs)) ≡ xs

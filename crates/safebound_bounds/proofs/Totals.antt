@@ -11,4 +11,4 @@ total_with_one_more_run runs i low = ap (λ (s : List Run). sum (list_of s)) (ta
 
 pub total_is_within_limit : (runs : List Run) → AreValid runs → (i : ℕ) → i < length runs
     → sum (list_of (take i runs)) + (run_at runs i).keys * (run_at runs i).degree ≤ 2 ^ 48
-total_is_within_limit runs right i low = omega (arith, sum_with_one_more_run (take i runs) (run_at runs i), (right i low).sum)
+total_is_within_limit runs valid i low = omega (arith, sum_with_one_more_run (take i runs) (run_at runs i), (valid i low).sum)

@@ -13,7 +13,7 @@ use Rattle.safebound_bounds.specs.Meaning.{edges_of, known_in}
 
 -- the values are valid, `es` are their equalities, and the set's entries exist
 pub record AreValidAndOfSet (given : Given) (es : List Edge) (subset : ℕ) : Type 0 where
-  pub right : AreArgumentsValid given.rows.now given.equalities.now given.lists.now given.runs.now
+  pub valid : AreArgumentsValid given.rows.now given.equalities.now given.lists.now given.runs.now
   pub edges : es ≡ edges_of given.equalities.now
   pub fits : subset < 2 ^ length given.rows.now
 

@@ -1,4 +1,4 @@
-//! Bounds all sets of entries, or one set.
+//! Computes the bounds of all sets of entries, or the bound of one set.
 ghost use Rattle.std.specs.Prelude.{◌≡◌, ◌⊎◌, ◌^◌, ◌<◌, ◌≤◌, ℕ, List, length, map, slice_index, IfErr, IfOk, OnErr, OnOk};
 ghost use Rattle.std.specs.List.{AllByRecursion};
 ghost use Rattle.entry_sets.specs.Sets.{entries_of_set};
@@ -37,7 +37,7 @@ fn check_values(
     lists: &[ColumnList],
     runs: &[Run],
 ) -> Result<(), Refusal>
-    ensures right { OnOk result (AreArgumentsValid rows.now equalities.now lists.now runs.now) }
+    ensures valid { OnOk result (AreArgumentsValid rows.now equalities.now lists.now runs.now) }
     ensures wrong { (room : ℕ) → IfErr result (IsBoundsCause rows.now equalities.now lists.now runs.now room) }
 {
     if rows.is_empty() || rows.len() > GREATEST_ENTRIES {
@@ -76,14 +76,14 @@ fn check_values(
     Ok(())
 }
 
-// The bounds of all sets, if every list counts at least as many rows as its entry's row bound. Then row bounds and lists are the same in
-// every set.
+// The bounds of all sets, if every list counts at least as many rows as its entry's row bound. Then no row is left out for a missing value, so row
+// bounds and lists are the same in every set.
 fn bounds_if_lists_cover_rows(
     alloc: Global,
     parts: &Parts,
     given: &Given,
 ) -> Result<Seq<u128>, NoMemory>
-    requires right { AreArgumentsValid given.now.rows.now given.now.equalities.now given.now.lists.now given.now.runs.now }
+    requires valid { AreArgumentsValid given.now.rows.now given.now.equalities.now given.now.lists.now given.now.runs.now }
     requires edges { parts.now.equalities ≡ edges_of given.now.equalities.now }
     requires full { (i : ℕ) → i < length given.now.lists.now → CoversRows given.now.rows.now given.now.runs.now (list_at given.now.lists.now i) }
     ensures { IfOk result (λ bounds. bounds ≡ told_in_sets (known_by given.now) parts.now.equalities (length given.now.rows.now)) }
@@ -94,7 +94,7 @@ fn bounds_if_lists_cover_rows(
 
 // The bounds of all sets. Rows may lack values.
 fn bounds_of_all_sets(alloc: Global, parts: &Parts, given: &Given) -> Result<Seq<u128>, NoMemory>
-    requires right { AreArgumentsValid given.now.rows.now given.now.equalities.now given.now.lists.now given.now.runs.now }
+    requires valid { AreArgumentsValid given.now.rows.now given.now.equalities.now given.now.lists.now given.now.runs.now }
     requires edges { parts.now.equalities ≡ edges_of given.now.equalities.now }
     ensures { IfOk result (λ bounds. bounds ≡ told_in_sets (known_by given.now) parts.now.equalities (length given.now.rows.now)) }
 {
@@ -127,7 +127,7 @@ fn write_all_bounds(
     given: &Given,
     into: &mut [u64],
 ) -> Result<u64, Refusal>
-    requires right { AreArgumentsValid given.now.rows.now given.now.equalities.now given.now.lists.now given.now.runs.now }
+    requires valid { AreArgumentsValid given.now.rows.now given.now.equalities.now given.now.lists.now given.now.runs.now }
     requires edges { parts.now.equalities ≡ edges_of given.now.equalities.now }
     requires room { 2 ^ length given.now.rows.now ≤ length into.old }
     ensures done { IfOk result (RoomBeginsWith (all_bounds (known_by given.now) (edges_of given.now.equalities.now) (length given.now.rows.now)) into.old into.new) }
@@ -147,7 +147,7 @@ fn check_room(
     runs: &[Run],
     room: usize,
 ) -> Result<(), Refusal>
-    ensures right { OnOk result (AreArgumentsValid rows.now equalities.now lists.now runs.now) }
+    ensures valid { OnOk result (AreArgumentsValid rows.now equalities.now lists.now runs.now) }
     ensures room { OnOk result (2 ^ length rows.now ≤ room) }
     ensures refused { IfErr result (IsBoundsCause rows.now equalities.now lists.now runs.now room) }
 {
@@ -183,7 +183,7 @@ pub fn bounds(
         → AllByRecursion (SatisfiesValues tables (entries_of_set subset) (equalities_within subset (edges_of equalities.now))) choices
         → ChoicesAreDifferent (entries_of_set subset) choices
         → (length choices ≤ slice_index into.new subset) ⊎ (slice_index into.new subset ≡ no_bound)) }
-    ensures right { OnOk result (AreArgumentsValid rows.now equalities.now lists.now runs.now) }
+    ensures valid { OnOk result (AreArgumentsValid rows.now equalities.now lists.now runs.now) }
     ensures refused { IfErr result (IsBoundsCause rows.now equalities.now lists.now runs.now (length into.old)) }
     ensures kept { OnErr result (into.new ≡ into.old) }
 {
@@ -200,7 +200,7 @@ pub fn bounds(
 
 // Refuses a call whose work is above the limit.
 fn check_work(alloc: Global, parts: &Parts, given: &Given, limit: u64) -> Result<(), Refusal>
-    requires right { AreArgumentsValid given.now.rows.now given.now.equalities.now given.now.lists.now given.now.runs.now }
+    requires valid { AreArgumentsValid given.now.rows.now given.now.equalities.now given.now.lists.now given.now.runs.now }
     requires edges { parts.now.equalities ≡ edges_of given.now.equalities.now }
     ensures within { OnOk result (work_of given.now.lists.now (edges_of given.now.equalities.now) (length given.now.rows.now) ≤ limit) }
     ensures refused { (room : ℕ) → 2 ^ length given.now.rows.now ≤ room
@@ -233,7 +233,7 @@ pub fn bounds_within(
         → AllByRecursion (SatisfiesValues tables (entries_of_set subset) (equalities_within subset (edges_of equalities.now))) choices
         → ChoicesAreDifferent (entries_of_set subset) choices
         → (length choices ≤ slice_index into.new subset) ⊎ (slice_index into.new subset ≡ no_bound)) }
-    ensures right { OnOk result (AreArgumentsValid rows.now equalities.now lists.now runs.now) }
+    ensures valid { OnOk result (AreArgumentsValid rows.now equalities.now lists.now runs.now) }
     ensures within { OnOk result (work_of lists.now (edges_of equalities.now) (length rows.now) ≤ limit) }
     ensures refused { IfErr result (IsWithinCause rows.now equalities.now lists.now runs.now limit (length into.old)) }
     ensures kept { OnErr result (into.new ≡ into.old) }
@@ -266,7 +266,7 @@ pub fn set_bound(
         → AllByRecursion (SatisfiesValues tables (entries_of_set set) (equalities_within set (edges_of equalities.now))) choices
         → ChoicesAreDifferent (entries_of_set set) choices
         → (length choices ≤ bound) ⊎ (bound ≡ no_bound)) }
-    ensures right { OnOk result (AreArgumentsValid rows.now equalities.now lists.now runs.now) }
+    ensures valid { OnOk result (AreArgumentsValid rows.now equalities.now lists.now runs.now) }
     ensures there { OnOk result (set < 2 ^ length rows.now) }
     ensures refused { IfErr result (IsSetCause rows.now equalities.now lists.now runs.now set) }
 {

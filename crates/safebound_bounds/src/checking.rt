@@ -1,5 +1,5 @@
 //! Finds the first invalid value that a caller handed in. No function here allocates memory.
-ghost use Rattle.std.specs.Prelude.{◌≡◌, ◌<◌, ◌≤◌, ◌↔◌, ℕ, find, length, IsTrue, MatchOption};
+ghost use Rattle.std.specs.Prelude.{◌≡◌, ◌<◌, ◌↔◌, ℕ, find, length, IsTrue, MatchOption};
 ghost use Rattle.std.specs.List.{list_any};
 ghost use Rattle.safebound_lists.specs.First.{IsFirstWrong};
 ghost use Rattle.safebound_bounds.specs.Arguments.{ColumnsHaveLists, AreRunsValidAt, RunsExist, IsEqualityValid, IsListValid, IsListValidAt, IsRowBoundValidAt, IsWrongRun, equality_at, is_list_of_column, list_at, runs_of};

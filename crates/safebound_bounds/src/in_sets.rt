@@ -44,7 +44,7 @@ fn total(runs: &[Run]) -> u64
 // The most rows that may have a value in a column.
 fn rows_with_value(lists: &[ColumnList], runs: &[Run], place: Place) -> u64
     requires there { (i : ℕ) → i < length lists.now → RunsExist (length runs.now) (list_at lists.now i) }
-    requires right { (i : ℕ) → i < length lists.now → AreRunsValidAt lists.now runs.now i }
+    requires valid { (i : ℕ) → i < length lists.now → AreRunsValidAt lists.now runs.now i }
     ensures { result ≡ with_value lists.now runs.now place }
 {
     match list_of_column(lists, place) {
@@ -56,7 +56,7 @@ fn rows_with_value(lists: &[ColumnList], runs: &[Run], place: Place) -> u64
 // Lowers `rows` to the number of rows with a value in the column at `place`, if this is a column of the entry. Otherwise returns `rows`.
 fn at_most_with_value(lists: &[ColumnList], runs: &[Run], entry: u8, place: Place, rows: u64) -> u64
     requires there { (i : ℕ) → i < length lists.now → RunsExist (length runs.now) (list_at lists.now i) }
-    requires right { (i : ℕ) → i < length lists.now → AreRunsValidAt lists.now runs.now i }
+    requires valid { (i : ℕ) → i < length lists.now → AreRunsValidAt lists.now runs.now i }
     ensures { result ≡ fewer_there lists.now runs.now entry place rows }
 {
     if place.entry != entry {
@@ -75,7 +75,7 @@ fn joinable_at(
     rows: u64,
 ) -> u64
     requires there { (i : ℕ) → i < length lists.now → RunsExist (length runs.now) (list_at lists.now i) }
-    requires right { (i : ℕ) → i < length lists.now → AreRunsValidAt lists.now runs.now i }
+    requires valid { (i : ℕ) → i < length lists.now → AreRunsValidAt lists.now runs.now i }
     ensures { result ≡ joinable_by lists.now runs.now entry (equalities_within subset (edge ∷ [])) rows }
 {
     if !joins_within(subset, edge) {
@@ -95,7 +95,7 @@ fn joinable_rows(
     most: u64,
 ) -> u64
     requires there { (i : ℕ) → i < length lists.now → RunsExist (length runs.now) (list_at lists.now i) }
-    requires right { (i : ℕ) → i < length lists.now → AreRunsValidAt lists.now runs.now i }
+    requires valid { (i : ℕ) → i < length lists.now → AreRunsValidAt lists.now runs.now i }
     ensures { result ≡ joinable_by lists.now runs.now entry (equalities_within subset edges.now) most }
 {
     let mut rows = most;
@@ -114,7 +114,7 @@ fn rows_in_set(
 ) -> Result<Seq<u64>, NoMemory>
     requires few { length given.now.rows.now ≤ greatest_entries }
     requires there { (i : ℕ) → i < length given.now.lists.now → RunsExist (length given.now.runs.now) (list_at given.now.lists.now i) }
-    requires right { (i : ℕ) → i < length given.now.lists.now → AreRunsValidAt given.now.lists.now given.now.runs.now i }
+    requires valid { (i : ℕ) → i < length given.now.lists.now → AreRunsValidAt given.now.lists.now given.now.runs.now i }
     ensures { IfOk result (λ joinable. joinable ≡ rows_of_set given.now.rows.now given.now.lists.now given.now.runs.now edges.now subset) }
 {
     let mut joinable = Seq::new(alloc);
@@ -148,7 +148,7 @@ impl EntryListsBySet for Given<'_> {
 fn covers_rows(rows: &[u64], runs: &[Run], list: ColumnList) -> bool
     requires entry { list.entry < length rows.now }
     requires there { RunsExist (length runs.now) list }
-    requires right { AreValid (runs_of runs.now list) }
+    requires valid { AreValid (runs_of runs.now list) }
     ensures { result ≡ true → CoversRows rows.now runs.now list }
 {
     total(own_runs(runs, list)) >= rows[list.entry as usize]

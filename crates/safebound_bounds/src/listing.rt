@@ -20,7 +20,7 @@ use std::alloc::Global;
 // The list of a column, fitted to a number of rows. If its sum is above `rows`, it is cut. If its sum is below `rows`, ones are added.
 fn fitted(alloc: Global, rows: u64, runs: &[Run]) -> Result<Pieces, NoMemory>
     requires rows { rows ≤ greatest_rows }
-    requires right { AreValid runs.now }
+    requires valid { AreValid runs.now }
     ensures list { IfOk result (λ list. list ≡ fitted_to rows (list_of runs.now)) }
     ensures total { IfOk result (λ list. sum list ≡ rows) }
 {

@@ -32,7 +32,7 @@ pub extern "C" fn safebound_bounds(
 ) -> u32
     ensures exact { TellsAnswer (RoomBeginsWith (all_bounds (known_in rows.now lists.now runs.now (edges_of equalities.now)) (edges_of equalities.now) (length rows.now)) into.old into.new)
         (IsBoundsCause rows.now equalities.now lists.now runs.now (length into.old)) into.old into.new detail.old result detail.new }
-    ensures right { result ≡ ok_status → AreArgumentsValid rows.now equalities.now lists.now runs.now }
+    ensures valid { result ≡ ok_status → AreArgumentsValid rows.now equalities.now lists.now runs.now }
     ensures never_under { result ≡ ok_status → (subset : ℕ) → subset < 2 ^ length rows.now
         → (tables : ValuedTables) → ValuesFit rows.now (given_list lists.now runs.now) tables (edges_of equalities.now) subset
         → (choices : List (ℕ → ℕ))
@@ -57,7 +57,7 @@ pub extern "C" fn safebound_bounds_within(
 ) -> u32
     ensures exact { TellsAnswer (RoomBeginsWith (all_bounds (known_in rows.now lists.now runs.now (edges_of equalities.now)) (edges_of equalities.now) (length rows.now)) into.old into.new)
         (IsWithinCause rows.now equalities.now lists.now runs.now limit (length into.old)) into.old into.new detail.old result detail.new }
-    ensures right { result ≡ ok_status → AreArgumentsValid rows.now equalities.now lists.now runs.now }
+    ensures valid { result ≡ ok_status → AreArgumentsValid rows.now equalities.now lists.now runs.now }
     ensures within { result ≡ ok_status → work_of lists.now (edges_of equalities.now) (length rows.now) ≤ limit }
     ensures never_under { result ≡ ok_status → (subset : ℕ) → subset < 2 ^ length rows.now
         → (tables : ValuedTables) → ValuesFit rows.now (given_list lists.now runs.now) tables (edges_of equalities.now) subset
@@ -85,7 +85,7 @@ pub extern "C" fn safebound_set_bound(
 ) -> u32
     ensures exact { TellsAnswer (λ bound. bound ≡ bound_in (known_in rows.now lists.now runs.now (edges_of equalities.now)) (edges_of equalities.now) set)
         (IsSetCause rows.now equalities.now lists.now runs.now set) rows.now rows.now detail.old result detail.new }
-    ensures right { result ≡ ok_status → AreArgumentsValid rows.now equalities.now lists.now runs.now }
+    ensures valid { result ≡ ok_status → AreArgumentsValid rows.now equalities.now lists.now runs.now }
     ensures there { result ≡ ok_status → set < 2 ^ length rows.now }
     ensures never_under { result ≡ ok_status
         → (tables : ValuedTables) → ValuesFit rows.now (given_list lists.now runs.now) tables (edges_of equalities.now) set

@@ -1,4 +1,4 @@
-//! Calls on lists.
+//! The calls for lists.
 ghost use Rattle.std.specs.Prelude.{◌≡◌, ◌≤◌, length};
 ghost use Rattle.limits.specs.Profile.{greatest_rows};
 ghost use Rattle.degree_sequences.specs.ByRank.{rank_maximum, rank_sum};
@@ -40,12 +40,12 @@ pub extern "C" fn safebound_compress(
 ) -> u32
     ensures exact { TellsAnswer (IsWritten (compressed accuracy (list_of runs.now)) into.old into.new)
         (IsCompressCause runs.now accuracy (length into.old)) into.old into.new detail.old result detail.new }
-    ensures right { result ≡ ok_status → MayBeCompressed runs.now accuracy }
+    ensures valid { result ≡ ok_status → MayBeCompressed runs.now accuracy }
 {
     answer_status(compress(alloc, runs, accuracy, into), detail)
 }
 
-/// Writes the rank-wise sum of two lists.
+/// Writes the rank-wise sum of two lists. If one list dominates old rows and the other appended rows, the sum dominates all these rows together.
 #[unsafe(no_mangle)]
 pub extern "C" fn safebound_append(
     alloc: Global,
@@ -56,13 +56,13 @@ pub extern "C" fn safebound_append(
 ) -> u32
     ensures exact { TellsAnswer (IsWritten (rank_sum (list_of runs.now) (list_of others.now)) into.old into.new)
         (IsAppendCause runs.now others.now (length into.old)) into.old into.new detail.old result detail.new }
-    ensures right { result ≡ ok_status → MayBeAdded runs.now others.now }
+    ensures valid { result ≡ ok_status → MayBeAdded runs.now others.now }
 {
     answer_status(append(alloc, runs, others, into), detail)
 }
 
-/// Writes the list in which each running sum is the lesser of the two lists' running sums. If each of the two lists dominates the rows of a
-/// condition, this list dominates the rows that satisfy both conditions.
+/// Writes the list in which each running sum is the lesser of the two lists' running sums. Let one list dominate the rows of one condition, and the
+/// other those of another. Then the result dominates the rows that satisfy both conditions.
 #[unsafe(no_mangle)]
 pub extern "C" fn safebound_lesser(
     alloc: Global,
@@ -73,13 +73,13 @@ pub extern "C" fn safebound_lesser(
 ) -> u32
     ensures exact { TellsAnswer (IsWritten (lesser (list_of runs.now) (list_of others.now)) into.old into.new)
         (IsLesserCause runs.now others.now (length into.old)) into.old into.new detail.old result detail.new }
-    ensures right { result ≡ ok_status → AreBothValid runs.now others.now }
+    ensures valid { result ≡ ok_status → AreBothValid runs.now others.now }
 {
     answer_status(lesser_of(alloc, runs, others, into), detail)
 }
 
 /// Writes the greater of two lists, rank by rank. The result dominates what the first list dominates, and also what the second list dominates.
-/// For example, it dominates the rows with one value, and also the rows with another value.
+/// For example, from the lists of two values it makes one that serves for either value.
 #[unsafe(no_mangle)]
 pub extern "C" fn safebound_greater(
     alloc: Global,
@@ -90,12 +90,13 @@ pub extern "C" fn safebound_greater(
 ) -> u32
     ensures exact { TellsAnswer (IsWritten (rank_maximum (list_of runs.now) (list_of others.now)) into.old into.new)
         (IsGreaterCause runs.now others.now (length into.old)) into.old into.new detail.old result detail.new }
-    ensures right { result ≡ ok_status → MayTakeGreater runs.now others.now }
+    ensures valid { result ≡ ok_status → MayTakeGreater runs.now others.now }
 {
     answer_status(greater_of(alloc, runs, others, into), detail)
 }
 
-/// Writes a list that is cut at `rows`. If the list dominates some rows, the cut list dominates any `rows` or fewer of them.
+/// Writes the list, cut so that it sums to at most `rows`. If the list dominates some rows, and there are at most `rows` of them, the cut list
+/// dominates them too.
 #[unsafe(no_mangle)]
 pub extern "C" fn safebound_cut(
     alloc: Global,
@@ -106,7 +107,7 @@ pub extern "C" fn safebound_cut(
 ) -> u32
     ensures exact { TellsAnswer (IsWritten (capped_at (list_of runs.now) rows) into.old into.new)
         (IsCutCause runs.now rows (length into.old)) into.old into.new detail.old result detail.new }
-    ensures right { result ≡ ok_status → AreValid runs.now }
+    ensures valid { result ≡ ok_status → AreValid runs.now }
 {
     answer_status(cut(alloc, runs, rows, into), detail)
 }

@@ -1,4 +1,4 @@
-//! Calls for plans.
+//! The calls for plans.
 ghost use Rattle.std.specs.Prelude.{length};
 ghost use Rattle.safebound_plans.specs.Causes.{IsOrderCause, IsTreeCause};
 ghost use Rattle.safebound_plans.specs.Memory.{IsOrderMemory, IsOrderMemoryCause, IsTreeMemory, IsTreeMemoryCause};

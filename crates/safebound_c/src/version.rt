@@ -8,7 +8,7 @@ use crate::status::answer_status;
 use safebound_lists::Refusal;
 
 // The text of the version, and then a byte 0.
-const VERSION: &[u8; 6] = b"0.3.0\0";
+const VERSION: &[u8; 6] = b"0.4.0\0";
 
 fn version(into: &mut [u8]) -> Result<u64, Refusal>
     ensures done { IfOk result (RoomBeginsWith version_text into.old into.new) }

@@ -49,7 +49,7 @@ pub record TextIsWithin (w : WrittenRoom) (faults : ℕ) : Type 0 where
 -- exactly these files and whose reads never fail. `misses` is how often the run asked the store for a file that it doesn't have.
 pub record ProgramRan (words : List (List ℕ)) (files : Files) (out notes : WrittenRoom) (misses code : ℕ) : Type 0 where
   pub status : Status
-  pub told : code ≡ code_of status
+  pub code_is : code ≡ code_of status
   pub files_after : Files
   pub out_faults : ℕ
   pub notes_faults : ℕ
@@ -65,11 +65,12 @@ pub record ProgramRan (words : List (List ℕ)) (files : Files) (out notes : Wri
 
 -- The program was not run, since a word isn't UTF-8. The code is 15, and nothing was written.
 pub record HasBadWord (words : List (List ℕ)) (out notes : WrittenRoom) (code : ℕ) : Type 0 where
-  pub told : code ≡ 15
+  pub code_is : code ≡ 15
   pub word : Any (λ word. ¬ (IsUtf8 word)) words
   pub no_out : out.count ≡ 0
   pub no_notes : notes.count ≡ 0
 
--- the program was run, or a word isn't UTF-8. Copying the words allocates no memory. If the run ran out of memory, its exit status says so
+-- The program was run, or a word isn't UTF-8. There is no third end: the words are copied without allocating memory. If the run ran out of memory,
+-- its exit status says so.
 abbrev pub CallEnds : List (List ℕ) → Files → WrittenRoom → WrittenRoom → ℕ → Type 0
 CallEnds words files out notes code = ((misses : ℕ) × ProgramRan words files out notes misses code) ⊎ HasBadWord words out notes code

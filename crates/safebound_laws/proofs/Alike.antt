@@ -33,15 +33,15 @@ use Rattle.table_files.specs.Stage.{tables_stage}
 use Rattle.table_files.specs.TableFile.{read}
 use Rattle.safebound_words.specs.Commands.{over_query}
 use Rattle.safebound_words.specs.declared.command.QueryTask.{QueryTask}
-use Rattle.safebound_words.specs.declared.command.SchemaTask.TheVariants as aims
-use Rattle.safebound_words.specs.declared.command.QueryTask.TheVariants as works
+use Rattle.safebound_words.specs.declared.command.SchemaTask.TheVariants as schema_tasks
+use Rattle.safebound_words.specs.declared.command.QueryTask.TheVariants as query_tasks
 use Rattle.prepared_runs.specs.StatsFiles.{made_from_file, plan_from_file_asked, stats_file_plan_stage, stats_of_text, stats_stage, stats_file_of_tables, unless_missing}
 use Rattle.prepared_runs.specs.Limits.{within_limit}
 use Rattle.prepared_runs.specs.RunOutcome.{RunOutcome, Planned}
 use Rattle.safebound_top.specs.OutcomeTexts.{out_text}
 use Rattle.prepared_runs.specs.Shapes.{answer_of, planned_by, planned_within}
 use Rattle.prepared_runs.specs.Sources.{sets_by, scans_by}
-use Rattle.prepared_runs.specs.Verdict.{aim_run, command_run, plan_asked, plan_stage, query_stage, run_asked, schema_stage, work_run}
+use Rattle.prepared_runs.specs.Verdict.{schema_task_run, command_run, plan_asked, plan_stage, query_stage, accepted_query, schema_stage, query_task_run}
 use Rattle.plans.specs.declared.bushy.BushyPlan.{BushyPlan}
 use Rattle.tree_rows.specs.Memory.{tree_bytes}
 use Rattle.safebound_words.specs.declared.command.PlanTerms.{PlanTerms}
@@ -68,12 +68,12 @@ module _ (query : Query) (file : StatsFile) (rows : List (List Row)) (terms : Pl
   by_file answer = planned_within terms.memory (made_from_file terms query file) answer
 
   by_tables : Result BushyPlan PlanError → Result RunOutcome Refusal
-  by_tables answer = planned_within terms.memory (λ plan. Planned (run_asked (plan_of_columns terms accuracy) query rows plan)) answer
+  by_tables answer = planned_within terms.memory (λ plan. Planned (accepted_query (plan_of_columns terms accuracy) query rows plan)) answer
 
   print_alike : (answer : Result BushyPlan PlanError) → mapped both_texts (by_file answer) ≡ mapped both_texts (by_tables answer)
   unfolding by_file by_tables
   print_alike (Ok plan) =
-      limits_alike terms.memory (tree_bytes plan) (made_from_file terms query file plan) (Planned (run_asked (plan_of_columns terms accuracy) query rows plan)) refl
+      limits_alike terms.memory (tree_bytes plan) (made_from_file terms query file plan) (Planned (accepted_query (plan_of_columns terms accuracy) query rows plan)) refl
   print_alike (Err e) = refl
 
 module _ (schema : Schema) (query : Query) (db : Database) (over : FitsQueryAndTexts schema query db) (accuracy : ℕ) (accuracy_is_positive : 0 < accuracy)
@@ -99,7 +99,7 @@ module _ (schema : Schema) (query : Query) (db : Database) (over : FitsQueryAndT
       ≡ by_tables query file_of (entry_rows db) terms accuracy (plan_asked (plan_of_columns terms accuracy) schema query (tables_of db))
   unfolding plan_stage by_tables
   from_tables tables =
-      ap (planned_within terms.memory (λ plan. Planned (run_asked (plan_of_columns terms accuracy) query (entry_rows db) plan)))
+      ap (planned_within terms.memory (λ plan. Planned (accepted_query (plan_of_columns terms accuracy) query (entry_rows db) plan)))
       (ap (plan_asked (plan_of_columns terms accuracy) schema query) tables)
 
   read_back : (name : List ℕ) (files : Files) → HasByteColumns schema → read file.Stats most_file name files ≡ Ok (file_text schema file_of)
@@ -111,7 +111,7 @@ module _ (schema : Schema) (query : Query) (db : Database) (over : FitsQueryAndT
 
   pub works_alike : (name : List ℕ) (files : Files) → HasByteColumns schema → tables_in (entry_rows db) ≡ tables_of db
       → tables_stage schema query.from files ≡ Ok (entry_rows db) → read file.Stats most_file name files ≡ Ok (file_text schema file_of)
-      → mapped both_texts (work_run (works.PlanFromStats name terms) schema query files) ≡ mapped both_texts (work_run (works.Plan (plan_of_columns terms accuracy)) schema query files)
+      → mapped both_texts (query_task_run (query_tasks.PlanFromStats name terms) schema query files) ≡ mapped both_texts (query_task_run (query_tasks.Plan (plan_of_columns terms accuracy)) schema query files)
   works_alike name files columns tables rows there =
       ap (λ stats. mapped both_texts (stats >>= λ stats. stats_file_plan_stage terms query stats)) (read_back name files columns there)
       ∙ ap (mapped both_texts) from_file
@@ -123,11 +123,11 @@ module _ (schema : Schema) (query : Query) (db : Database) (over : FitsQueryAndT
 
 module _ (schema_file query_file : List ℕ) (files : Files) (schema : Schema) (query : Query) (schema_is : schema_stage schema_file files ≡ Ok schema)
     (query_is : query_stage query_file schema files ≡ Ok query) where
-  asked_work : (work : QueryTask) → command_run (over_query None schema_file query_file work) files ≡ work_run work schema query files
+  asked_work : (work : QueryTask) → command_run (over_query None schema_file query_file work) files ≡ query_task_run work schema query files
   unfolding command_run
   asked_work work =
-      ap (λ (s : Result Schema Refusal). s >>= λ s. aim_run (aims.Query query_file work) s files) schema_is
-      ∙ ap (λ (q : Result Query Refusal). q >>= λ q. work_run work schema q files) query_is
+      ap (λ (s : Result Schema Refusal). s >>= λ s. schema_task_run (schema_tasks.Query query_file work) s files) schema_is
+      ∙ ap (λ (q : Result Query Refusal). q >>= λ q. query_task_run work schema q files) query_is
 
 -- ---- the file that `stats` writes
 
@@ -140,12 +140,12 @@ pub record FileMade (schema_file query_file : List ℕ) (accuracy : ℕ) (files 
   pub rows_are : tables_stage schema query.from files ≡ Ok rows
   pub is : stats_file_of_tables schema query rows accuracy ≡ written
 
-pub file_made : (schema_file query_file : List ℕ) (accuracy : ℕ) (files : Files) (written : RunOutcome) → command_run (over_query None schema_file query_file (works.WriteStats accuracy)) files ≡ Ok written
+pub file_made : (schema_file query_file : List ℕ) (accuracy : ℕ) (files : Files) (written : RunOutcome) → command_run (over_query None schema_file query_file (query_tasks.WriteStats accuracy)) files ≡ Ok written
     → FileMade schema_file query_file accuracy files written
 unfolding command_run
 file_made schema_file query_file accuracy files written ran =
-    let read = two_steps (schema_stage schema_file files) (λ s. aim_run (aims.Query query_file (works.WriteStats accuracy)) s files) written ran in
-    let asked = two_steps (query_stage query_file read.0 files) (λ q. work_run (works.WriteStats accuracy) read.0 q files) written read.2 in
+    let read = two_steps (schema_stage schema_file files) (λ s. schema_task_run (schema_tasks.Query query_file (query_tasks.WriteStats accuracy)) s files) written ran in
+    let asked = two_steps (query_stage query_file read.0 files) (λ q. query_task_run (query_tasks.WriteStats accuracy) read.0 q files) written read.2 in
     let filed = two_steps (tables_stage read.0 asked.0.from files) (λ rows. Ok (stats_file_of_tables read.0 asked.0 rows accuracy)) written asked.2 in
     record {
       schema = read.0;
@@ -161,10 +161,10 @@ file_made schema_file query_file accuracy files written ran =
 
 pub files_alike : (schema_file query_file stats_file : List ℕ) (accuracy : ℕ) (terms : PlanTerms) (files : Files) (written : RunOutcome) (text : List ℕ)
     → 0 < accuracy → accuracy ≤ most_accuracy
-    → command_run (over_query None schema_file query_file (works.WriteStats accuracy)) files ≡ Ok written → out_text written ≡ Some text
+    → command_run (over_query None schema_file query_file (query_tasks.WriteStats accuracy)) files ≡ Ok written → out_text written ≡ Some text
     → read file.Stats most_file stats_file files ≡ Ok text
-    → mapped both_texts (command_run (over_query None schema_file query_file (works.PlanFromStats stats_file terms)) files)
-    ≡ mapped both_texts (command_run (over_query None schema_file query_file (works.Plan (plan_of_columns terms accuracy))) files)
+    → mapped both_texts (command_run (over_query None schema_file query_file (query_tasks.PlanFromStats stats_file terms)) files)
+    ≡ mapped both_texts (command_run (over_query None schema_file query_file (query_tasks.Plan (plan_of_columns terms accuracy))) files)
 files_alike schema_file query_file stats_file accuracy terms files outcome text least most ran wrote there =
     let made = file_made schema_file query_file accuracy files outcome ran in
     let schema = made.schema in
@@ -178,7 +178,7 @@ files_alike schema_file query_file stats_file accuracy terms files outcome text 
     let those : file_text schema (file_of_query schema query (tables_in made.rows) accuracy) ≡ text = cc in
     let is : text ≡ file_text schema (file_of_query schema query (tables_of found.database) accuracy)
     = sym those ∙ ap (λ tables. file_text schema (file_of_query schema query tables accuracy)) tables in
-    ap (mapped both_texts) (asked_work schema_file query_file files schema query made.schema_is made.query_is (works.PlanFromStats stats_file terms))
+    ap (mapped both_texts) (asked_work schema_file query_file files schema query made.schema_is made.query_is (query_tasks.PlanFromStats stats_file terms))
     ∙ works_alike schema query found.database found.over accuracy least most terms stats_file files columns found.tables_are
     (made.rows_are ∙ ap (λ rows. Ok rows) found.rows_are) (there ∙ ap (λ text. Ok text) is)
-    ∙ sym (ap (mapped both_texts) (asked_work schema_file query_file files schema query made.schema_is made.query_is (works.Plan (plan_of_columns terms accuracy))))
+    ∙ sym (ap (mapped both_texts) (asked_work schema_file query_file files schema query made.schema_is made.query_is (query_tasks.Plan (plan_of_columns terms accuracy))))

@@ -22,10 +22,10 @@ use Rattle.prepared_runs.specs.Appending.{append_run, grown_stage, rows_run, sec
 use Rattle.safebound_words.specs.Commands.{append_command}
 use Rattle.safebound_words.specs.declared.command.Command.{Command}
 use Rattle.safebound_words.specs.declared.command.NewRows.{NewRows}
-use Rattle.safebound_words.specs.declared.command.SchemaTask.TheVariants as aims
+use Rattle.safebound_words.specs.declared.command.SchemaTask.TheVariants as schema_tasks
 use Rattle.prepared_runs.specs.StatsFiles.{stats_stage}
 use Rattle.prepared_runs.specs.RunOutcome.{Appended, BoundsHoldForItsTables, NoBoundIsTooLow, RunOutcome, PlannedFromStats}
-use Rattle.prepared_runs.specs.Verdict.{aim_run, command_run, command_stage, or_usage, schema_stage, verdict}
+use Rattle.prepared_runs.specs.Verdict.{schema_task_run, command_run, command_stage, or_usage, schema_stage, verdict}
 use Rattle.prepared_runs.proofs.StatsFileRuns.{stats_keep}
 use Rattle.prepared_runs.proofs.Runs.{bounds_hold, schema_ok}
 use Rattle.safebound_laws.specs.Appends.{GrowsByFile, NoBoundIsTooLowAfter, StandsAfter}
@@ -51,7 +51,7 @@ module _ (files : Files) (schema_file : List ℕ) (append : NewRows) (outcome : 
   pub append_run_grows : command_run (append_command schema_file append) files ≡ Ok outcome → GrowsByFile files schema_file append.stats_file append.table append.rows_file outcome
   unfolding command_run append_run stats_run rows_run
   append_run_grows is =
-      let first = two_steps (schema_stage schema_file files) (λ schema. aim_run (aims.Append append) schema files) outcome is in
+      let first = two_steps (schema_stage schema_file files) (λ schema. schema_task_run (schema_tasks.Append append) schema files) outcome is in
       let second = two_steps (stats_stage append.stats_file first.0 files) (λ stats. stats_run append first.0 stats files) outcome first.2 in
       let third = two_steps (section_stage append.table first.0 second.0) (λ section. rows_run append.rows_file first.0 second.0 section.table section.rows files) outcome second.2 in
       let read = two_steps (rows_in third.0.table (table_at first.0 third.0.table) append.rows_file files) (grown_stage first.0 second.0 third.0.table third.0.rows) outcome third.2 in

@@ -32,13 +32,13 @@ use Rattle.safebound_words.specs.Answer.{command_of}
 use Rattle.safebound_words.specs.Commands.{demo_of, over_query}
 use Rattle.safebound_words.proofs.Ranges.{demo_of_shop}
 use Rattle.safebound_words.specs.declared.command.Command.{Command}
-use Rattle.safebound_words.specs.declared.command.QueryTask.TheVariants as works
+use Rattle.safebound_words.specs.declared.command.QueryTask.TheVariants as query_tasks
 use Rattle.safebound_top.specs.Call.{Call}
 use Rattle.safebound_top.specs.Headline.{Headline}
 use Rattle.prepared_runs.specs.Limits.{within_limit}
 use Rattle.prepared_runs.specs.RunOutcome.{Planned}
 use Rattle.prepared_runs.specs.Shops.{shop_asked, demo_number_of, shop_store}
-use Rattle.prepared_runs.specs.Verdict.{aim_run, command_run, command_stage, plan_asked, plan_stage, query_of_text, query_stage, or_usage, run_asked, schema_of_text, schema_stage, verdict, work_run}
+use Rattle.prepared_runs.specs.Verdict.{schema_task_run, command_run, command_stage, plan_asked, plan_stage, query_of_text, query_stage, or_usage, accepted_query, schema_of_text, schema_stage, verdict, query_task_run}
 use Rattle.safebound_words.specs.declared.command.PlanWork.{PlanWork}
 use Rattle.prepared_runs.proofs.LimitFacts.{within_misses}
 use Rattle.table_files.proofs.StagedFiles.{ok_without_refusal}
@@ -84,31 +84,31 @@ module _ (number : ℕ) where
 
   module _ (task : PlanWork) where
     abbrev ask : Command
-    ask = over_query (Some number) (codes "schema.sql") (codes "query.sql") (works.Plan task)
+    ask = over_query (Some number) (codes "schema.sql") (codes "query.sql") (query_tasks.Plan task)
 
     plan_stage_misses_nothing : (schema : Schema) (query : Query) (rows : List (List Row)) → MissesNothing (plan_stage task schema query rows)
     unfolding plan_stage
     plan_stage_misses_nothing schema query rows =
-        then_misses (with_refusal plan_refusal (plan_asked task schema query (tables_in rows))) (λ plan. within_limit task.terms.memory (tree_bytes plan) (Planned (run_asked task query rows plan)))
+        then_misses (with_refusal plan_refusal (plan_asked task schema query (tables_in rows))) (λ plan. within_limit task.terms.memory (tree_bytes plan) (Planned (accepted_query task query rows plan)))
         (plan_results_miss_nothing (plan_asked task schema query (tables_in rows)))
-        (λ plan _. within_misses task.terms.memory (tree_bytes plan) (Planned (run_asked task query rows plan)))
+        (λ plan _. within_misses task.terms.memory (tree_bytes plan) (Planned (accepted_query task query rows plan)))
 
     query_stages_miss_nothing : (schema : Schema) (query : Query) → schema_answer schema_text ≡ Ok schema → IsQueryOf schema query
-        → MissesNothing (work_run (works.Plan task) schema query (demo_files number))
+        → MissesNothing (query_task_run (query_tasks.Plan task) schema query (demo_files number))
     query_stages_miss_nothing schema query read_as of =
         then_misses (tables_stage schema query.from files) (plan_stage task schema query) (tables_miss number schema query read_as of)
         (λ rows _. plan_stage_misses_nothing schema query rows)
 
-    schema_stages_miss_nothing : (schema : Schema) → schema_answer schema_text ≡ Ok schema → MissesNothing (aim_run ask.aim schema (demo_files number))
+    schema_stages_miss_nothing : (schema : Schema) → schema_answer schema_text ≡ Ok schema → MissesNothing (schema_task_run ask.schema_task schema (demo_files number))
     schema_stages_miss_nothing schema read_as =
-        then_misses (query_stage (codes "query.sql") schema files) (λ query. work_run (works.Plan task) schema query files)
+        then_misses (query_stage (codes "query.sql") schema files) (λ query. query_task_run (query_tasks.Plan task) schema query files)
         (subst MissesNothing (sym (query_is schema)) (query_results_miss_nothing (query_answer schema query_text)))
         (λ query there. query_stages_miss_nothing schema query read_as (query_of_schema (codes "query.sql") files schema query there))
 
-    command_misses_nothing : MissesNothing (command_run (over_query (Some number) (codes "schema.sql") (codes "query.sql") (works.Plan task)) (demo_files number))
+    command_misses_nothing : MissesNothing (command_run (over_query (Some number) (codes "schema.sql") (codes "query.sql") (query_tasks.Plan task)) (demo_files number))
     unfolding command_run
     command_misses_nothing =
-        then_misses (schema_stage (codes "schema.sql") files) (λ schema. aim_run ask.aim schema files)
+        then_misses (schema_stage (codes "schema.sql") files) (λ schema. schema_task_run ask.schema_task schema files)
         (subst MissesNothing (sym schema_is) (schema_results_miss_nothing (schema_answer schema_text)))
         (λ schema there. schema_stages_miss_nothing schema (ok_without_refusal schema_refusal (schema_answer schema_text) schema (sym schema_is ∙ there)))
 

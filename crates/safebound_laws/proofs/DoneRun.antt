@@ -80,7 +80,7 @@ module _ (call : Call) (command : Command) (files : Files) (done : IsDone call c
         holds = if_ok NoBoundIsTooLow (verdict call.words files) accepted.0 accepted.1 (done.headline.every_bound_holds files done.told);
       }
 
-  pub ranges : HasRanges command.aim
+  pub ranges : HasRanges command.schema_task
   ranges = has_ranges call.words command asked
 
 -- ---- bytes that were written and read

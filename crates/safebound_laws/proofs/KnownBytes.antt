@@ -20,7 +20,7 @@ use Rattle.query_types.specs.Validity.{IsQueryOf}
 use Rattle.query_types.specs.declared.types.Query.{Query}
 use Rattle.safebound_words.specs.Commands.{over_query, append_command}
 use Rattle.safebound_words.specs.declared.command.Command.{Command}
-use Rattle.safebound_words.specs.declared.command.QueryTask.TheVariants as works
+use Rattle.safebound_words.specs.declared.command.QueryTask.TheVariants as query_tasks
 use Rattle.schema_types.specs.Validity.{IsValid}
 use Rattle.schema_types.specs.declared.types.Schema.{Schema}
 use Rattle.sql_meaning.specs.Tables.{Tables, tables_of}
@@ -85,7 +85,7 @@ pub record FromStats (made : StatsCall) (bytes : List ℕ) (schema : Schema) : T
 
 module _ (made : StatsCall) (schema : Schema) (bytes : List ℕ) (wrote : WroteStats made schema bytes) where
   abbrev asked : Command
-  asked = over_query None made.schema_file made.query_file (works.WriteStats made.accuracy)
+  asked = over_query None made.schema_file made.query_file (query_tasks.WriteStats made.accuracy)
 
   abbrev outcome : RunOutcome
   outcome = (done_run_of_call made.call asked made.files wrote.done).outcome

@@ -45,10 +45,10 @@ module _ (schema : Schema) (bytes : List ℕ) (made : StatsCall) (planned : Plan
   read = tables_of start.database
 
   abbrev outcome_query : Query
-  outcome_query = (planned_facts.its made schema bytes start bytes (tables_of start.database) start.known planned from).query
+  outcome_query = (planned_facts.made_run made schema bytes start bytes (tables_of start.database) start.known planned from).query
 
   abbrev plan : BushyPlan
-  plan = (planned_facts.its made schema bytes start bytes (tables_of start.database) start.known planned from).plan
+  plan = (planned_facts.made_run made schema bytes start bytes (tables_of start.database) start.known planned from).plan
 
   abbrev file : StatsFile
   file = file_of_query schema start.query (tables_of start.database) made.accuracy
@@ -56,7 +56,7 @@ module _ (schema : Schema) (bytes : List ℕ) (made : StatsCall) (planned : Plan
   abbrev tables : Tables
   tables = tables_for_other start.query (tables_of start.database) outcome_query
 
-  file_is : (planned_facts.its made schema bytes start bytes (tables_of start.database) start.known planned from).stats ≡ file
+  file_is : (planned_facts.made_run made schema bytes start bytes (tables_of start.database) start.known planned from).stats ≡ file
   file_is = planned_facts.stats_same made schema bytes start bytes read start.known planned from ∙ start.file_is
 
   there : (place : ℕ) → place < length outcome_query.from → is_missing outcome_query file place ≡ false
@@ -112,7 +112,7 @@ module _ (schema : Schema) (bytes : List ℕ) (made : StatsCall) (planned : Plan
   of_tables : planned_by planned.terms.shape (bounds_and_lists_by sources.Columns schema outcome_query tables) made.accuracy planned.terms.budget ≡ Ok plan
   of_tables =
       sym plans_same ∙ ap (λ (f : StatsFile). plan_from_file_asked planned.terms outcome_query f) (sym file_is)
-      ∙ (planned_facts.its made schema bytes start bytes (tables_of start.database) start.known planned from).planned
+      ∙ (planned_facts.made_run made schema bytes start bytes (tables_of start.database) start.known planned from).planned
 
   its_over : IsOver made planned schema outcome_query (tables_for_other start.query (tables_of start.database) outcome_query)
   its_over = planned_facts.over made schema bytes start bytes read start.known planned from

@@ -23,11 +23,11 @@ use Rattle.table_files.specs.EntryTables.{tables_in}
 use Rattle.prepared_runs.specs.AcceptedQuery.{AcceptedQuery, tables}
 use Rattle.safebound_words.specs.Commands.{over_query}
 use Rattle.safebound_words.specs.declared.command.Command.{Command}
-use Rattle.safebound_words.specs.declared.command.QueryTask.TheVariants as works
+use Rattle.safebound_words.specs.declared.command.QueryTask.TheVariants as query_tasks
 use Rattle.prepared_runs.specs.RunOutcome.{Planned}
 use Rattle.prepared_runs.specs.Shapes.{planned_by}
 use Rattle.prepared_runs.specs.Sources.{sets_by, scans_by, bounds_and_lists_by}
-use Rattle.prepared_runs.specs.Verdict.{command_run, command_stage, run_asked, verdict}
+use Rattle.prepared_runs.specs.Verdict.{command_run, command_stage, accepted_query, verdict}
 use Rattle.prepared_runs.proofs.ShapeFacts.{its_tree, mapped_ok}
 use Rattle.prepared_runs.proofs.Singles.{read_back, statistics_singles}
 use Rattle.safebound_words.specs.declared.command.ListSource.{ListSource}
@@ -73,7 +73,7 @@ parts_near shapes.Tree schema query ts accuracy budget plan none of made =
 
 module _ (schema_file query_file : List ℕ) (task : PlanWork) (files : Files) (run : AcceptedQuery) (s : Stages schema_file query_file task files (Planned run))
     (source : run.source ≡ sources.Columns) (none : FiltersNoEntry run.query) where
-  same_run : run_asked task s.query s.rows s.plan ≡ run
+  same_run : accepted_query task s.query s.rows s.plan ≡ run
   same_run = cc (s.is_run)
 
   of : IsQueryOf s.schema s.query
@@ -102,7 +102,7 @@ module _ (schema_file query_file : List ℕ) (task : PlanWork) (files : Files) (
   run_nodes is = subst (λ (shape : Shape). PartsAreNear run.query (tables run) task.accuracy shape run.plan) is parts
 
 pub stages_of : (words : List (List ℕ)) (files : Files) (shop : Option ℕ) (schema query : List ℕ) (task : PlanWork) (run : AcceptedQuery)
-    → command_stage words ≡ Ok (over_query shop schema query (works.Plan task)) → verdict words files ≡ Ok (Planned run) → Stages schema query task files (Planned run)
+    → command_stage words ≡ Ok (over_query shop schema query (query_tasks.Plan task)) → verdict words files ≡ Ok (Planned run) → Stages schema query task files (Planned run)
 unfolding verdict
 stages_of words files shop schema query task run asked is =
     stages shop schema query task files (Planned run) (sym (ap (λ (r : Result Command Refusal). r >>= (λ a. command_run a files)) asked) ∙ is)

@@ -1,4 +1,4 @@
--- The bounds of a plan from a statistics file hold for all tables for which the file is known to stand.
+-- The bounds of a plan from a statistics file hold for all tables that the file is known to describe.
 use Rattle.std.proofs.Common.{◌≡◌, ℕ, ◌<◌, ◌==◌, ◌++◌, true, false, List, [], length, get_or, Option, None, Some, Ok, refl, ap, sym, ◌∙◌, subst, arith}
 use Rattle.std.specs.Prelude.{unwrap_or}
 use Rattle.std.proofs.lemmas.Bool.{eq-eqb}
@@ -21,9 +21,9 @@ use Rattle.query_types.specs.Validity.{IsQueryOf}
 use Rattle.query_types.specs.declared.types.Query.{Query}
 use Rattle.query_types.specs.declared.types.Source.{Source}
 use Rattle.safebound_words.specs.Commands.{over_query}
-use Rattle.safebound_words.specs.declared.command.SchemaTask.TheVariants as aims
+use Rattle.safebound_words.specs.declared.command.SchemaTask.TheVariants as schema_tasks
 use Rattle.safebound_words.specs.declared.command.Command.{Command}
-use Rattle.safebound_words.specs.declared.command.QueryTask.TheVariants as works
+use Rattle.safebound_words.specs.declared.command.QueryTask.TheVariants as query_tasks
 use Rattle.schema_types.specs.declared.types.Schema.{Schema}
 use Rattle.sql_meaning.specs.Tables.{Tables, tables_of}
 use Rattle.stats_file.specs.declared.types.StatsFile.{StatsFile}
@@ -39,7 +39,7 @@ use Rattle.plans.specs.declared.bushy.BushyPlan.{BushyPlan}
 use Rattle.tree_rows.specs.Memory.{tree_bytes}
 use Rattle.safebound_words.specs.declared.command.PlanTerms.{PlanTerms}
 use Rattle.prepared_runs.specs.RunOutcome.{PlanFromStatsFile, BoundsHoldForItsTables, NoBoundIsTooLow, RunOutcome}
-use Rattle.prepared_runs.specs.Verdict.{aim_run, command_run, query_stage, schema_stage, work_run}
+use Rattle.prepared_runs.specs.Verdict.{schema_task_run, command_run, query_stage, schema_stage, query_task_run}
 use Rattle.safebound_top.proofs.Promises.{asks, query_of_schema, text_prints}
 use Rattle.safebound_top.specs.Call.{Grew}
 use Rattle.safebound_top.specs.Headline.{GrewWhole}
@@ -73,13 +73,13 @@ pub record PlanMade (schema_file query_file stats_file : List ℕ) (terms : Plan
   pub is : made_from_file terms query stats plan ≡ outcome
 
 plan_made : (schema_file query_file stats_file : List ℕ) (terms : PlanTerms) (files : Files) (outcome : RunOutcome)
-    → command_run (over_query None schema_file query_file (works.PlanFromStats stats_file terms)) files ≡ Ok outcome
+    → command_run (over_query None schema_file query_file (query_tasks.PlanFromStats stats_file terms)) files ≡ Ok outcome
     → PlanMade schema_file query_file stats_file terms files outcome
 unfolding command_run stats_file_plan_stage
 plan_made schema_file query_file stats_file terms files outcome ran =
-    let work = works.PlanFromStats stats_file terms in
-    let first = two_steps (schema_stage schema_file files) (λ s. aim_run (aims.Query query_file work) s files) outcome ran in
-    let second = two_steps (query_stage query_file first.0 files) (λ q. work_run work first.0 q files) outcome first.2 in
+    let work = query_tasks.PlanFromStats stats_file terms in
+    let first = two_steps (schema_stage schema_file files) (λ s. schema_task_run (schema_tasks.Query query_file work) s files) outcome ran in
+    let second = two_steps (query_stage query_file first.0 files) (λ q. query_task_run work first.0 q files) outcome first.2 in
     let third = two_steps (stats_stage stats_file first.0 files) (stats_file_plan_stage terms second.0) outcome second.2 in
     let there = two_steps (unless_missing (first_missing second.0 third.0))
     (λ u. planned_within terms.memory (made_from_file terms second.0 third.0) (plan_from_file_asked terms second.0 third.0)) outcome third.2 in
@@ -108,7 +108,7 @@ tables_for_other query tables other place = tables (unwrap_or (first_entry query
 
 module _ (query : Query) (tables : Tables) (share : ShareRows query tables) (other : Query) where
   pub same_rows : HaveSameRows query tables other (tables_for_other query tables other)
-  same_rows entry place low also same = by (first_entry query (table_of other place)) refl
+  same_rows entry place low other_tables same = by (first_entry query (table_of other place)) refl
     where
       by : (found : Option ℕ) → first_entry query (table_of other place) ≡ found → tables entry ≡ tables (unwrap_or (first_entry query (table_of other place)) 0)
       by None is =
@@ -117,13 +117,13 @@ module _ (query : Query) (tables : Tables) (share : ShareRows query tables) (oth
           let passes : (table_of query entry == table_of other place) ≡ true = eq-eqb (table_of query entry) (table_of other place) same in
           absurd (let no : true ≡ false = sym passes ∙ fails in cc)
       by (Some first) is =
-          let its = first_is query (table_of other place) first is in
-          share entry first low its.0 (same ∙ sym its.1) ∙ ap (λ (o : Option ℕ). tables (unwrap_or o 0)) (sym is)
+          let first_facts = first_is query (table_of other place) first is in
+          share entry first low first_facts.0 (same ∙ sym first_facts.1) ∙ ap (λ (o : Option ℕ). tables (unwrap_or o 0)) (sym is)
 
-added_rows_stay_same : (query : Query) (tables : Tables) (other : Query) (also : Tables) (added : List AddedRows) → HaveSameRows query tables other also
-    → HaveSameRows query (with_added_rows query tables added) other (with_added_rows other also added)
-added_rows_stay_same query tables other also added have entry place low within same =
-    ap (λ (rows : List Row). rows ++ rows_added_to (table_of query entry) added) (have entry place low within same) ∙ ap (λ (t : ℕ). also place ++ rows_added_to t added) same
+added_rows_stay_same : (query : Query) (tables : Tables) (other : Query) (other_tables : Tables) (added : List AddedRows) → HaveSameRows query tables other other_tables
+    → HaveSameRows query (with_added_rows query tables added) other (with_added_rows other other_tables added)
+added_rows_stay_same query tables other other_tables added have entry place low within same =
+    ap (λ (rows : List Row). rows ++ rows_added_to (table_of query entry) added) (have entry place low within same) ∙ ap (λ (t : ℕ). other_tables place ++ rows_added_to t added) same
 
 entry_rows_are_in_file : (files : Files) (schema : Schema) (query : Query) (entry : ℕ) (rows : List Row) → IsQueryOf schema query → entry < length query.from
     → table_rows schema (table_of query entry) files ≡ Ok rows → AreInFile files schema query entry rows
@@ -144,70 +144,70 @@ entry_rows_are_in_file files schema query entry rows of low staged =
 
 -- ---- the plan of a call of `plan --stats`
 
--- the plan is made from a statistics file that is known to stand for tables of the query that `stats` read
+-- `stats` has read a query, and the statistics file is known to describe tables of this query. The plan is made from this file
 module _ (made : StatsCall) (schema : Schema) (first_bytes : List ℕ) (start : FromStats made first_bytes schema) (bytes : List ℕ) (tables : Tables)
     (known : AreBytesOfStandingFile schema start.query bytes tables) (planned : PlanCall) (from : PlannedFrom schema bytes planned) where
   abbrev command : Command
-  command = over_query None planned.schema_file planned.query_file (works.PlanFromStats planned.stats_file planned.terms)
+  command = over_query None planned.schema_file planned.query_file (query_tasks.PlanFromStats planned.stats_file planned.terms)
 
-  pub its : PlanMade planned.schema_file planned.query_file planned.stats_file planned.terms planned.files (done_run_of_call planned.call command planned.files from.done).outcome
-  its =
+  pub made_run : PlanMade planned.schema_file planned.query_file planned.stats_file planned.terms planned.files (done_run_of_call planned.call command planned.files from.done).outcome
+  made_run =
       plan_made planned.schema_file planned.query_file planned.stats_file planned.terms planned.files (done_run_of_call planned.call command planned.files from.done).outcome
       (done_run_of_call planned.call command planned.files from.done).ran
 
-  same : its.schema ≡ schema
-  same = same_schema planned.files planned.schema_file schema from.declares its.schema its.schema_is
+  same : made_run.schema ≡ schema
+  same = same_schema planned.files planned.schema_file schema from.declares made_run.schema made_run.schema_is
 
-  pub stats_same : its.stats ≡ known.file
+  pub stats_same : made_run.stats ≡ known.file
   stats_same =
-      stats_read_are_written planned.stats_file schema planned.files its.stats known.file (is_valid planned.files planned.schema_file schema from.declares)
+      stats_read_are_written planned.stats_file schema planned.files made_run.stats known.file (is_valid planned.files planned.schema_file schema from.declares)
       (byte_columns planned.files planned.schema_file schema from.declares) known.keeps (from.there ∙ ap (λ (s : List ℕ). Some s) known.is)
-      (subst (λ (s : Schema). stats_stage planned.stats_file s planned.files ≡ Ok its.stats) same its.stats_is)
+      (subst (λ (s : Schema). stats_stage planned.stats_file s planned.files ≡ Ok made_run.stats) same made_run.stats_is)
 
-  query_there : query_stage planned.query_file schema planned.files ≡ Ok its.query
-  query_there = subst (λ (s : Schema). query_stage planned.query_file s planned.files ≡ Ok its.query) same its.query_is
+  query_there : query_stage planned.query_file schema planned.files ≡ Ok made_run.query
+  query_there = subst (λ (s : Schema). query_stage planned.query_file s planned.files ≡ Ok made_run.query) same made_run.query_is
 
-  pub of_schema : IsQueryOf schema its.query
-  of_schema = query_of_schema planned.query_file planned.files schema its.query query_there
+  pub of_schema : IsQueryOf schema made_run.query
+  of_schema = query_of_schema planned.query_file planned.files schema made_run.query query_there
 
   -- ---- the rows of the planned query's entries
 
-  pub not_missing : (place : ℕ) → place < length its.query.from → is_missing its.query its.stats place ≡ false
-  not_missing place low = none_passes (is_missing its.query its.stats) 0 (length its.query.from) its.there place (omega arith) (omega (arith, low))
+  pub not_missing : (place : ℕ) → place < length made_run.query.from → is_missing made_run.query made_run.stats place ≡ false
+  not_missing place low = none_passes (is_missing made_run.query made_run.stats) 0 (length made_run.query.from) made_run.there place (omega arith) (omega (arith, low))
 
-  pub found : (place : ℕ) → place < length its.query.from → (first : ℕ) × (first_entry start.query (table_of its.query place) ≡ Some first)
+  pub found : (place : ℕ) → place < length made_run.query.from → (first : ℕ) × (first_entry start.query (table_of made_run.query place) ≡ Some first)
   found place low =
-      let there : IsThere its.query its.stats place = is_there its.query its.stats place (not_missing place low) in
-      known.of (table_of its.query place) there.section (ap (λ (f : StatsFile). section_of f (table_of its.query place)) (sym stats_same) ∙ there.is)
+      let there : IsThere made_run.query made_run.stats place = is_there made_run.query made_run.stats place (not_missing place low) in
+      known.of (table_of made_run.query place) there.section (ap (λ (f : StatsFile). section_of f (table_of made_run.query place)) (sym stats_same) ∙ there.is)
 
-  pub same_old : HaveSameRows start.query (tables_of start.database) its.query (tables_for_other start.query (tables_of start.database) its.query)
-  same_old = same_rows start.query (tables_of start.database) (share_rows schema start.query start.database start.over) its.query
+  pub same_old : HaveSameRows start.query (tables_of start.database) made_run.query (tables_for_other start.query (tables_of start.database) made_run.query)
+  same_old = same_rows start.query (tables_of start.database) (share_rows schema start.query start.database start.over) made_run.query
 
-  rows_there : (place : ℕ) → place < length its.query.from → AreInFile made.files schema its.query place (tables_for_other start.query (tables_of start.database) its.query place)
+  rows_there : (place : ℕ) → place < length made_run.query.from → AreInFile made.files schema made_run.query place (tables_for_other start.query (tables_of start.database) made_run.query place)
   rows_there place low =
       let first = found place low in
-      let at = first_is start.query (table_of its.query place) first.0 first.1 in
-      entry_rows_are_in_file made.files schema its.query place (tables_for_other start.query (tables_of start.database) its.query place) of_schema low
+      let at = first_is start.query (table_of made_run.query place) first.0 first.1 in
+      entry_rows_are_in_file made.files schema made_run.query place (tables_for_other start.query (tables_of start.database) made_run.query place) of_schema low
       (ap (λ (t : ℕ). table_rows schema t made.files) (sym at.1) ∙ start.read first.0 at.0 ∙ ap (λ (rows : List Row). Ok rows) (same_old first.0 place at.0 low at.1))
 
-  pub over : IsOver made planned schema its.query (tables_for_other start.query (tables_of start.database) its.query)
-  over = record { asks = asks planned.query_file planned.files schema its.query query_there; rows = rows_there }
+  pub over : IsOver made planned schema made_run.query (tables_for_other start.query (tables_of start.database) made_run.query)
+  over = record { asks = asks planned.query_file planned.files schema made_run.query query_there; rows = rows_there }
 
   -- ---- the plan's text
 
   abbrev pub its_plan : PlanFromStatsFile
-  its_plan = record { query = its.query; file = its.stats; shape = planned.terms.shape; plan = its.plan; memory = planned.terms.memory }
+  its_plan = record { query = made_run.query; file = made_run.stats; shape = planned.terms.shape; plan = made_run.plan; memory = planned.terms.memory }
 
-  pub holds_for : (grown : Tables) → StandsFor its.query known.file grown
-      → PrintsPlan planned.terms.shape planned.terms.memory its.query grown (scans_of its.query grown) (plan_text_of its.query.from planned.terms.shape its.plan planned.terms.memory)
+  pub holds_for : (grown : Tables) → StandsFor made_run.query known.file grown
+      → PrintsPlan planned.terms.shape planned.terms.memory made_run.query grown (scans_of made_run.query grown) (plan_text_of made_run.query.from planned.terms.shape made_run.plan planned.terms.memory)
   holds_for grown stands =
-      let holds : BoundsHoldForItsTables its_plan = subst NoBoundIsTooLow (sym its.is) (done_run_of_call planned.call command planned.files from.done).holds in
-      let plan : IsPlanOver its.query grown (scans_of its.query grown) planned.terms.shape its.plan = holds grown (subst (λ (f : StatsFile). StandsFor its.query f grown) (sym stats_same) stands) in
-      text_prints planned.terms.shape planned.terms.memory its.query grown (scans_of its.query grown) its.plan
-      (plan_over_fits its.query grown (scans_of its.query grown) planned.terms.shape its.plan plan) its.within
+      let holds : BoundsHoldForItsTables its_plan = subst NoBoundIsTooLow (sym made_run.is) (done_run_of_call planned.call command planned.files from.done).holds in
+      let plan : IsPlanOver made_run.query grown (scans_of made_run.query grown) planned.terms.shape made_run.plan = holds grown (subst (λ (f : StatsFile). StandsFor made_run.query f grown) (sym stats_same) stands) in
+      text_prints planned.terms.shape planned.terms.memory made_run.query grown (scans_of made_run.query grown) made_run.plan
+      (plan_over_fits made_run.query grown (scans_of made_run.query grown) planned.terms.shape made_run.plan plan) made_run.within
 
-  pub written : Grew planned.call.notes (plan_text_of its.query.from planned.terms.shape its.plan planned.terms.memory)
-  written = subst (λ (o : RunOutcome). GrewWhole planned.call.notes (notes_text o)) (sym its.is) (done_run_of_call planned.call command planned.files from.done).notes
+  pub written : Grew planned.call.notes (plan_text_of made_run.query.from planned.terms.shape made_run.plan planned.terms.memory)
+  written = subst (λ (o : RunOutcome). GrewWhole planned.call.notes (notes_text o)) (sym made_run.is) (done_run_of_call planned.call command planned.files from.done).notes
 
 -- ---- a plan from the file that `stats` wrote
 
@@ -218,7 +218,7 @@ module _ (schema : Schema) (bytes : List ℕ) (made : StatsCall) (planned : Plan
   pub plan_holds : PlanHolds made planned schema
   plan_holds =
       let s : FromStats made bytes schema = start in
-      let plan = its made schema bytes s bytes (tables_of s.database) s.known planned from in
+      let plan = made_run made schema bytes s bytes (tables_of s.database) s.known planned from in
       let tables : Tables = tables_for_other s.query (tables_of s.database) plan.query in
       record {
         query = plan.query;
@@ -235,19 +235,19 @@ module _ (schema : Schema) (bytes : List ℕ) (made : StatsCall) (planned : Plan
 
 module _ (schema : Schema) (bytes : List ℕ) (made : StatsCall) (appends : List AppendCall) (planned : PlanCall) (wrote : WroteStats made schema bytes)
     (did : EachReadsTheBytesBefore schema bytes appends) (from : PlannedFrom schema (last_bytes bytes appends) planned) where
-  begun : FromStats made bytes schema
-  begun = from_stats made schema bytes wrote
+  first_stats : FromStats made bytes schema
+  first_stats = from_stats made schema bytes wrote
 
-  more : FromAppends schema begun.query (tables_of begun.database) appends (last_bytes bytes appends)
-  more = from_appends schema begun.query bytes (tables_of begun.database) appends begun.known did
+  more : FromAppends schema first_stats.query (tables_of first_stats.database) appends (last_bytes bytes appends)
+  more = from_appends schema first_stats.query bytes (tables_of first_stats.database) appends first_stats.known did
 
   pub grown_plan_holds : GrownPlanHolds made appends planned schema
   grown_plan_holds =
-      let s : FromStats made bytes schema = begun in
+      let s : FromStats made bytes schema = first_stats in
       let last : List ℕ = last_bytes bytes appends in
       let read : Tables = tables_of s.database in
       let grown : Tables = with_added_rows s.query read more.added in
-      let plan = its made schema bytes s last grown more.known planned from in
+      let plan = made_run made schema bytes s last grown more.known planned from in
       let tables : Tables = tables_for_other s.query read plan.query in
       record {
         query = plan.query;

@@ -9,7 +9,7 @@ use Rattle.safebound_words.specs.Commands.{over_query, append_command}
 use Rattle.safebound_words.specs.declared.command.Command.{Command}
 use Rattle.safebound_words.specs.declared.command.NewRows.{NewRows}
 use Rattle.safebound_words.specs.declared.command.PlanTerms.{PlanTerms}
-use Rattle.safebound_words.specs.declared.command.QueryTask.TheVariants as works
+use Rattle.safebound_words.specs.declared.command.QueryTask.TheVariants as query_tasks
 use Rattle.schema_types.specs.declared.types.Schema.{Schema}
 use Rattle.safebound_top.specs.Call.{Call}
 use Rattle.safebound_top.specs.Headline.{Headline}
@@ -38,7 +38,7 @@ pub record StatsCall : Type 0 where
 
 -- the call of `stats` read this schema and wrote these bytes
 pub record WroteStats (made : StatsCall) (schema : Schema) (bytes : List ℕ) : Type 0 where
-  pub done : IsDone made.call (over_query None made.schema_file made.query_file (works.WriteStats made.accuracy)) made.files
+  pub done : IsDone made.call (over_query None made.schema_file made.query_file (query_tasks.WriteStats made.accuracy)) made.files
   pub declares : DeclaresSchema made.files made.schema_file schema
   pub wrote : TookExactly made.call.out bytes
 
@@ -82,6 +82,6 @@ pub record PlanCall : Type 0 where
 
 -- the call of `plan --stats` read this schema, and its statistics file has these bytes
 pub record PlannedFrom (schema : Schema) (bytes : List ℕ) (planned : PlanCall) : Type 0 where
-  pub done : IsDone planned.call (over_query None planned.schema_file planned.query_file (works.PlanFromStats planned.stats_file planned.terms)) planned.files
+  pub done : IsDone planned.call (over_query None planned.schema_file planned.query_file (query_tasks.PlanFromStats planned.stats_file planned.terms)) planned.files
   pub declares : DeclaresSchema planned.files planned.schema_file schema
   pub there : file_of planned.files planned.stats_file ≡ Some bytes

@@ -8,7 +8,7 @@ ghost use Rattle.plans.specs.Orders.{order_of_tree};
 ghost use Rattle.plan_nearness.specs.Nearness.{FiltersNoEntry, LevelsAreNear, NodesAreNear};
 ghost use Rattle.prepared_runs.specs.AcceptedQuery.{AcceptedQuery, tables};
 ghost use Rattle.safebound_words.specs.Commands.{over_query};
-ghost use Rattle.safebound_words.specs.declared.command.QueryTask.TheVariants as works;
+ghost use Rattle.safebound_words.specs.declared.command.QueryTask.TheVariants as query_tasks;
 ghost use Rattle.safebound_top.specs.Call.{Call};
 ghost use Rattle.safebound_top.specs.Headline.{Headline};
 ghost use Rattle.prepared_runs.specs.RunOutcome.{Planned};
@@ -37,11 +37,11 @@ pub fn demo_meets_no_read_fault()
 /// compression.
 pub fn printed_bounds_are_near()
     ensures levels { (words : List (List ℕ)) (files : Files) (shop : Option ℕ) (schema query : List ℕ) (task : PlanWork) (run : AcceptedQuery)
-        → command_stage words ≡ Ok (over_query shop schema query (works.Plan task)) → verdict words files ≡ Ok (Planned run)
+        → command_stage words ≡ Ok (over_query shop schema query (query_tasks.Plan task)) → verdict words files ≡ Ok (Planned run)
         → run.source ≡ sources.Columns → FiltersNoEntry run.query
         → run.shape ≡ shapes.Order → LevelsAreNear run.query (tables run) task.accuracy (order_of_tree run.plan) }
     ensures nodes { (words : List (List ℕ)) (files : Files) (shop : Option ℕ) (schema query : List ℕ) (task : PlanWork) (run : AcceptedQuery)
-        → command_stage words ≡ Ok (over_query shop schema query (works.Plan task)) → verdict words files ≡ Ok (Planned run)
+        → command_stage words ≡ Ok (over_query shop schema query (query_tasks.Plan task)) → verdict words files ≡ Ok (Planned run)
         → run.source ≡ sources.Columns → FiltersNoEntry run.query
         → run.shape ≡ shapes.Tree → NodesAreNear run.query (tables run) task.accuracy run.plan }
 {}

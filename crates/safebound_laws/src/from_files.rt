@@ -6,7 +6,7 @@ ghost use Rattle.outcomes.specs.Reads.{mapped};
 ghost use Rattle.outcomes.specs.declared.names.FileId.TheVariants as file;
 ghost use Rattle.safebound_words.specs.Commands.{over_query};
 ghost use Rattle.safebound_words.specs.declared.command.PlanTerms.{PlanTerms};
-ghost use Rattle.safebound_words.specs.declared.command.QueryTask.TheVariants as works;
+ghost use Rattle.safebound_words.specs.declared.command.QueryTask.TheVariants as query_tasks;
 ghost use Rattle.schema_types.specs.Texts.{IsSchemaOf};
 ghost use Rattle.schema_types.specs.declared.types.Schema.{Schema};
 ghost use Rattle.stats_answers.specs.StatsTexts.{stats_answer};
@@ -38,8 +38,8 @@ pub fn files_of_declared_schemas_are_read()
 pub fn files_plan_as_their_tables()
     ensures { (schema_file query_file stats_file : List ℕ) (accuracy : ℕ) (terms : PlanTerms) (files : Files) (written : RunOutcome) (text : List ℕ)
         → 0 < accuracy → accuracy ≤ most_accuracy
-        → command_run (over_query None schema_file query_file (works.WriteStats accuracy)) files ≡ Ok written → out_text written ≡ Some text
+        → command_run (over_query None schema_file query_file (query_tasks.WriteStats accuracy)) files ≡ Ok written → out_text written ≡ Some text
         → read file.Stats most_file stats_file files ≡ Ok text
-        → mapped both_texts (command_run (over_query None schema_file query_file (works.PlanFromStats stats_file terms)) files)
-        ≡ mapped both_texts (command_run (over_query None schema_file query_file (works.Plan (plan_of_columns terms accuracy))) files) }
+        → mapped both_texts (command_run (over_query None schema_file query_file (query_tasks.PlanFromStats stats_file terms)) files)
+        ≡ mapped both_texts (command_run (over_query None schema_file query_file (query_tasks.Plan (plan_of_columns terms accuracy))) files) }
 {}

@@ -61,7 +61,7 @@ pub room_for_keys_of_run : (before : List Run) (run : Run) → MayFollow before 
 room_for_keys_of_run before run may =
     omega (
       arith,
-      list_is_no_longer_than_sum (list_of before) (elements_at_least 1 before (all_at_least_lower 1 run.degree (omega (arith, may.degree)) before may.falls)),
+      list_is_no_longer_than_sum (list_of before) (elements_at_least 1 before (all_at_least_lower 1 run.degree (omega (arith, may.degree)) before may.descends)),
       keys_are_at_most_rows run.keys run.degree may.degree,
       sum_with_one_more_run before run,
       may.sum,
@@ -72,14 +72,14 @@ room_for_keys_of_run before run may =
 -- The loop of `first_invalid_run` has found that the runs before index `place` are valid. `least` is their least degree, or 2^64 - 1 if there are
 -- no runs before `place`. `remaining` is 2^48 minus the sum of their list
 pub record IsTested (runs : List Run) (place least remaining : ℕ) : Type 0 where
-  pub right : (i : ℕ) → i < place → IsValidAt runs i
+  pub valid : (i : ℕ) → i < place → IsValidAt runs i
   pub least_below : AllByRecursion (λ e. least ≤ e.degree) (take place runs)
   pub greatest : (x : ℕ) → x < 2 ^ 64 → AllByRecursion (λ e. x ≤ e.degree) (take place runs) → x ≤ least
   pub sums : remaining + sum (list_of (take place runs)) ≡ 2 ^ 48
 
 pub no_run_is_tested_yet : (runs : List Run) → IsTested runs 0 18446744073709551615 281474976710656
 no_run_is_tested_yet runs = record {
-  right = λ i h. absurd (omega arith);
+  valid = λ i h. absurd (omega arith);
   least_below = tt;
   greatest = λ x h all. omega arith;
   sums = omega arith;
@@ -91,7 +91,7 @@ module _ (runs : List Run) (place least remaining : ℕ) (tested : IsTested runs
 
   -- A run is invalid in two cases. Its degree is above `least`, or it has more keys than `remaining` divided by its degree
   pub rising_degree_is_invalid : (run_at runs place).degree < 2 ^ 64 → least < (run_at runs place).degree → IsValidAt runs place → ⊥
-  rising_degree_is_invalid fits above may = absurd (omega (arith, tested.greatest (run_at runs place).degree fits may.falls))
+  rising_degree_is_invalid fits above may = absurd (omega (arith, tested.greatest (run_at runs place).degree fits may.descends))
 
   pub too_many_keys_are_invalid : 0 < (run_at runs place).degree → remaining / (run_at runs place).degree < (run_at runs place).keys → IsValidAt runs place → ⊥
   too_many_keys_are_invalid some above may =
@@ -99,7 +99,7 @@ module _ (runs : List Run) (place least remaining : ℕ) (tested : IsTested runs
       absurd (omega (arith, above, (le-div_iff_mul-le {k = (run_at runs place).degree} {x = (run_at runs place).keys} {y = remaining} some).1 within))
 
   -- a run that passes all four tests is valid
-  module _ (degree : 0 < (run_at runs place).degree) (keys : 0 < (run_at runs place).keys) (falls : (run_at runs place).degree ≤ least)
+  module _ (degree : 0 < (run_at runs place).degree) (keys : 0 < (run_at runs place).keys) (descends : (run_at runs place).degree ≤ least)
       (fits : (run_at runs place).keys ≤ remaining / (run_at runs place).degree) where
     pub keys_fit_remaining : (run_at runs place).keys * (run_at runs place).degree ≤ remaining
     keys_fit_remaining = (le-div_iff_mul-le {k = (run_at runs place).degree} {x = (run_at runs place).keys} {y = remaining} degree).0 fits
@@ -108,18 +108,18 @@ module _ (runs : List Run) (place least remaining : ℕ) (tested : IsTested runs
     may_follow = record {
       degree = degree;
       keys = keys;
-      falls = all_at_least_lower (run_at runs place).degree least falls (take place runs) tested.least_below;
+      descends = all_at_least_lower (run_at runs place).degree least descends (take place runs) tested.least_below;
       sum = omega (arith, sum_with_one_more_run (take place runs) (run_at runs place), tested.sums, keys_fit_remaining);
     }
 
     valid_so_far : (i : ℕ) → i < place + 1 → IsValidAt runs i
-    valid_so_far = below_more (IsValidAt runs) place tested.right may_follow
+    valid_so_far = below_more (IsValidAt runs) place tested.valid may_follow
 
     pub one_more_tested : IsTested runs (place + 1) (run_at runs place).degree (remaining - (run_at runs place).degree * (run_at runs place).keys)
     one_more_tested = record {
-      right = valid_so_far;
+      valid = valid_so_far;
       least_below = subst (AllByRecursion (λ e. (run_at runs place).degree ≤ e.degree)) (sym next_runs_are)
-          (all_with_one_more (λ e. (run_at runs place).degree ≤ e.degree) (take place runs) (run_at runs place) may_follow.falls (omega arith));
+          (all_with_one_more (λ e. (run_at runs place).degree ≤ e.degree) (take place runs) (run_at runs place) may_follow.descends (omega arith));
       greatest = λ x h all. last_satisfies (λ e. x ≤ e.degree) (take place runs) (run_at runs place) (subst (AllByRecursion (λ e. x ≤ e.degree)) next_runs_are all);
       sums = omega (arith, ap (λ (s : List Run). sum (list_of s)) next_runs_are, sum_with_one_more_run (take place runs) (run_at runs place), tested.sums, keys_fit_remaining);
     }
@@ -127,21 +127,21 @@ module _ (runs : List Run) (place least remaining : ℕ) (tested : IsTested runs
 -- ---- the list that valid runs stand for sums to at most 2^48
 
 pub valid_sum : (runs : List Run) → AreValid runs → sum (list_of runs) ≤ 2 ^ 48
-valid_sum [] right = omega arith
-valid_sum (r ∷ rs) right =
+valid_sum [] valid = omega arith
+valid_sum (r ∷ rs) valid =
     let whole : take (length rs + 1) (r ∷ rs) ≡ r ∷ rs = take_all (length rs + 1) (r ∷ rs) (omega arith) in
     let last : take (length rs + 1) (r ∷ rs) ≡ take (length rs) (r ∷ rs) ++ run_at (r ∷ rs) (length rs) ∷ [] = take_more (r ∷ rs) (length rs) no_run (omega arith) in
-    let may : IsValidAt (r ∷ rs) (length rs) = right (length rs) (omega arith) in
+    let may : IsValidAt (r ∷ rs) (length rs) = valid (length rs) (omega arith) in
     subst (λ (s : List Run). sum (list_of s) ≤ 2 ^ 48) (sym last ∙ whole) may.sum
 
 -- ---- the loop of `pieces_of`, which adds the runs to a list one by one
 
-module _ (runs : List Run) (i v : ℕ) (pieces : List ℕ) (so_far : pieces ≡ list_of (take i runs)) (value : v ≡ (run_at runs i).degree) (run_exists : i < length runs) (right : AreValid runs) where
+module _ (runs : List Run) (i v : ℕ) (pieces : List ℕ) (so_far : pieces ≡ list_of (take i runs)) (value : v ≡ (run_at runs i).degree) (run_exists : i < length runs) (valid : AreValid runs) where
   pub next_falls : All (λ x. v ≤ x) pieces
-  next_falls = rw (so_far, value) (may_be_pushed (run_at runs i).degree (take i runs) (right i run_exists).falls)
+  next_falls = rw (so_far, value) (may_be_pushed (run_at runs i).degree (take i runs) (valid i run_exists).descends)
 
   pub next_room : length pieces + (run_at runs i).keys < 2 ^ 64
-  next_room = omega (arith, ap length so_far, room_for_keys_of_run (take i runs) (run_at runs i) (right i run_exists))
+  next_room = omega (arith, ap length so_far, room_for_keys_of_run (take i runs) (run_at runs i) (valid i run_exists))
 
   pub next_list : (longer : List ℕ) → longer ≡ pieces ++ replicate (run_at runs i).keys v → longer ≡ list_of (take (i + 1) runs)
   next_list longer is =

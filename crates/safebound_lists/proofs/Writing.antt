@@ -62,7 +62,7 @@ pub all_written : (list : List ℕ) (ps : List Piece) (old new : List Run) (coun
 all_written list ps old new count is are counted filled = record {
   front = map run_of ps;
   stands_for = ap expanded (pieces_of_runs_of_pieces ps) ∙ sym is;
-  falls = subst AreRuns (sym (pieces_of_runs_of_pieces ps)) are;
+  descends = subst AreRuns (sym (pieces_of_runs_of_pieces ps)) are;
   filled = record { counted = length-map ps run_of ∙ sym counted; filled = filled };
 }
 

@@ -1,4 +1,4 @@
--- Why calls on lists refuse. A call tests for its causes in a fixed order, and each cause also says that the earlier causes don't apply. So
+-- Why the calls for lists refuse. A call tests for its causes in a fixed order, and each cause also says that the earlier causes don't apply. So
 -- for given arguments at most one refusal is possible. NoMemory is the exception: it needs no cause.
 use Rattle.std.specs.Prelude.{◌≡◌, ◌⊎◌, ℕ, ◌+◌, ◌<◌, ◌≤◌, ⊤, List, length}
 use Rattle.std.specs.List.{sum}

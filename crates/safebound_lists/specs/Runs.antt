@@ -27,7 +27,7 @@ run_at runs i = slice_index_or runs i no_run
 pub record MayFollow (before : List Run) (run : Run) : Type 0 where
   pub degree : 0 < run.degree
   pub keys : 0 < run.keys
-  pub falls : AllByRecursion (λ earlier. run.degree ≤ earlier.degree) before
+  pub descends : AllByRecursion (λ earlier. run.degree ≤ earlier.degree) before
   pub sum : sum (list_of (before ++ run ∷ [])) ≤ greatest_rows
 
 -- the run at index i may follow the runs before it
@@ -42,22 +42,22 @@ AreValid runs = (i : ℕ) → i < length runs → IsValidAt runs i
 
 -- compression needs a valid list, and an accuracy from 1 to 64
 pub record MayBeCompressed (runs : List Run) (accuracy : ℕ) : Type 0 where
-  pub some : 0 < accuracy
+  pub positive : 0 < accuracy
   pub most : accuracy ≤ most_accuracy
-  pub right : AreValid runs
+  pub valid : AreValid runs
 
 -- a sum needs two valid lists whose degrees sum to at most 2^48 together
 pub record MayBeAdded (runs others : List Run) : Type 0 where
-  pub right : AreValid runs
+  pub valid : AreValid runs
   pub others_are_valid : AreValid others
   pub small : sum (list_of runs) + sum (list_of others) ≤ greatest_rows
 
--- a lesser list needs two valid lists
+-- `lesser_of` needs two valid lists. It gives the list whose running sums are the lesser of theirs
 pub record AreBothValid (runs others : List Run) : Type 0 where
-  pub right : AreValid runs
+  pub valid : AreValid runs
   pub others_are_valid : AreValid others
 
--- a greater list needs two valid lists. The sum over all ranks of the greater of their degrees is at most 2^48
+-- `greater_of` needs two valid lists. At each rank take the greater of the two degrees: these sum to at most 2^48
 pub record MayTakeGreater (runs others : List Run) : Type 0 where
   pub both : AreBothValid runs others
   pub small : sum (rank_maximum (list_of runs) (list_of others)) ≤ greatest_rows

@@ -16,7 +16,7 @@ pub record RoomBeginsWith {A : Type 0} (front old new : List A) (count : ℕ) : 
 pub record IsWritten (list : List ℕ) (old new : List Run) (count : ℕ) : Type 0 where
   pub front : List Run
   pub stands_for : list_of front ≡ list
-  pub falls : AreRuns (map piece_of front)
+  pub descends : AreRuns (map piece_of front)
   pub filled : RoomBeginsWith front old new count
 
 -- the refusal says that the room is too small, and how many elements are needed

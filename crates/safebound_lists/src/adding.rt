@@ -14,7 +14,7 @@ use std::alloc::Global;
 /// Writes the list of a column that got new rows. It is the rank-wise sum of the column's list and the list of the new rows.
 pub fn append(alloc: Global, runs: &[Run], others: &[Run], into: &mut [Run]) -> Result<u64, Refusal>
     ensures done { IfOk result (IsWritten (rank_sum (list_of runs.now) (list_of others.now)) into.old into.new) }
-    ensures right { OnOk result (MayBeAdded runs.now others.now) }
+    ensures valid { OnOk result (MayBeAdded runs.now others.now) }
     ensures refused { IfErr result (IsAppendCause runs.now others.now (length into.old)) }
     ensures kept { OnErr result (into.new ≡ into.old) }
 {

@@ -21,7 +21,7 @@ pub fn lesser_of(
     into: &mut [Run],
 ) -> Result<u64, Refusal>
     ensures done { IfOk result (IsWritten (lesser (list_of runs.now) (list_of others.now)) into.old into.new) }
-    ensures right { OnOk result (AreBothValid runs.now others.now) }
+    ensures valid { OnOk result (AreBothValid runs.now others.now) }
     ensures refused { IfErr result (IsLesserCause runs.now others.now (length into.old)) }
     ensures kept { OnErr result (into.new ≡ into.old) }
 {
@@ -49,7 +49,7 @@ pub fn greater_of(
     into: &mut [Run],
 ) -> Result<u64, Refusal>
     ensures done { IfOk result (IsWritten (rank_maximum (list_of runs.now) (list_of others.now)) into.old into.new) }
-    ensures right { OnOk result (MayTakeGreater runs.now others.now) }
+    ensures valid { OnOk result (MayTakeGreater runs.now others.now) }
     ensures refused { IfErr result (IsGreaterCause runs.now others.now (length into.old)) }
     ensures kept { OnErr result (into.new ≡ into.old) }
 {

@@ -20,7 +20,7 @@ pub fn compress(
     into: &mut [Run],
 ) -> Result<u64, Refusal>
     ensures done { IfOk result (IsWritten (compressed accuracy (list_of runs.now)) into.old into.new) }
-    ensures right { OnOk result (MayBeCompressed runs.now accuracy) }
+    ensures valid { OnOk result (MayBeCompressed runs.now accuracy) }
     ensures refused { IfErr result (IsCompressCause runs.now accuracy (length into.old)) }
     ensures kept { OnErr result (into.new ≡ into.old) }
 {

@@ -14,7 +14,7 @@ use std::alloc::Global;
 /// `rows` of them, the cut list dominates them too.
 pub fn cut(alloc: Global, runs: &[Run], rows: u64, into: &mut [Run]) -> Result<u64, Refusal>
     ensures done { IfOk result (IsWritten (capped_at (list_of runs.now) rows) into.old into.new) }
-    ensures right { OnOk result (AreValid runs.now) }
+    ensures valid { OnOk result (AreValid runs.now) }
     ensures refused { IfErr result (IsCutCause runs.now rows (length into.old)) }
     ensures kept { OnErr result (into.new ≡ into.old) }
 {

@@ -19,9 +19,9 @@ pub fn lists_dominate()
 {}
 
 /// A list dominates rows if it dominates their keys. Let one list dominate the rows of one condition, and let another list dominate the rows of
-/// another condition. Then the lesser list dominates the rows that satisfy both conditions. The sum of the lists dominates the rows that satisfy at
-/// least one condition. If the two conditions compare one column with two values, the greater list dominates the rows of each of the two values. If
-/// a list dominates some keys, and there are at most `rows` of them, the list cut at `rows` dominates them too.
+/// another condition. Then the list of the lesser running sums dominates the rows that satisfy both conditions. The sum of the lists dominates the
+/// rows that satisfy at least one condition. If the two conditions compare one column with two values, the lists' maximum by rank dominates the rows
+/// of each value. If a list dominates some keys, and there are at most `rows` of them, the list cut at `rows` dominates them too.
 pub fn conditions_dominate()
     ensures both { (rows : List ℕ) (key : ℕ → ℕ) (first second : ℕ → Bool) (list other : List ℕ)
         → DominatesKeys list (map key (filter first rows)) → DominatesKeys other (map key (filter second rows))

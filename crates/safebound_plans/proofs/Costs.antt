@@ -5,7 +5,7 @@ use Rattle.std.specs.Prelude.{if◌then◌else◌}
 use Rattle.entry_sets.specs.Sets.{set_of}
 use Rattle.order_search.specs.Orders.{cost as order_cost, greatest, levels, prefixes}
 use Rattle.bushy_plan.specs.BestTree.{cost as tree_cost, inner_greatest}
-use Rattle.bushy_plan.specs.PlanTrees.{PlanTree, leaf_set, leaf, node}
+use Rattle.bushy_plan.specs.PlanTrees.{PlanTree, leaf_bits, leaf, node}
 use Rattle.safebound_plans.specs.Bits.{all_in_128_bits, no_bound, in_128_bits}
 
 -- the number fits 64 bits, or it is the greatest number of 128 bits, which means 2^128 - 1 or more
@@ -58,9 +58,9 @@ inner_cost_fits_64 bounds fits (leaf entry) low = omega arith
 inner_cost_fits_64 bounds fits (node left right) low =
     let l : inner_greatest (all_in_128_bits bounds) left < 2 ^ 64 = inner_cost_fits_64 bounds fits left (omega arith) in
     let r : inner_greatest (all_in_128_bits bounds) right < 2 ^ 64 = inner_cost_fits_64 bounds fits right (omega arith) in
-    greater_fits_64 (get_or (all_in_128_bits bounds) (leaf_set left + leaf_set right) 0)
+    greater_fits_64 (get_or (all_in_128_bits bounds) (leaf_bits left + leaf_bits right) 0)
     (max (inner_greatest (all_in_128_bits bounds) left) (inner_greatest (all_in_128_bits bounds) right))
-    (bound_fits_64_or_is_top bounds fits (leaf_set left + leaf_set right)) low (omega arith)
+    (bound_fits_64_or_is_top bounds fits (leaf_bits left + leaf_bits right)) low (omega arith)
 
 number_fits_64 : (x : ℕ) → Fits64OrIsTop x → x ≤ 2 ^ 128 - 2 → x < 2 ^ 64
 number_fits_64 x (inl small) low = small

@@ -8,15 +8,15 @@ use Rattle.safebound_plans.specs.Memory.{join_of, IsJoinValidAt, IsLevelValidAt}
 use Rattle.safebound_plans.specs.Orders.{entries_in}
 
 pub entries_of_levels_exist : (entries : ℕ) (levels : List Level) → ((place : ℕ) → place < length levels → IsLevelValidAt entries levels place) → All (λ e. e < entries) (entries_in levels)
-entries_of_levels_exist entries [] right = λ k d low. absurd (omega arith)
-entries_of_levels_exist entries (level ∷ levels) right =
-    All-cons (λ e. e < entries) level.entry (entries_in levels) (right 0 (omega arith)) (entries_of_levels_exist entries levels (λ place low. right (suc place) (omega arith)))
+entries_of_levels_exist entries [] valid = λ k d low. absurd (omega arith)
+entries_of_levels_exist entries (level ∷ levels) valid =
+    All-cons (λ e. e < entries) level.entry (entries_in levels) (valid 0 (omega arith)) (entries_of_levels_exist entries levels (λ place low. valid (suc place) (omega arith)))
 
 pub right_nodes_are_below : (entries end : ℕ) (joins : List JoinNode) → ((place : ℕ) → place < length joins → IsJoinValidAt entries joins place) → entries + length joins ≤ end
     → AllByRecursion (λ join. join.right < end) (map join_of joins)
-right_nodes_are_below entries end [] right fits = tt
-right_nodes_are_below entries end (join ∷ joins) right fits =
-    let first = right 0 (omega arith) in (
+right_nodes_are_below entries end [] valid fits = tt
+right_nodes_are_below entries end (join ∷ joins) valid fits =
+    let first = valid 0 (omega arith) in (
       omega (arith, first.1, fits),
-      right_nodes_are_below (entries + 1) end joins (λ place low. let later = right (suc place) (omega arith) in (omega (arith, later.0), omega (arith, later.1))) (omega (arith, fits)),
+      right_nodes_are_below (entries + 1) end joins (λ place low. let later = valid (suc place) (omega arith) in (omega (arith, later.0), omega (arith, later.1))) (omega (arith, fits)),
     )

@@ -45,14 +45,14 @@ nodes_bytes rows joins = joins_bytes rows (map join_of joins)
 pub record IsOrderMemory (rows : List ℕ) (levels : List Level) (bytes : ℕ) : Type 0 where
   pub entries : HaveOneForEachEntry rows
   pub as_many : length levels ≡ length rows
-  pub right : (place : ℕ) → place < length levels → IsLevelValidAt (length rows) levels place
+  pub valid : (place : ℕ) → place < length levels → IsLevelValidAt (length rows) levels place
   pub are : bytes ≡ order_bytes rows levels
 
 -- There is one join fewer than entries, and each join joins two nodes that are before it. `bytes` are the bytes of the tree
 pub record IsTreeMemory (rows : List ℕ) (joins : List JoinNode) (bytes : ℕ) : Type 0 where
   pub entries : HaveOneForEachEntry rows
   pub as_many : length joins + 1 ≡ length rows
-  pub right : (place : ℕ) → place < length joins → IsJoinValidAt (length rows) joins place
+  pub valid : (place : ℕ) → place < length joins → IsJoinValidAt (length rows) joins place
   pub are : bytes ≡ nodes_bytes rows joins
 
 -- Why a call for an order's bytes refuses. There are no entries or too many, or there isn't a level for each entry. Or the entry of a level doesn't

@@ -1,4 +1,5 @@
-//! How many bytes the buffers of this project's engine take for a plan. The engine joins at most `MOST_ENTRIES` entries; the library plans more.
+//! How many bytes the buffers of this project's engine take for a plan. The engine joins at most `MOST_ENTRIES` entries; the library
+//! also plans queries of more entries.
 ghost use Rattle.std.specs.Prelude.{◌≡◌, ℕ, ◌+◌, ◌^◌, ◌<◌, ◌≤◌, length, map, IfErr, IfOk, MatchOption};
 ghost use Rattle.limits.specs.Profile.{most_entries};
 ghost use Rattle.safebound_lists.specs.declared.refusal.Refusal.TheVariants as refusal;
@@ -43,7 +44,7 @@ fn first_invalid_join(joins: &[JoinNode], entries: u64) -> Option<u64>
 
 // Writes the entries of levels.
 fn write_entries(levels: &[Level], into: &mut [u8])
-    requires right { (place : ℕ) → place < length levels.now → IsLevelValidAt most_entries levels.now place }
+    requires valid { (place : ℕ) → place < length levels.now → IsLevelValidAt most_entries levels.now place }
     requires room { length into.old ≡ length levels.now }
     ensures { into.new ≡ entries_in levels.now }
 {
@@ -64,7 +65,7 @@ fn write_bounds(levels: &[Level], into: &mut [u64])
 
 // Writes nodes as joins.
 fn write_joins(nodes: &[JoinNode], into: &mut [Join])
-    requires right { (place : ℕ) → place < length nodes.now → IsJoinValidAt most_entries nodes.now place }
+    requires valid { (place : ℕ) → place < length nodes.now → IsJoinValidAt most_entries nodes.now place }
     requires few { length nodes.now ≤ most_entries }
     requires room { length into.old ≡ length nodes.now }
     ensures { into.new ≡ map join_of nodes.now }
@@ -90,8 +91,8 @@ fn in_64_bits(bytes: u128) -> Result<u64, Refusal>
     Ok(bytes as u64)
 }
 
-/// How many bytes the engine's buffers take for an order. `rows` has the most rows of each entry's list. An order is a join tree whose right nodes
-/// are entries; it takes the bytes that `tree_memory` gives for this tree.
+/// How many bytes the engine's buffers take for an order. `rows[e]` is the greatest number of rows that the list of entry e may have. An order is a
+/// join tree whose right nodes are entries; it takes the bytes that `tree_memory` gives for this tree.
 pub fn order_memory(rows: &[u64], levels: &[Level]) -> Result<u64, Refusal>
     ensures done { IfOk result (IsOrderMemory rows.now levels.now) }
     ensures refused { IfErr result (IsOrderMemoryCause rows.now levels.now) }
@@ -119,7 +120,8 @@ pub fn order_memory(rows: &[u64], levels: &[Level]) -> Result<u64, Refusal>
     in_64_bits(tree_rows::order_memory(order, rows, bounds))
 }
 
-/// How many bytes the engine's buffers take for the join tree with these joins. `rows` has the most rows of each entry's list.
+/// How many bytes the engine's buffers take for the join tree with these joins. `rows[e]` is the greatest number of rows that the list of entry e may
+/// have.
 pub fn tree_memory(rows: &[u64], joins: &[JoinNode]) -> Result<u64, Refusal>
     ensures done { IfOk result (IsTreeMemory rows.now joins.now) }
     ensures refused { IfErr result (IsTreeMemoryCause rows.now joins.now) }
@@ -148,11 +150,12 @@ pub fn tree_memory(rows: &[u64], joins: &[JoinNode]) -> Result<u64, Refusal>
     in_64_bits(joins_memory(rows, nodes))
 }
 
-/// The bytes of two small plans. This function does nothing.
+/// The bytes of two small plans, as examples of both formulas. The function does nothing; its contract has the examples.
 ///
-/// The order is a tree with the entry of 6 rows on the right. The other tree has the entry of 5 rows on the right. This other tree takes 44
-/// bytes for lists, 96 for pairs, 80 for the chain, 8 for row numbers and 40 for keys. Its lists of buffers take 64 bytes for row numbers, 40 for
-/// inner nodes, 96 for chains and 39 for the entries below each node.
+/// Each plan joins two entries, of 6 and 5 rows, to at most 12 rows. The order begins with the entry of 5 rows, so its tree has the entry of 6 rows
+/// on the right. The other tree has the entry of 5 rows on the right. This other tree takes 44 bytes for the entries' lists, and 96 for pairs, which
+/// are the join's rows. It takes 80 bytes for chains, by which rows are looked up, 8 for row numbers and 40 for keys. The lists of these buffers take
+/// 64 bytes for the entries' lists, 40 for inner nodes and 96 for chains. The entries below each node take 39 bytes.
 pub fn small_plans()
     ensures order { small_order_bytes ≡ 531 }
     ensures tree { small_tree_bytes ≡ 507 }

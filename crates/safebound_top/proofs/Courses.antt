@@ -1,5 +1,5 @@
 -- If `CallHistory` holds for a call, each sentence of the headline holds for it.
-use Rattle.std.proofs.Common.{◌≡◌, ◌⊎◌, ℕ, inl, inr, List, None, Some, Result, Ok, Err, refl, ap, sym, ◌∙◌, subst}
+use Rattle.std.proofs.Common.{◌≡◌, ◌⊎◌, ℕ, inl, inr, List, Some, Result, Ok, Err, refl, ap, sym, ◌∙◌, subst}
 use Rattle.std.specs.Prelude.{IsOkAnd, codes}
 use Rattle.base_io.specs.Causes.{Rose}
 use Rattle.base_io.specs.Files.{Files}
@@ -20,7 +20,7 @@ use Rattle.safebound_top.specs.Faults.{fault_text}
 use Rattle.safebound_top.specs.Headline as say
 use Rattle.prepared_runs.specs.RunOutcome.{RunOutcome}
 use Rattle.safebound_top.specs.OutcomeTexts.{notes_text, out_text}
-use Rattle.prepared_runs.specs.Verdict.{IsReached, command_stage, verdict}
+use Rattle.prepared_runs.specs.Verdict.{IsReadByVerdict, command_stage, verdict}
 use Rattle.prepared_runs.proofs.Runs.{bounds_hold, limits_hold, rows_are_the_answer}
 
 unasked_verdict : (words : List (List ℕ)) (files : Files) → command_stage words ≡ Err refusal.Usage → verdict words files ≡ Err refusal.Usage
@@ -35,14 +35,14 @@ module _ (call : Call) (course : CallHistory call) where
   line_told told files is = subst (say.GrewByLine call.notes) (course.is_line files is) told.tells
 
   -- this part is about a call whose reading ended early, with the failure `e`
-  module _ (e : Failure) (status_is : call.status ≡ status_of_failure e) (reads : Reads call.store (verdict call.words) (IsReached call.words) (Err e)) where
-    ends_as : (f : Failure) → e ≡ f → EndsEarly call.store (verdict call.words) (IsReached call.words) f
-    ends_as f is = subst (EndsEarly call.store (verdict call.words) (IsReached call.words)) is reads.gives
+  module _ (e : Failure) (status_is : call.status ≡ status_of_failure e) (reads : Reads call.store (verdict call.words) (IsReadByVerdict call.words) (Err e)) where
+    ends_as : (f : Failure) → e ≡ f → EndsEarly call.store (verdict call.words) (IsReadByVerdict call.words) f
+    ends_as f is = subst (EndsEarly call.store (verdict call.words) (IsReadByVerdict call.words)) is reads.gives
 
-    by_refusal : (r : Refusal) → call.status ≡ status.Refused r → EndsEarly call.store (verdict call.words) (IsReached call.words) (failure.Refused r)
+    by_refusal : (r : Refusal) → call.status ≡ status.Refused r → EndsEarly call.store (verdict call.words) (IsReadByVerdict call.words) (failure.Refused r)
     by_refusal r is = ends_as (failure.Refused r) (ended_refused e r (sym status_is ∙ is))
 
-    by_fault : (file : FileId) → call.status ≡ status.ReadFault file → EndsEarly call.store (verdict call.words) (IsReached call.words) (failure.Fault file)
+    by_fault : (file : FileId) → call.status ≡ status.ReadFault file → EndsEarly call.store (verdict call.words) (IsReadByVerdict call.words) (failure.Fault file)
     by_fault file is = ends_as (failure.Fault file) (ended_fault e file (sym status_is ∙ is))
 
     stopped_so : (Rose call.store.faults_before call.store.faults_after → ⊥) → (files : Files) → call.store.files ≡ Some files
@@ -55,7 +55,7 @@ module _ (call : Call) (course : CallHistory call) where
         by failure.NoMemory is = inr (status_is ∙ ap status_of_failure is)
 
   -- this part is about a call that read everything to its end and then wrote its texts
-  module _ (run : RunOutcome) (reads : Reads call.store (verdict call.words) (IsReached call.words) (Ok run))
+  module _ (run : RunOutcome) (reads : Reads call.store (verdict call.words) (IsReadByVerdict call.words) (Ok run))
       (written : TextsEnded call.status call.out call.notes run course.line) where
     went_verdict : (files : Files) → call.store.files ≡ Some files → verdict call.words files ≡ Ok run
     went_verdict = reads.gives
@@ -138,7 +138,7 @@ module _ (call : Call) (course : CallHistory call) where
   done (Unasked h) is = absurd (let no : status.Refused refusal.Usage ≡ status.Done = sym h.status ∙ is in cc)
   done (Asked h) is = by h.ran
     where
-      by : StageRan call.status call.store call.out call.notes (verdict call.words) (IsReached call.words) course.line
+      by : StageRan call.status call.store call.out call.notes (verdict call.words) (IsReadByVerdict call.words) course.line
           → say.OverFiles call (λ files v. IsOkAnd v (λ run. say.GrewWhole call.notes (notes_text run) × say.GrewWhole call.out (out_text run)))
       by (EndedEarly e s reads out told) = absurd (ended_not_done e (sym s ∙ is))
       by (RanToEnd run reads written) = went_done run reads written is
@@ -147,7 +147,7 @@ module _ (call : Call) (course : CallHistory call) where
   memory (Unasked h) is = absurd (let no : status.Refused refusal.Usage ≡ status.NoMemory = sym h.status ∙ is in cc)
   memory (Asked h) is = by h.ran
     where
-      by : StageRan call.status call.store call.out call.notes (verdict call.words) (IsReached call.words) course.line → say.GrewByLine call.notes (codes "error memory\n") × say.DidNotGrow call.out
+      by : StageRan call.status call.store call.out call.notes (verdict call.words) (IsReadByVerdict call.words) course.line → say.GrewByLine call.notes (codes "error memory\n") × say.DidNotGrow call.out
       by (EndedEarly e s reads out told) = (subst (say.GrewByLine call.notes) (course.memory is) told.tells, out)
       by (RanToEnd run reads written) = absurd (went_on run reads written failure.NoMemory is)
 
@@ -158,7 +158,7 @@ module _ (call : Call) (course : CallHistory call) where
   }
   cuts (Asked h) = by h.ran
     where
-      by : StageRan call.status call.store call.out call.notes (verdict call.words) (IsReached call.words) course.line → say.WriteFaultsHaveTheirCause call
+      by : StageRan call.status call.store call.out call.notes (verdict call.words) (IsReadByVerdict call.words) course.line → say.WriteFaultsHaveTheirCause call
       by (EndedEarly e s reads out told) = record {
         of_notes = λ is. absurd (ended_without_write_fault e sink.Notes (sym s ∙ is));
         of_out = λ is. absurd (ended_without_write_fault e sink.Out (sym s ∙ is));
@@ -175,7 +175,7 @@ module _ (call : Call) (course : CallHistory call) where
   }
   refusals (Asked h) = by h.ran
     where
-      by : StageRan call.status call.store call.out call.notes (verdict call.words) (IsReached call.words) course.line → say.RefusalsAreTheVerdict call
+      by : StageRan call.status call.store call.out call.notes (verdict call.words) (IsReadByVerdict call.words) course.line → say.RefusalsAreTheVerdict call
       by (EndedEarly e s reads out told) = record {
         usage = ((λ is. absurd ((by_refusal e s reads refusal.Usage is).2 refl)), (λ is. absurd (h.words is)));
         told = λ r is. (out, (λ files is_told. ((by_refusal e s reads r is).0 files is_told, line_told told files is_told)));
@@ -194,7 +194,7 @@ module _ (call : Call) (course : CallHistory call) where
   }
   faults (Asked h) = by h.ran
     where
-      by : StageRan call.status call.store call.out call.notes (verdict call.words) (IsReached call.words) course.line → say.ReadFaultsHaveTheirCause call
+      by : StageRan call.status call.store call.out call.notes (verdict call.words) (IsReadByVerdict call.words) course.line → say.ReadFaultsHaveTheirCause call
       by (EndedEarly e s reads out told) = record {
         told = λ file is.
             let ends = by_fault e s reads file is in
@@ -212,7 +212,7 @@ module _ (call : Call) (course : CallHistory call) where
       record { by_the_store = λ calm files told. inl (so files); by_the_sinks = λ calm calm_out calm_notes files told. inl (so files) }
   causes (Asked h) = by h.ran
     where
-      by : StageRan call.status call.store call.out call.notes (verdict call.words) (IsReached call.words) course.line → say.NothingIsRefusedWithoutCause call
+      by : StageRan call.status call.store call.out call.notes (verdict call.words) (IsReadByVerdict call.words) course.line → say.NothingIsRefusedWithoutCause call
       by (EndedEarly e s reads out told) = record {
         by_the_store = λ calm files is_told. elim (stopped_so e s reads calm files is_told) [ inl is ↦ inl is | inr is ↦ inr (inr is) ];
         by_the_sinks = λ calm calm_out calm_notes files is_told. stopped_so e s reads calm files is_told;

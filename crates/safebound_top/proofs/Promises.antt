@@ -1,18 +1,16 @@
 -- If the headline holds for a call, the call keeps the promise of `run`.
 use Rattle.std.proofs.Common.{◌≡◌, ◌⊎◌, inl, inr, ℕ, ◌+◌, ◌<◌, ◌≤◌, false, List, ◌++◌, [], map, length, get_or, Option, None, Some, Result, Ok, Err, refl, ap, sym, ◌∙◌, subst, arith}
-use Rattle.std.specs.Prelude.{if◌then◌else◌, nat_lt, slice_get, IsOkAnd, IfOk}
+use Rattle.std.specs.Prelude.{slice_get, IsOkAnd, IfOk}
 use Rattle.std.proofs.lemmas.Bool.Decides.{nat_tests}
-use Rattle.std.proofs.lemmas.List.{get_or-append-add, get_or-map, length-map}
+use Rattle.std.proofs.lemmas.List.{get_or-append-add, get_or-map}
 use Rattle.std.proofs.lemmas.Option.{get_or_from_slice_get, slice_get-get_or, slice_get_within}
 use Rattle.base_io.specs.Devices.{Growth}
-use Rattle.base_io.specs.Files.{Files, file_of}
+use Rattle.base_io.specs.Files.{Files}
 use Rattle.schema_types.specs.Texts.{IsSchemaOf}
 use Rattle.schema_types.specs.declared.errors.LimitKind.TheVariants as limit
 use Rattle.schema_types.specs.declared.errors.SchemaError.{SchemaError}
 use Rattle.schema_types.specs.declared.errors.SchemaError.TheVariants as schema_error
 use Rattle.schema_types.specs.declared.types.Schema.{Schema}
-use Rattle.schema_types.specs.declared.types.Table.{Table}
-use Rattle.csv_tables.specs.Files.{rows_of_file}
 use Rattle.csv_tables.specs.Rows.{Row}
 use Rattle.query_names.specs.declared.errors.QueryError.{QueryError}
 use Rattle.query_names.specs.declared.errors.QueryError.TheVariants as query_error
@@ -24,16 +22,14 @@ use Rattle.text_answers.specs.QueryTexts.{query_answer}
 use Rattle.text_answers.specs.SchemaTexts.{schema_answer}
 use Rattle.text_answers.proofs.QueryAnswers as queries
 use Rattle.text_answers.proofs.SchemaAnswers as schemas
-use Rattle.outcomes.specs.Errors.{plan_refusal, query_refusal, schema_refusal, table_refusal}
+use Rattle.outcomes.specs.Errors.{plan_refusal, query_refusal, schema_refusal}
 use Rattle.outcomes.specs.Reads.{◌>>=◌, with_refusal}
-use Rattle.outcomes.specs.declared.names.FileId.{FileId}
 use Rattle.outcomes.specs.declared.names.FileId.TheVariants as file
 use Rattle.outcomes.specs.declared.refusal.Refusal.{Refusal}
 use Rattle.outcomes.specs.declared.refusal.Refusal.TheVariants as refusal
 use Rattle.table_files.specs.EntryTables.{tables_in}
-use Rattle.table_files.specs.FileNames.{file_name}
-use Rattle.table_files.specs.Stage.{no_table, numbers_of, index_of, rows_by_entry, rows_of_each, table_at, table_rows, tables_of_query, tables_stage}
-use Rattle.table_files.specs.TableFile.{bytes_of, file_rows, read, rows_of_bytes}
+use Rattle.table_files.specs.Stage.{no_table, numbers_of, table_at, table_rows, tables_stage}
+use Rattle.table_files.specs.TableFile.{read}
 use Rattle.table_files.proofs.EntryLaws.{two_steps}
 use Rattle.table_files.proofs.StagedFiles.{entries_are, read_ok, table_ok, ok_without_refusal}
 use Rattle.sql_meaning.specs.Tables.{Tables}
@@ -50,8 +46,8 @@ use Rattle.safebound_words.proofs.Readings.{asked_computed}
 use Rattle.prepared_runs.specs.AcceptedQuery.{BoundsHold, printed}
 use Rattle.safebound_words.specs.Commands.{over_query}
 use Rattle.safebound_words.specs.declared.command.Command.{Command}
-use Rattle.safebound_words.specs.declared.command.SchemaTask.TheVariants as aims
-use Rattle.safebound_words.specs.declared.command.QueryTask.TheVariants as works
+use Rattle.safebound_words.specs.declared.command.SchemaTask.TheVariants as schema_tasks
+use Rattle.safebound_words.specs.declared.command.QueryTask.TheVariants as query_tasks
 use Rattle.safebound_top.specs.Call.{Call, Grew}
 use Rattle.safebound_top.specs.Headline.{GrewWhole, Headline}
 use Rattle.prepared_runs.specs.Limits.{IsWithinLimit, within_limit}
@@ -63,7 +59,7 @@ use Rattle.prepared_runs.specs.Sources.{lists_by}
 use Rattle.prepared_runs.specs.RunOutcome.{NoBoundIsTooLow, RunOutcome, Planned, PrintsTheAnswer}
 use Rattle.safebound_top.specs.OutcomeTexts.{notes_text, out_text}
 use Rattle.safebound_top.specs.Texts.{plan_text, plan_text_of, rows_text, text_for}
-use Rattle.prepared_runs.specs.Verdict.{aim_run, command_run, command_stage, plan_asked, plan_stage, query_of_text, query_stage, or_usage, run_asked, schema_of_text, schema_stage, verdict, work_run}
+use Rattle.prepared_runs.specs.Verdict.{schema_task_run, command_run, command_stage, plan_asked, plan_stage, query_of_text, query_stage, or_usage, accepted_query, schema_of_text, schema_stage, verdict, query_task_run}
 use Rattle.safebound_words.specs.declared.command.ListSource.{ListSource}
 use Rattle.safebound_words.specs.declared.command.ListSource.TheVariants as sources
 use Rattle.safebound_words.specs.declared.command.OutText.{OutText}
@@ -157,9 +153,9 @@ scans_are query tables sources.Counted = reduced_scans_by_rounds query tables
 module _ (query : Query) (tables : Tables) (lists : List (List ℕ)) where
   along : (plan : BushyPlan) → Fits query tables lists shapes.Order plan → HoldsAlong query tables lists (order_of_tree plan)
   along plan h = record {
-    each_entry = h.plan.order;
+    each_entry = h.is_shaped.order;
     scans_fit = h.scans;
-    levels_fit = λ k low. h.parts k (omega (arith, h.plan.order.order.all));
+    levels_fit = λ k low. h.parts k (omega (arith, h.is_shaped.order.order.all));
   }
 
   module _ (plan : BushyPlan) (h : Fits query tables lists shapes.Tree plan) where
@@ -181,16 +177,16 @@ module _ (query : Query) (tables : Tables) (lists : List (List ℕ)) where
 
     over : HoldsOver query tables lists plan
     over = record {
-      each_entry = h.plan;
+      each_entry = h.is_shaped;
       scans_fit = h.scans;
       nodes_fit = λ k join is.
-          subst (λ (n : ℕ). length (choices_over query tables lists (entries_at plan (n + k))) ≤ join.bound) h.plan.scans (node_fits k join is);
+          subst (λ (n : ℕ). length (choices_over query tables lists (entries_at plan (n + k))) ≤ join.bound) h.is_shaped.scans (node_fits k join is);
     }
 
 pub text_prints : (shape : Shape) (memory : Option ℕ) (query : Query) (tables : Tables) (lists : List (List ℕ)) (plan : BushyPlan)
     → Fits query tables lists shape plan → IsWithinLimit memory (tree_bytes plan) → PrintsPlan shape memory query tables lists (plan_text_of query.from shape plan memory)
 text_prints shapes.Order memory query tables lists plan h within =
-    let bytes : tree_bytes plan ≡ tree_bytes (tree_of_order (order_of_tree plan)) = ap (λ (t : BushyPlan). tree_bytes t) h.plan.its_tree in
+    let bytes : tree_bytes plan ≡ tree_bytes (tree_of_order (order_of_tree plan)) = ap (λ (t : BushyPlan). tree_bytes t) h.is_shaped.its_tree in
     record {
       plan = order_of_tree plan;
       holds = along query tables lists plan h;
@@ -204,10 +200,10 @@ text_prints shapes.Tree memory query tables lists plan h within = record {
   prints = refl;
 }
 
-prints : (task : PlanWork) (query : Query) (rows : List (List Row)) (plan : BushyPlan) → BoundsHold (run_asked task query rows plan) → IsWithinLimit task.terms.memory (tree_bytes plan)
-    → PrintsPlan task.terms.shape task.terms.memory query (tables_in rows) (lists_by task.source query (tables_in rows)) (plan_text (run_asked task query rows plan))
+prints : (task : PlanWork) (query : Query) (rows : List (List Row)) (plan : BushyPlan) → BoundsHold (accepted_query task query rows plan) → IsWithinLimit task.terms.memory (tree_bytes plan)
+    → PrintsPlan task.terms.shape task.terms.memory query (tables_in rows) (lists_by task.source query (tables_in rows)) (plan_text (accepted_query task query rows plan))
 prints task query rows plan h within =
-    text_prints task.terms.shape task.terms.memory query (tables_in rows) (lists_by task.source query (tables_in rows)) plan (record { plan = h.plan; scans = h.scans; parts = h.parts }) within
+    text_prints task.terms.shape task.terms.memory query (tables_in rows) (lists_by task.source query (tables_in rows)) plan (record { is_shaped = h.plan; scans = h.scans; parts = h.parts }) within
 
 -- ---- the stages of a run
 
@@ -221,17 +217,17 @@ pub record Stages (schema_file query_file : List ℕ) (task : PlanWork) (files :
   pub plan : BushyPlan
   pub planned : plan_asked task schema query (tables_in rows) ≡ Ok plan
   pub within : IsWithinLimit task.terms.memory (tree_bytes plan)
-  pub is_run : Planned (run_asked task query rows plan) ≡ outcome
+  pub is_run : Planned (accepted_query task query rows plan) ≡ outcome
 
 pub stages : (shop : Option ℕ) (schema_file query_file : List ℕ) (task : PlanWork) (files : Files) (outcome : RunOutcome)
-    → command_run (over_query shop schema_file query_file (works.Plan task)) files ≡ Ok outcome → Stages schema_file query_file task files outcome
+    → command_run (over_query shop schema_file query_file (query_tasks.Plan task)) files ≡ Ok outcome → Stages schema_file query_file task files outcome
 unfolding command_run plan_stage
 stages shop schema_file query_file task files outcome e =
-    let first = two_steps (schema_stage schema_file files) (λ schema. aim_run (aims.Query query_file (works.Plan task)) schema files) outcome e in
-    let second = two_steps (query_stage query_file first.0 files) (λ query. work_run (works.Plan task) first.0 query files) outcome first.2 in
+    let first = two_steps (schema_stage schema_file files) (λ schema. schema_task_run (schema_tasks.Query query_file (query_tasks.Plan task)) schema files) outcome e in
+    let second = two_steps (query_stage query_file first.0 files) (λ query. query_task_run (query_tasks.Plan task) first.0 query files) outcome first.2 in
     let third = two_steps (tables_stage first.0 second.0.from files) (plan_stage task first.0 second.0) outcome second.2 in
-    let last = two_steps (with_refusal plan_refusal (plan_asked task first.0 second.0 (tables_in third.0))) (λ plan. within_limit task.terms.memory (tree_bytes plan) (Planned (run_asked task second.0 third.0 plan))) outcome third.2 in
-    let kept = within_ok task.terms.memory (tree_bytes last.0) (Planned (run_asked task second.0 third.0 last.0)) outcome last.2 in
+    let last = two_steps (with_refusal plan_refusal (plan_asked task first.0 second.0 (tables_in third.0))) (λ plan. within_limit task.terms.memory (tree_bytes plan) (Planned (accepted_query task second.0 third.0 plan))) outcome third.2 in
+    let kept = within_ok task.terms.memory (tree_bytes last.0) (Planned (accepted_query task second.0 third.0 last.0)) outcome last.2 in
     record {
       schema = first.0;
       schema_read = first.1;
@@ -255,16 +251,16 @@ if_ok : {A E : Type 0} (P : A → Type 0) (r : Result A E) (x : A) → r ≡ Ok 
 if_ok P r x e h = subst (λ s. IfOk s P) e h
 
 rows_written : (task : PlanWork) (query : Query) (rows : List (List Row)) (plan : BushyPlan) (out : Growth) → task.out ≡ out_texts.Rows
-    → GrewWhole out (out_text (Planned (run_asked task query rows plan))) → Grew out (rows_text (run_asked task query rows plan))
-rows_written task query rows plan out is written = subst (λ (t : OutText). GrewWhole out (text_for t (run_asked task query rows plan))) is written
+    → GrewWhole out (out_text (Planned (accepted_query task query rows plan))) → Grew out (rows_text (accepted_query task query rows plan))
+rows_written task query rows plan out is written = subst (λ (t : OutText). GrewWhole out (text_for t (accepted_query task query rows plan))) is written
 
 module _ (schema_file query_file : List ℕ) (task : PlanWork) (is_run : task.out ≡ out_texts.Rows) (files : Files) (notes out : Growth) where
-  ran_whole : (outcome : RunOutcome) → command_run (over_query None schema_file query_file (works.Plan task)) files ≡ Ok outcome
+  ran_whole : (outcome : RunOutcome) → command_run (over_query None schema_file query_file (query_tasks.Plan task)) files ≡ Ok outcome
       → GrewWhole notes (notes_text outcome) → GrewWhole out (out_text outcome) → NoBoundIsTooLow outcome → PrintsTheAnswer outcome
       → RanWhole files schema_file query_file task notes out
   ran_whole outcome e noted written bounds answered =
       let s : Stages schema_file query_file task files outcome = stages None schema_file query_file task files outcome e in
-      let back : outcome ≡ Planned (run_asked task s.query s.rows s.plan) = sym s.is_run in
+      let back : outcome ≡ Planned (accepted_query task s.query s.rows s.plan) = sym s.is_run in
       record {
         schema = s.schema;
         declares = declares schema_file files s.schema s.schema_read;
@@ -274,12 +270,12 @@ module _ (schema_file query_file : List ℕ) (task : PlanWork) (is_run : task.ou
         rows = rows_in_files s.schema s.query files s.rows (query_of_schema query_file files s.schema s.query s.query_read) s.rows_read;
         scans = lists_by task.source s.query (tables_in s.rows);
         are_scans = scans_are s.query (tables_in s.rows) task.source;
-        plan_text = plan_text (run_asked task s.query s.rows s.plan);
+        plan_text = plan_text (accepted_query task s.query s.rows s.plan);
         plan = prints task s.query s.rows s.plan (subst NoBoundIsTooLow back bounds) s.within;
         plan_written = subst (λ (o : RunOutcome). GrewWhole notes (notes_text o)) back noted;
-        rows_text = rows_text (run_asked task s.query s.rows s.plan);
+        rows_text = rows_text (accepted_query task s.query s.rows s.plan);
         answer = record {
-          rows = printed (run_asked task s.query s.rows s.plan);
+          rows = printed (accepted_query task s.query s.rows s.plan);
           is_answer = subst PrintsTheAnswer back answered;
           prints = refl;
         };
@@ -289,11 +285,11 @@ module _ (schema_file query_file : List ℕ) (task : PlanWork) (is_run : task.ou
 pub keeps_promise : (call : Call) → Headline call → Promise call
 unfolding verdict
 keeps_promise call h schema_file query_file task files words is_run done told =
-    let command : command_of call.words ≡ Some (over_query None schema_file query_file (works.Plan task)) =
-    asked_computed call.words (over_query None schema_file query_file (works.Plan task)) words in
-    let asked : command_stage call.words ≡ Ok (over_query None schema_file query_file (works.Plan task)) = ap or_usage command in
+    let command : command_of call.words ≡ Some (over_query None schema_file query_file (query_tasks.Plan task)) =
+    asked_computed call.words (over_query None schema_file query_file (query_tasks.Plan task)) words in
+    let asked : command_stage call.words ≡ Ok (over_query None schema_file query_file (query_tasks.Plan task)) = ap or_usage command in
     let ended = ok_and (λ outcome. GrewWhole call.notes (notes_text outcome) × GrewWhole call.out (out_text outcome)) (verdict call.words files) (h.done_is_exact done files told) in
-    let from_ask : command_run (over_query None schema_file query_file (works.Plan task)) files ≡ Ok ended.0 =
+    let from_ask : command_run (over_query None schema_file query_file (query_tasks.Plan task)) files ≡ Ok ended.0 =
     sym (ap (λ (r : Result Command Refusal). r >>= (λ ask. command_run ask files)) asked) ∙ ended.1 in
     ran_whole schema_file query_file task is_run files call.notes call.out ended.0 from_ask ended.2.0 ended.2.1
     (if_ok NoBoundIsTooLow (verdict call.words files) ended.0 ended.1 (h.every_bound_holds files told))

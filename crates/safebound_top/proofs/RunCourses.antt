@@ -1,6 +1,6 @@
 -- Each command has a course (`CallHistory`). Reading its schema ended early, or the command ran over the schema.
 use Rattle.std.proofs.Common.{◌≡◌, ℕ, inl, inr, List, Option, None, Some, Result, Ok, Err, refl, ap, sym, ◌∙◌, subst}
-use Rattle.std.specs.Prelude.{IsOk, codes}
+use Rattle.std.specs.Prelude.{codes}
 use Rattle.base_io.specs.Files.{Files}
 use Rattle.schema_types.specs.declared.types.Schema.{Schema}
 use Rattle.base_io.specs.Devices.{Growth, Reading}
@@ -23,17 +23,17 @@ use Rattle.safebound_top.specs.Faults.{fault_text, names_by, status_line, ok_val
 use Rattle.safebound_top.specs.Headline.{DidNotGrow}
 use Rattle.safebound_words.specs.declared.command.SchemaTask.{SchemaTask}
 use Rattle.safebound_words.specs.declared.command.Command.{Command}
-use Rattle.safebound_words.specs.declared.command.SchemaTask.TheVariants as aims
-use Rattle.prepared_runs.specs.Verdict.{IsAimFile, IsReached, aim_run, command_run, command_stage, schema_read, schema_stage, verdict}
+use Rattle.safebound_words.specs.declared.command.SchemaTask.TheVariants as schema_tasks
+use Rattle.prepared_runs.specs.Verdict.{IsSchemaTaskFile, IsReadByVerdict, schema_task_run, command_run, command_stage, schema_read, schema_stage, verdict}
 
 memory_line : (ask : Option Command) (schema : Option Schema) → status_line status.NoMemory ask schema ≡ codes "error memory\n"
 unfolding error_line
 memory_line None schema = refl
 memory_line (Some ask) schema = refl
 
-schema_line : (name : List ℕ) (aim : SchemaTask) (schema : Option Schema) → fault_line (status.ReadFault file.Schema) (names_by name aim None) ≡ fault_line (status.ReadFault file.Schema) (names_by name aim schema)
-schema_line name (aims.Query query work) schema = refl
-schema_line name (aims.Append append) schema = refl
+schema_line : (name : List ℕ) (schema_task : SchemaTask) (schema : Option Schema) → fault_line (status.ReadFault file.Schema) (names_by name schema_task None) ≡ fault_line (status.ReadFault file.Schema) (names_by name schema_task schema)
+schema_line name (schema_tasks.Query query work) schema = refl
+schema_line name (schema_tasks.Append append) schema = refl
 
 pub memory_told : (s : Status) (ask : Option Command) (schema : Option Schema) → s ≡ status.NoMemory → status_line s ask schema ≡ codes "error memory\n"
 memory_told s ask schema is = ap (λ (x : Status). status_line x ask schema) is ∙ memory_line ask schema
@@ -69,10 +69,10 @@ module _ (ask : Command) (words : List (List ℕ)) (command : command_stage word
 
   -- ---- files that the verdict reads: the schema's file, and the files that the command's aim needs
 
-  reached_schema : (files : Files) (id : FileId) → id ≡ file.Schema → IsReached words files id
+  reached_schema : (files : Files) (id : FileId) → id ≡ file.Schema → IsReadByVerdict words files id
   reached_schema files id at' = rw command (inl at')
 
-  reached_later : (schema : Schema) (files : Files) (id : FileId) → schema_stage ask.schema_file files ≡ Ok schema → IsAimFile ask.aim schema files id → IsReached words files id
+  reached_later : (schema : Schema) (files : Files) (id : FileId) → schema_stage ask.schema_file files ≡ Ok schema → IsSchemaTaskFile ask.schema_task schema files id → IsReadByVerdict words files id
   reached_later schema files id is at' = rw (command, is) (inr at')
 
   -- ---- the fault text of a command whose schema was read, or wasn't read
@@ -100,14 +100,14 @@ module _ (ask : Command) (words : List (List ℕ)) (command : command_stage word
         by (failure.Refused r) same = line_of s files (Err r) ((ends_as (failure.Refused r) same).0 files told)
         by (failure.Fault id) same =
             let at' : id ≡ file.Schema = (ends_as (failure.Fault id) same).1 files told in
-            line_by_status (status.ReadFault file.Schema) (is ∙ ap status_of_failure same ∙ ap (λ (x : FileId). status.ReadFault x) at') (schema_line ask.schema_file ask.aim)
+            line_by_status (status.ReadFault file.Schema) (is ∙ ap status_of_failure same ∙ ap (λ (x : FileId). status.ReadFault x) at') (schema_line ask.schema_file ask.schema_task)
         by failure.NoMemory same = line_by_status status.NoMemory (is ∙ ap status_of_failure same) (λ r. refl)
 
-    stopped_reads : Reads store (verdict words) (IsReached words) (Err e)
+    stopped_reads : Reads store (verdict words) (IsReadByVerdict words) (Err e)
     unfolding command_run
     stopped_reads =
-        reads_as store (command_run ask) (verdict words) (IsReached words) (IsReached words) (Err e) verdict_of (λ files id at'. at')
-        (then_stops (schema_stage ask.schema_file) (aim_run ask.aim) store (AtFile file.Schema) (IsReached words) e reached_schema reads)
+        reads_as store (command_run ask) (verdict words) (IsReadByVerdict words) (IsReadByVerdict words) (Err e) verdict_of (λ files id at'. at')
+        (then_stops (schema_stage ask.schema_file) (schema_task_run ask.schema_task) store (AtFile file.Schema) (IsReadByVerdict words) e reached_schema reads)
 
     pub course_stopped : DidNotGrow out → StatusReported notes (status_line s (Some ask) None) → CallHistory (record { words = words; status = s; store = store; out = out; notes = notes })
     course_stopped still told = record {
@@ -121,19 +121,19 @@ module _ (ask : Command) (words : List (List ℕ)) (command : command_stage word
 
   module _ (s : Status) (first second : Reading) (out notes : Growth) (schema : Schema) (meets : IsFollowedBy first second)
       (reads : Reads first (schema_stage ask.schema_file) (AtFile file.Schema) (Ok schema)) where
-    ran_reads : (answer : Result RunOutcome Failure) → Reads second (aim_run ask.aim schema) (IsAimFile ask.aim schema) answer → Reads (joined first second) (verdict words) (IsReached words) answer
+    ran_reads : (answer : Result RunOutcome Failure) → Reads second (schema_task_run ask.schema_task schema) (IsSchemaTaskFile ask.schema_task schema) answer → Reads (joined first second) (verdict words) (IsReadByVerdict words) answer
     unfolding command_run
     ran_reads answer h =
-        reads_as (joined first second) (command_run ask) (verdict words) (IsReached words) (IsReached words) answer verdict_of (λ files id at'. at')
-        (then_reads (schema_stage ask.schema_file) (aim_run ask.aim) first second (AtFile file.Schema) (IsAimFile ask.aim schema) (IsReached words) schema answer meets
+        reads_as (joined first second) (command_run ask) (verdict words) (IsReadByVerdict words) (IsReadByVerdict words) answer verdict_of (λ files id at'. at')
+        (then_reads (schema_stage ask.schema_file) (schema_task_run ask.schema_task) first second (AtFile file.Schema) (IsSchemaTaskFile ask.schema_task schema) (IsReadByVerdict words) schema answer meets
         (reached_later schema) reads h)
 
-    ran_so : StageRan s second out notes (aim_run ask.aim schema) (IsAimFile ask.aim schema) (status_line s (Some ask) (Some schema))
-        → StageRan s (joined first second) out notes (verdict words) (IsReached words) (status_line s (Some ask) (Some schema))
+    ran_so : StageRan s second out notes (schema_task_run ask.schema_task schema) (IsSchemaTaskFile ask.schema_task schema) (status_line s (Some ask) (Some schema))
+        → StageRan s (joined first second) out notes (verdict words) (IsReadByVerdict words) (status_line s (Some ask) (Some schema))
     ran_so (EndedEarly e is h still told) = EndedEarly e is (ran_reads (Err e) h) still told
     ran_so (RanToEnd outcome h written) = RanToEnd outcome (ran_reads (Ok outcome) h) written
 
-    pub course_ran : StageRan s second out notes (aim_run ask.aim schema) (IsAimFile ask.aim schema) (status_line s (Some ask) (Some schema))
+    pub course_ran : StageRan s second out notes (schema_task_run ask.schema_task schema) (IsSchemaTaskFile ask.schema_task schema) (status_line s (Some ask) (Some schema))
         → CallHistory (record { words = words; status = s; store = joined first second; out = out; notes = notes })
     course_ran ran = record {
       line = status_line s (Some ask) (Some schema);

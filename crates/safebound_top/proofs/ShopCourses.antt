@@ -18,7 +18,7 @@ use Rattle.safebound_top.specs.CallHistory.{Asked, CallHistory, RefusedOrRan, St
 use Rattle.safebound_top.specs.Faults.{status_line, ok_value}
 use Rattle.safebound_top.specs.Headline.{DidNotGrow}
 use Rattle.prepared_runs.specs.Shops.{demo_number_of, shop_store, store_read}
-use Rattle.prepared_runs.specs.Verdict.{IsReached, command_stage, schema_read, verdict}
+use Rattle.prepared_runs.specs.Verdict.{IsReadByVerdict, command_stage, schema_read, verdict}
 use Rattle.safebound_top.proofs.RunCourses.{memory_told, no_usage}
 
 -- ---- a store that tells the shop's files and counts no fault
@@ -65,7 +65,7 @@ module _ (number : ℕ) (store : Reading) (is : store.files ≡ Some (demo_files
       by : RefusedOrRan (record { words = words; status = s; store = store; out = out; notes = notes }) h.line
           → RefusedOrRan (record { words = words; status = s; store = shop_store number; out = out; notes = notes }) h.line
       by (Unasked u) = Unasked (record { status = u.status; words = u.words; misses = refl; out = u.out; told = u.told })
-      by (Asked a) = Asked (record { words = a.words; ran = ran_shop s out notes (verdict words) (IsReached words) h.line a.ran })
+      by (Asked a) = Asked (record { words = a.words; ran = ran_shop s out notes (verdict words) (IsReadByVerdict words) h.line a.ran })
 
 -- ---- there is no memory for the shop's files
 

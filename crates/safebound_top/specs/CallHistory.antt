@@ -19,7 +19,7 @@ use Rattle.safebound_top.specs.Faults.{fault_text}
 use Rattle.safebound_top.specs.Headline.{DidNotGrow, FaultsRose, GrewByLine, GrewWhole, TookPrefix, TookPrefixThenLine, grown}
 use Rattle.prepared_runs.specs.RunOutcome.{RunOutcome}
 use Rattle.safebound_top.specs.OutcomeTexts.{notes_text, out_text}
-use Rattle.prepared_runs.specs.Verdict.{IsReached, command_stage, verdict}
+use Rattle.prepared_runs.specs.Verdict.{IsReadByVerdict, command_stage, verdict}
 
 -- a line was written to the notes, to its end or up to a failed write
 pub record StatusReported (notes : Growth) (line : List ℕ) : Type 0 where
@@ -72,7 +72,7 @@ pub record WordsRefused (call : Call) (line : List ℕ) : Type 0 where
 -- the words are a command, and the command ran
 pub record CommandRan (call : Call) (line : List ℕ) : Type 0 where
   pub words : command_stage call.words ≡ Err refusal.Usage → ⊥
-  pub ran : StageRan call.status call.store call.out call.notes (verdict call.words) (IsReached call.words) line
+  pub ran : StageRan call.status call.store call.out call.notes (verdict call.words) (IsReadByVerdict call.words) line
 
 pub data RefusedOrRan (call : Call) (line : List ℕ) : Type 0 where
   Unasked : WordsRefused call line → RefusedOrRan call line

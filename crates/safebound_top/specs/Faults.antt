@@ -7,26 +7,26 @@ use Rattle.printed_texts.specs.Faults.{NamesInLine, fault_line}
 use Rattle.safebound_words.specs.declared.command.SchemaTask.{SchemaTask}
 use Rattle.safebound_words.specs.declared.command.Command.{Command}
 use Rattle.safebound_words.specs.declared.command.QueryTask.{QueryTask}
-use Rattle.safebound_words.specs.declared.command.SchemaTask.TheVariants as aims
-use Rattle.safebound_words.specs.declared.command.QueryTask.TheVariants as works
+use Rattle.safebound_words.specs.declared.command.SchemaTask.TheVariants as schema_tasks
+use Rattle.safebound_words.specs.declared.command.QueryTask.TheVariants as query_tasks
 use Rattle.prepared_runs.specs.Verdict.{command_stage, schema_read}
 
 -- the name of the statistics file that is read. It is empty if no statistics file is read
 abbrev pub stats_file_of : QueryTask → List ℕ
-stats_file_of (works.Plan task) = []
-stats_file_of (works.WriteStats accuracy) = []
-stats_file_of (works.PlanFromStats file terms) = file
+stats_file_of (query_tasks.Plan task) = []
+stats_file_of (query_tasks.WriteStats accuracy) = []
+stats_file_of (query_tasks.PlanFromStats file terms) = file
 
 -- the names that a line may use: the names of the command's files, and the names in the schema. Only `append` names a file of new rows
 abbrev pub names_by : List ℕ → SchemaTask → Option Schema → NamesInLine
-names_by name (aims.Query query work) schema =
+names_by name (schema_tasks.Query query work) schema =
     record { schema_file = name; query_file = query; stats_file = stats_file_of work; rows_file = None; schema = schema }
-names_by name (aims.Append append) schema =
+names_by name (schema_tasks.Append append) schema =
     record { schema_file = name; query_file = []; stats_file = append.stats_file; rows_file = Some append.rows_file; schema = schema }
 
 abbrev pub names_of : Option Command → Option Schema → NamesInLine
 names_of None schema = record { schema_file = []; query_file = []; stats_file = []; rows_file = None; schema = schema }
-names_of (Some command) schema = names_by command.schema_file command.aim schema
+names_of (Some command) schema = names_by command.schema_file command.schema_task schema
 
 abbrev pub ok_value : {A E : Type 0} → Result A E → Option A
 ok_value (Ok x) = Some x

@@ -19,7 +19,7 @@ use Rattle.safebound_top.specs.Call.{Call, CutThenTold, Grew, GrewOrWasCut}
 use Rattle.safebound_top.specs.Faults.{fault_text}
 use Rattle.prepared_runs.specs.RunOutcome.{KeepsItsLimit, NoBoundIsTooLow, RunOutcome, PrintsTheAnswer}
 use Rattle.safebound_top.specs.OutcomeTexts.{notes_text, out_text}
-use Rattle.prepared_runs.specs.Verdict.{IsReached, command_stage, verdict}
+use Rattle.prepared_runs.specs.Verdict.{IsReadByVerdict, command_stage, verdict}
 
 -- if the store tells its files, P is true of these files and of the verdict of the words over them
 abbrev pub OverFiles : Call → (Files → Result RunOutcome Refusal → Type 0) → Type 0
@@ -108,7 +108,7 @@ pub record RefusalsAreTheVerdict (call : Call) : Type 0 where
 pub record ReadFaultsHaveTheirCause (call : Call) : Type 0 where
   pub told : (file : FileId) → call.status ≡ status.ReadFault file
       → Rose call.store.faults_before call.store.faults_after × DidNotGrow call.out
-      × OverFiles call (λ files v. IsReached call.words files file × GrewByLine call.notes (fault_text call.status call.words files))
+      × OverFiles call (λ files v. IsReadByVerdict call.words files file × GrewByLine call.notes (fault_text call.status call.words files))
   -- if the verdict misses no file, the store's count of misses is as before: the call asked for no absent file
   pub misses : OverFiles call (λ files v. MissesNothing v → call.store.misses_after ≡ call.store.misses_before)
 

@@ -65,7 +65,7 @@ use Rattle.safebound_words.specs.declared.command.OutText.TheVariants as out_tex
 use Rattle.safebound_words.specs.declared.command.PlanWork.{PlanWork}
 use Rattle.safebound_words.specs.declared.command.Shape.{Shape}
 use Rattle.safebound_words.specs.declared.command.Shape.TheVariants as shapes
-use Rattle.safebound_words.specs.declared.command.QueryTask.TheVariants as works
+use Rattle.safebound_words.specs.declared.command.QueryTask.TheVariants as query_tasks
 use Rattle.outcomes.specs.declared.status.Status.TheVariants as status
 use Rattle.safebound_top.specs.Call.{Call, Grew}
 use Rattle.prepared_runs.specs.Limits.{IsWithinLimit}
@@ -185,6 +185,6 @@ pub record RanWhole (files : Files) (schema_file query_file : List ℕ) (work : 
 -- without `--keys`. The words of `run` ask for a plan of the query in a file, and for the query's rows in out
 abbrev pub Promise : Call → Type 0
 Promise call = (schema_file query_file : List ℕ) (work : PlanWork) (files : Files)
-    → AskFor call.words (over_query None schema_file query_file (works.Plan work)) → work.out ≡ out_text.Rows
+    → AskFor call.words (over_query None schema_file query_file (query_tasks.Plan work)) → work.out ≡ out_text.Rows
     → call.status ≡ status.Done → call.store.files ≡ Some files
     → RanWhole files schema_file query_file work call.notes call.out

@@ -25,12 +25,12 @@ fn stats_file_of<'a>(work: &'a QueryTask<'a>) -> &'a str
 // The names that a line may use: the names of the command's files, and the names in the schema.
 fn names_by<'a>(
     schema_file: &'a str,
-    aim: &'a SchemaTask<'a>,
+    schema_task: &'a SchemaTask<'a>,
     schema: Option<&'a Schema>,
 ) -> LineNames<'a>
-    ensures { names_of_line result ≡ names_in schema_file.now aim.now (option_copied schema.entry) }
+    ensures { names_of_line result ≡ names_in schema_file.now schema_task.now (option_copied schema.entry) }
 {
-    match aim {
+    match schema_task {
         SchemaTask::Query { file, work } => LineNames {
             schema_file,
             query_file: file.get(),
@@ -53,7 +53,7 @@ fn names_of<'a>(command: Option<&'a Command<'a>>, schema: Option<&'a Schema>) ->
     ensures { names_of_line result ≡ names_told (option_copied command.entry) (option_copied schema.entry) }
 {
     match command {
-        Some(command) => names_by(command.schema_file.get(), &command.aim, schema),
+        Some(command) => names_by(command.schema_file.get(), &command.schema_task, schema),
         None => LineNames {
             schema_file: "",
             query_file: "",

@@ -12,7 +12,7 @@ ghost use Rattle.prepared_runs.specs.KeptBuffers.{HasBuffersOf, KeepsItsBuffers}
 ghost use Rattle.safebound_top.specs.Promise.{Promise};
 ghost use Rattle.prepared_runs.specs.PreparedRun.{CanBeWritten, outcome_of};
 ghost use Rattle.prepared_runs.specs.Shops.{demo_number_of, shop_store, store_read};
-ghost use Rattle.prepared_runs.specs.Verdict.{IsAimFile, aim_run, command_run, command_stage, verdict};
+ghost use Rattle.prepared_runs.specs.Verdict.{IsSchemaTaskFile, schema_task_run, command_run, command_stage, verdict};
 
 use crate::report::report;
 use crate::texts::write_outcome;
@@ -76,16 +76,16 @@ fn run_over<S: Store, O: Sink, N: Sink>(
 ) -> Status
     requires schema { IsValid schema.now }
     requires bytes { HasByteColumns schema.now }
-    requires ranges { HasRanges command.now.aim }
+    requires ranges { HasRanges command.now.schema_task }
     requires none { kept.old ≡ None }
     ensures ran { StageRan result (reading S.files S.faults S.misses store.old store.new) (growth O.taken O.faults out.old out.new)
-        (growth N.taken N.faults notes.old notes.new) (aim_run command.now.aim schema.now)
-        (IsAimFile command.now.aim schema.now)
+        (growth N.taken N.faults notes.old notes.new) (schema_task_run command.now.schema_task schema.now)
+        (IsSchemaTaskFile command.now.schema_task schema.now)
         (status_line result (Some command.now) (Some schema.now)) }
     ensures kept { result ≡ Status.Done
-        → KeepsItsBuffers (reading S.files S.faults S.misses store.old store.new) (aim_run command.now.aim schema.now) kept.new }
+        → KeepsItsBuffers (reading S.files S.faults S.misses store.old store.new) (schema_task_run command.now.schema_task schema.now) kept.new }
 {
-    match prepare_run(alloc, store, &command.aim, schema) {
+    match prepare_run(alloc, store, &command.schema_task, schema) {
         Ok(ready) => write_or_report(ready, command, schema, out, notes, kept),
         Err(failure) => report_failure(failure, command, Some(schema), notes),
     }
@@ -100,7 +100,7 @@ fn run<S: Store, O: Sink, N: Sink>(
     notes: &mut N,
     kept: &mut Option<Joined>,
 ) -> Status
-    requires ranges { HasRanges command.now.aim }
+    requires ranges { HasRanges command.now.schema_task }
     requires none { kept.old ≡ None }
     ensures course { (words : List (List ℕ)) → command_stage words ≡ Ok command.now → CallHistory (record {
       words = words;
@@ -127,7 +127,7 @@ fn run_shop<O: Sink, N: Sink>(
     notes: &mut N,
     kept: &mut Option<Joined>,
 ) -> Status
-    requires ranges { HasRanges command.now.aim }
+    requires ranges { HasRanges command.now.schema_task }
     requires none { kept.old ≡ None }
     ensures course { (words : List (List ℕ)) → command_stage words ≡ Ok command.now → CallHistory (record {
       words = words;
@@ -153,7 +153,7 @@ fn run_command<S: Store, O: Sink, N: Sink>(
     notes: &mut N,
     kept: &mut Option<Joined>,
 ) -> Status
-    requires ranges { HasRanges command.now.aim }
+    requires ranges { HasRanges command.now.schema_task }
     requires none { kept.old ≡ None }
     ensures course { (words : List (List ℕ)) → command_stage words ≡ Ok command.now → CallHistory (record {
       words = words;

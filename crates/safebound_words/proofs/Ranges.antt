@@ -16,7 +16,7 @@ use Rattle.safebound_words.specs.declared.command.OutText.TheVariants as out_tex
 use Rattle.safebound_words.specs.declared.command.PlanTerms.{PlanTerms}
 use Rattle.safebound_words.specs.declared.command.PlanWork.{PlanWork}
 use Rattle.safebound_words.specs.declared.command.QueryTask.{QueryTask}
-use Rattle.safebound_words.specs.declared.command.QueryTask.TheVariants as works
+use Rattle.safebound_words.specs.declared.command.QueryTask.TheVariants as query_tasks
 use Rattle.safebound_words.specs.declared.table.CommandName.{CommandName}
 use Rattle.safebound_words.specs.declared.table.CommandName.TheVariants as command
 use Rattle.safebound_words.specs.declared.table.FlagName.TheVariants as flag
@@ -24,10 +24,10 @@ use Rattle.safebound_words.specs.declared.table.OptionName.TheVariants as option
 use Rattle.safebound_words.proofs.Readings.{bind_inversion}
 
 record IsAsked (asked : Command) : Type 0 where
-  ranges : HasRanges asked.aim
+  ranges : HasRanges asked.schema_task
   shop : (number : ℕ) → asked.shop ≡ Some number → asked ≡ demo_of number
 
-asked_without_shop : (asked : Command) → asked.shop ≡ None → HasRanges asked.aim → IsAsked asked
+asked_without_shop : (asked : Command) → asked.shop ≡ None → HasRanges asked.schema_task → IsAsked asked
 asked_without_shop asked none ranges = record {
   ranges = ranges;
   shop = λ number is. absurd (let no : ◌≡◌ {A = Option ℕ} None (Some number) = sym none ∙ is in cc);
@@ -91,15 +91,15 @@ module _ (out : OutText) (terms : PlanTerms) (budget_in_range : terms.budget ≤
       let keys = bind_inversion (flag_value (given.times flag.Keys)) _ work reduce.2 in
       let count = bind_inversion (flag_value (given.times flag.Count)) _ work keys.2 in
       let task : PlanWork = record { terms = terms; accuracy = accuracy.0; source = source_by reduce.0 keys.0 count.0; out = out } in
-      let late : Option QueryTask = if count.0 && not (count_is_compatible given reduce.0 keys.0) then None else Some (works.Plan task) in
-      let alone = asked_if_not_excluded (count.0 && not (count_is_compatible given reduce.0 keys.0)) (Some (works.Plan task)) work (asked_if_not_excluded (keys.0 && reduce.0) late work count.2) in
-      let same : works.Plan task ≡ work = cc in
+      let late : Option QueryTask = if count.0 && not (count_is_compatible given reduce.0 keys.0) then None else Some (query_tasks.Plan task) in
+      let alone = asked_if_not_excluded (count.0 && not (count_is_compatible given reduce.0 keys.0)) (Some (query_tasks.Plan task)) work (asked_if_not_excluded (keys.0 && reduce.0) late work count.2) in
+      let same : query_tasks.Plan task ≡ work = cc in
       let close = accuracy_in_range (given.values option.Accuracy) accuracy.0 accuracy.1 in
       subst WorkHasRanges same (record { accuracy_least = omega (arith, close.0); accuracy_most = close.1; budget = budget_in_range })
 
   either_in_range : (file : Option Word) → from_file_or_tables out file terms given ≡ Some work → WorkHasRanges work
   either_in_range None is = tables_in_range is
-  either_in_range (Some file) is = let made = request_if (stats_file_is_compatible given) (works.PlanFromStats file terms) work is in subst WorkHasRanges made.1 budget_in_range
+  either_in_range (Some file) is = let made = request_if (stats_file_is_compatible given) (query_tasks.PlanFromStats file terms) work is in subst WorkHasRanges made.1 budget_in_range
 
   work_in_range : work_given out terms given ≡ Some work → WorkHasRanges work
   work_in_range is = let file = bind_inversion (option_file (given.values option.Stats)) _ work is in either_in_range file.0 file.2
@@ -116,9 +116,9 @@ over_files_in_range out (schema ∷ query ∷ []) given r is =
 over_files_in_range out (schema ∷ query ∷ more ∷ positionals) given r is = absurd (cc)
 
 accuracy_has : (accuracy : Option ℕ) (schema query : Word) (r : Command) → ((n : ℕ) → accuracy ≡ Some n → (1 ≤ n) × (n ≤ 64))
-    → option_map (λ a. over_query None schema query (works.WriteStats a)) accuracy ≡ Some r → IsAsked r
+    → option_map (λ a. over_query None schema query (query_tasks.WriteStats a)) accuracy ≡ Some r → IsAsked r
 accuracy_has None schema query r close is = absurd (cc)
-accuracy_has (Some a) schema query r close is = let same : over_query None schema query (works.WriteStats a) ≡ r = cc in subst IsAsked same (asked_without_shop (over_query None schema query (works.WriteStats a)) refl (omega (arith, (close a refl).0), (close a refl).1))
+accuracy_has (Some a) schema query r close is = let same : over_query None schema query (query_tasks.WriteStats a) ≡ r = cc in subst IsAsked same (asked_without_shop (over_query None schema query (query_tasks.WriteStats a)) refl (omega (arith, (close a refl).0), (close a refl).1))
 
 stats_in_range : (positionals : List Word) (given : Given) (r : Command) → stats_request positionals given ≡ Some r → IsAsked r
 stats_in_range [] given r is = absurd (cc)
@@ -169,7 +169,7 @@ asked_in_range : (words : List Word) (r : Command) → command_of words ≡ Some
 unfolding command_of
 asked_in_range words r is = read_in_range (reading_of words) r is
 
-pub in_range : (words : List Word) (r : Command) → command_of words ≡ Some r → HasRanges r.aim
+pub in_range : (words : List Word) (r : Command) → command_of words ≡ Some r → HasRanges r.schema_task
 in_range words r is = (asked_in_range words r is).ranges
 
 pub demo_of_shop : (words : List Word) (r : Command) → command_of words ≡ Some r → (number : ℕ) → r.shop ≡ Some number → r ≡ demo_of number

@@ -20,7 +20,7 @@ use Rattle.safebound_words.specs.declared.command.OutText.{OutText}
 use Rattle.safebound_words.specs.declared.command.OutText.TheVariants as out_text
 use Rattle.safebound_words.specs.declared.command.PlanTerms.{PlanTerms}
 use Rattle.safebound_words.specs.declared.command.QueryTask.{QueryTask}
-use Rattle.safebound_words.specs.declared.command.QueryTask.TheVariants as works
+use Rattle.safebound_words.specs.declared.command.QueryTask.TheVariants as query_tasks
 use Rattle.safebound_words.specs.declared.table.CommandName.{CommandName}
 use Rattle.safebound_words.specs.declared.table.CommandName.TheVariants as command
 use Rattle.safebound_words.specs.declared.table.FlagName.{FlagName}
@@ -211,7 +211,7 @@ module _ (out : OutText) (terms : PlanTerms) (given : Given) where
   abbrev by_count : ℕ → Bool → Bool → Bool → Option QueryTask
   by_count accuracy reduce keys count = if keys && reduce then None
       else if count && not (count_is_compatible given reduce keys) then None
-      else Some (works.Plan (record { terms = terms; accuracy = accuracy; source = source_by reduce keys count; out = out }))
+      else Some (query_tasks.Plan (record { terms = terms; accuracy = accuracy; source = source_by reduce keys count; out = out }))
 
   abbrev by_keys : ℕ → Bool → Bool → Option QueryTask
   by_keys accuracy reduce keys = flag_value (given.times flag.Count) >>= λ count. by_count accuracy reduce keys count
@@ -324,7 +324,7 @@ module _ (out : OutText) (given : Given) where
 stats_refuse_second_accuracy : (positionals : List Word) (given : Given) → 1 < length (given.values option.Accuracy) → stats_request positionals given ≡ None
 stats_refuse_second_accuracy [] given many = refl
 stats_refuse_second_accuracy (a ∷ []) given many = refl
-stats_refuse_second_accuracy (a ∷ b ∷ []) given many = ap (option_map (λ accuracy. over_query None a b (works.WriteStats accuracy))) (no_value_if_given_twice option.Accuracy (given.values option.Accuracy) many)
+stats_refuse_second_accuracy (a ∷ b ∷ []) given many = ap (option_map (λ accuracy. over_query None a b (query_tasks.WriteStats accuracy))) (no_value_if_given_twice option.Accuracy (given.values option.Accuracy) many)
 stats_refuse_second_accuracy (a ∷ b ∷ d ∷ rest) given many = refl
 
 flag_refused : (name : CommandName) (f : FlagName) (positionals : List Word) (given : Given) → IsTrue (has_flag name f) → 1 < given.times f

@@ -17,7 +17,7 @@ use Rattle.safebound_words.specs.declared.command.OutText.{OutText}
 use Rattle.safebound_words.specs.declared.command.OutText.TheVariants as out_text
 use Rattle.safebound_words.specs.declared.command.PlanTerms.{PlanTerms}
 use Rattle.safebound_words.specs.declared.command.QueryTask.{QueryTask}
-use Rattle.safebound_words.specs.declared.command.QueryTask.TheVariants as works
+use Rattle.safebound_words.specs.declared.command.QueryTask.TheVariants as query_tasks
 use Rattle.safebound_words.specs.declared.table.CommandName.{CommandName}
 use Rattle.safebound_words.specs.declared.table.CommandName.TheVariants as command
 use Rattle.safebound_words.specs.declared.table.FlagName.{FlagName}
@@ -176,7 +176,7 @@ module _ (out : OutText) (terms : PlanTerms) (given : Given) (work : QueryTask) 
 
   file_options_given_once : (file : Word) → from_file file terms given ≡ Some work → AreSourcesGivenOnce given
   file_options_given_once file is =
-      let alone = asked_if (stats_file_is_compatible given) (works.PlanFromStats file terms) work is in
+      let alone = asked_if (stats_file_is_compatible given) (query_tasks.PlanFromStats file terms) work is in
       let first = both_true (length (given.values option.Accuracy) == 0) _ alone in
       let second = both_true (given.times flag.Reduce == 0) _ first.1 in
       let third = both_true (given.times flag.Keys == 0) (given.times flag.Count == 0) second.1 in
@@ -217,7 +217,7 @@ stats_options_given_once : (positionals : List Word) (given : Given) (r : Comman
 stats_options_given_once [] given r is = absurd (cc)
 stats_options_given_once (schema ∷ []) given r is = absurd (cc)
 stats_options_given_once (schema ∷ query ∷ []) given r is =
-    let accuracy = map_inversion (λ a. over_query None schema query (works.WriteStats a)) (value_of option.Accuracy (given.values option.Accuracy)) r is in
+    let accuracy = map_inversion (λ a. over_query None schema query (query_tasks.WriteStats a)) (value_of option.Accuracy (given.values option.Accuracy)) r is in
     (refl, one_value option.Accuracy (given.values option.Accuracy) accuracy.0 accuracy.1)
 stats_options_given_once (schema ∷ query ∷ more ∷ positionals) given r is = absurd (cc)
 

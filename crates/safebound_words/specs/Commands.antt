@@ -2,7 +2,7 @@
 use Rattle.std.specs.Prelude.{ℕ, Bool, false, true, codes, Option, None, Some}
 use Rattle.limits.specs.Profile.{most_budget, most_rows, default_accuracy, default_budget}
 use Rattle.safebound_words.specs.Words.{Word}
-use Rattle.safebound_words.specs.declared.command.SchemaTask.TheVariants as aims
+use Rattle.safebound_words.specs.declared.command.SchemaTask.TheVariants as schema_tasks
 use Rattle.safebound_words.specs.declared.command.Command.{Command}
 use Rattle.safebound_words.specs.declared.command.ListSource.{ListSource}
 use Rattle.safebound_words.specs.declared.command.ListSource.TheVariants as sources
@@ -13,16 +13,16 @@ use Rattle.safebound_words.specs.declared.command.PlanTerms.{PlanTerms}
 use Rattle.safebound_words.specs.declared.command.Shape.{Shape}
 use Rattle.safebound_words.specs.declared.command.Shape.TheVariants as shapes
 use Rattle.safebound_words.specs.declared.command.QueryTask.{QueryTask}
-use Rattle.safebound_words.specs.declared.command.QueryTask.TheVariants as works
+use Rattle.safebound_words.specs.declared.command.QueryTask.TheVariants as query_tasks
 
 -- the command to do `work` on the query in a file, over the schema in a file. If `shop` is Some n, both files are generated, for the example
 -- shop number n
 abbrev pub over_query : Option ℕ → Word → Word → QueryTask → Command
-over_query shop schema query work = record { schema_file = schema; aim = aims.Query query work; shop = shop }
+over_query shop schema query work = record { schema_file = schema; schema_task = schema_tasks.Query query work; shop = shop }
 
 -- the command to append new rows of a table to a statistics file
 abbrev pub append_command : Word → NewRows → Command
-append_command schema rows = record { schema_file = schema; aim = aims.Append rows; shop = None }
+append_command schema rows = record { schema_file = schema; schema_task = schema_tasks.Append rows; shop = None }
 
 -- the source of bounds, from the flags `--reduce`, `--keys` and `--count`. A command has at most one of these flags. Without them the source is the
 -- statistics of whole columns
@@ -45,7 +45,7 @@ terms_by budget bushy memory = record { budget = budget; shape = shape_by bushy;
 -- memory, if there is one
 abbrev pub plan_work : OutText → ℕ → ℕ → ListSource → Bool → Option ℕ → QueryTask
 plan_work out budget accuracy source bushy memory =
-    works.Plan (record { terms = terms_by budget bushy memory; accuracy = accuracy; source = source; out = out })
+    query_tasks.Plan (record { terms = terms_by budget bushy memory; accuracy = accuracy; source = source; out = out })
 
 -- `plan_work` with the source of bounds that the flags `--reduce` and `--keys` ask for, without `--count`
 abbrev pub plan_by : OutText → ℕ → ℕ → Bool → Bool → Bool → Option ℕ → QueryTask

@@ -11,7 +11,7 @@ use Rattle.safebound_words.specs.declared.command.OutText.{OutText}
 use Rattle.safebound_words.specs.declared.command.OutText.TheVariants as out_text
 use Rattle.safebound_words.specs.declared.command.PlanTerms.{PlanTerms}
 use Rattle.safebound_words.specs.declared.command.QueryTask.{QueryTask}
-use Rattle.safebound_words.specs.declared.command.QueryTask.TheVariants as works
+use Rattle.safebound_words.specs.declared.command.QueryTask.TheVariants as query_tasks
 use Rattle.safebound_words.specs.declared.table.CommandName.{CommandName}
 use Rattle.safebound_words.specs.declared.table.CommandName.TheVariants as command
 use Rattle.safebound_words.specs.declared.table.FlagName.{FlagName}
@@ -122,7 +122,7 @@ over_tables out terms given = do
   count ← flag_value (given.times flag.Count)
   if keys && reduce then None
       else if count && not (count_is_compatible given reduce keys) then None
-      else Some (works.Plan (record { terms = terms; accuracy = accuracy; source = source_by reduce keys count; out = out }))
+      else Some (query_tasks.Plan (record { terms = terms; accuracy = accuracy; source = source_by reduce keys count; out = out }))
 
 -- whether neither an accuracy nor another source of bounds is given: a statistics file has its own accuracy
 abbrev pub stats_file_is_compatible : Given → Bool
@@ -131,7 +131,7 @@ stats_file_is_compatible given =
 
 -- a plan from a statistics file
 abbrev pub from_file : Word → PlanTerms → Given → Option QueryTask
-from_file file terms given = if stats_file_is_compatible given then Some (works.PlanFromStats file terms) else None
+from_file file terms given = if stats_file_is_compatible given then Some (query_tasks.PlanFromStats file terms) else None
 
 -- a plan from a statistics file if one is given, otherwise a plan over tables
 abbrev pub from_file_or_tables : OutText → Option Word → PlanTerms → Given → Option QueryTask
@@ -151,7 +151,7 @@ over_files out positionals given = None
 
 -- `stats` takes exactly two positional words, SCHEMA and QUERY. It may have an accuracy
 abbrev pub stats_request : List Word → Given → Option Command
-stats_request (schema ∷ query ∷ []) given = option_map (λ accuracy. over_query None schema query (works.WriteStats accuracy)) (value_of option.Accuracy (given.values option.Accuracy))
+stats_request (schema ∷ query ∷ []) given = option_map (λ accuracy. over_query None schema query (query_tasks.WriteStats accuracy)) (value_of option.Accuracy (given.values option.Accuracy))
 stats_request positionals given = None
 
 -- `append` takes exactly four positional words: SCHEMA, STATS, TABLE and ROWS

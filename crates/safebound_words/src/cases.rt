@@ -4,9 +4,10 @@ ghost use Rattle.safebound_words.specs.Answer.{command_of};
 ghost use Rattle.safebound_words.specs.Commands.{demo_of, over_query, plan_by, plan_work, terms_by, append_command};
 ghost use Rattle.safebound_words.specs.declared.command.ListSource.TheVariants as sources;
 ghost use Rattle.safebound_words.specs.declared.command.OutText.TheVariants as out_text;
-ghost use Rattle.safebound_words.specs.declared.command.QueryTask.TheVariants as works;
+ghost use Rattle.safebound_words.specs.declared.command.QueryTask.TheVariants as query_tasks;
 
-/// Command lines with positional words: arguments that are neither options nor flags, and no option's value. This function does nothing.
+/// Command lines with positional words: arguments that are neither options nor flags, and no option's value. The function does nothing; its contract
+/// has the examples.
 pub fn small_commands()
     ensures run { command_of (codes "run" ∷ codes "s" ∷ codes "q" ∷ []) ≡ Some (over_query None (codes "s") (codes "q") (plan_by out_text.Rows 1000000 1 false false false None)) }
     ensures audit { command_of (codes "audit" ∷ codes "s" ∷ codes "q" ∷ []) ≡ Some (over_query None (codes "s") (codes "q") (plan_by out_text.Audit 1000000 1 false false false None)) }
@@ -24,7 +25,7 @@ pub fn small_commands()
     ensures number_behind { command_of (codes "demo" ∷ codes "--" ∷ codes "7" ∷ []) ≡ Some (demo_of 7) }
 {}
 
-/// Command lines with options. This function does nothing.
+/// Command lines with options. The function does nothing; its contract has the examples.
 pub fn small_options()
     ensures joined { command_of (codes "run" ∷ codes "--budget=12" ∷ codes "--" ∷ codes "s" ∷ codes "q" ∷ [])
         ≡ Some (over_query None (codes "s") (codes "q") (plan_by out_text.Rows 12 1 false false false None)) }
@@ -47,7 +48,7 @@ pub fn small_options()
     ensures sign { command_of (codes "run" ∷ codes "s" ∷ codes "q" ∷ codes "--budget=+5" ∷ []) ≡ None }
 {}
 
-/// Command lines that are refused. This function does nothing.
+/// Command lines that are refused. The function does nothing; its contract has the examples.
 pub fn small_refusals()
     ensures no_words { command_of [] ≡ None }
     ensures help { command_of (codes "--help" ∷ []) ≡ None }
@@ -64,7 +65,7 @@ pub fn small_refusals()
     ensures no_option { command_of (codes "demo" ∷ codes "7" ∷ codes "--budget" ∷ codes "12" ∷ []) ≡ None }
 {}
 
-/// Command lines with `--reduce`. This function does nothing.
+/// Command lines with `--reduce`. The function does nothing; its contract has the examples.
 pub fn small_flags()
     ensures behind { command_of (codes "run" ∷ codes "s" ∷ codes "q" ∷ codes "--reduce" ∷ [])
         ≡ Some (over_query None (codes "s") (codes "q") (plan_by out_text.Rows 1000000 1 true false false None)) }
@@ -82,7 +83,7 @@ pub fn small_flags()
     ensures letter_case { command_of (codes "run" ∷ codes "s" ∷ codes "q" ∷ codes "--Reduce" ∷ []) ≡ None }
 {}
 
-/// Command lines with `--bushy`. This function does nothing.
+/// Command lines with `--bushy`. The function does nothing; its contract has the examples.
 pub fn small_trees()
     ensures behind { command_of (codes "run" ∷ codes "s" ∷ codes "q" ∷ codes "--bushy" ∷ [])
         ≡ Some (over_query None (codes "s") (codes "q") (plan_by out_text.Rows 1000000 1 false true false None)) }
@@ -98,7 +99,7 @@ pub fn small_trees()
     ensures of_demo { command_of (codes "demo" ∷ codes "7" ∷ codes "--bushy" ∷ []) ≡ None }
 {}
 
-/// Command lines with `--keys`. This function does nothing.
+/// Command lines with `--keys`. The function does nothing; its contract has the examples.
 pub fn small_keys()
     ensures behind { command_of (codes "run" ∷ codes "s" ∷ codes "q" ∷ codes "--keys" ∷ [])
         ≡ Some (over_query None (codes "s") (codes "q") (plan_by out_text.Rows 1000000 1 false false true None)) }
@@ -119,7 +120,7 @@ pub fn small_keys()
     ensures of_a_file { command_of (codes "plan" ∷ codes "s" ∷ codes "q" ∷ codes "--stats=f" ∷ codes "--keys" ∷ []) ≡ None }
 {}
 
-/// Command lines with `--count`. This function does nothing.
+/// Command lines with `--count`. The function does nothing; its contract has the examples.
 pub fn small_counts()
     ensures behind { command_of (codes "run" ∷ codes "s" ∷ codes "q" ∷ codes "--count" ∷ [])
         ≡ Some (over_query None (codes "s") (codes "q") (plan_work out_text.Rows 1000000 1 sources.Counted false None)) }
@@ -140,14 +141,14 @@ pub fn small_counts()
     ensures accuracy { command_of (codes "audit" ∷ codes "s" ∷ codes "q" ∷ codes "--count" ∷ codes "--accuracy" ∷ codes "1" ∷ []) ≡ None }
 {}
 
-/// Command lines with the command `stats`, and those with `plan` and `--stats`. This function does nothing.
+/// Command lines with the command `stats`, and those with `plan` and `--stats`. The function does nothing; its contract has the examples.
 pub fn small_statistics()
-    ensures stats { command_of (codes "stats" ∷ codes "s" ∷ codes "q" ∷ codes "--accuracy" ∷ codes "8" ∷ []) ≡ Some (over_query None (codes "s") (codes "q") (works.WriteStats 8)) }
-    ensures usual { command_of (codes "stats" ∷ codes "s" ∷ codes "q" ∷ []) ≡ Some (over_query None (codes "s") (codes "q") (works.WriteStats 1)) }
+    ensures stats { command_of (codes "stats" ∷ codes "s" ∷ codes "q" ∷ codes "--accuracy" ∷ codes "8" ∷ []) ≡ Some (over_query None (codes "s") (codes "q") (query_tasks.WriteStats 8)) }
+    ensures usual { command_of (codes "stats" ∷ codes "s" ∷ codes "q" ∷ []) ≡ Some (over_query None (codes "s") (codes "q") (query_tasks.WriteStats 1)) }
     ensures plan { command_of (codes "plan" ∷ codes "s" ∷ codes "q" ∷ codes "--stats" ∷ codes "f" ∷ codes "--budget=5" ∷ [])
-        ≡ Some (over_query None (codes "s") (codes "q") (works.PlanFromStats (codes "f") (terms_by 5 false None))) }
+        ≡ Some (over_query None (codes "s") (codes "q") (query_tasks.PlanFromStats (codes "f") (terms_by 5 false None))) }
     ensures joined { command_of (codes "plan" ∷ codes "--stats=a=b" ∷ codes "s" ∷ codes "q" ∷ [])
-        ≡ Some (over_query None (codes "s") (codes "q") (works.PlanFromStats (codes "a=b") (terms_by 1000000 false None))) }
+        ≡ Some (over_query None (codes "s") (codes "q") (query_tasks.PlanFromStats (codes "a=b") (terms_by 1000000 false None))) }
 
     // The file's name isn't empty, and doesn't begin with a dash.
     ensures no_name { command_of (codes "plan" ∷ codes "s" ∷ codes "q" ∷ codes "--stats=" ∷ []) ≡ None }
@@ -157,12 +158,12 @@ pub fn small_statistics()
 
     // `--stats` can be combined with `--bushy`.
     ensures tree { command_of (codes "plan" ∷ codes "s" ∷ codes "q" ∷ codes "--stats=f" ∷ codes "--bushy" ∷ codes "--budget=5" ∷ [])
-        ≡ Some (over_query None (codes "s") (codes "q") (works.PlanFromStats (codes "f") (terms_by 5 true None))) }
+        ≡ Some (over_query None (codes "s") (codes "q") (query_tasks.PlanFromStats (codes "f") (terms_by 5 true None))) }
     ensures limited { command_of (codes "plan" ∷ codes "--bushy" ∷ codes "s" ∷ codes "q" ∷ codes "--memory=9" ∷ codes "--stats" ∷ codes "f" ∷ [])
-        ≡ Some (over_query None (codes "s") (codes "q") (works.PlanFromStats (codes "f") (terms_by 1000000 true (Some 9)))) }
+        ≡ Some (over_query None (codes "s") (codes "q") (query_tasks.PlanFromStats (codes "f") (terms_by 1000000 true (Some 9)))) }
     ensures past_most { command_of (codes "plan" ∷ codes "s" ∷ codes "q" ∷ codes "--stats=f" ∷ codes "--budget=4000001" ∷ codes "--bushy" ∷ []) ≡ None }
     ensures of_orders { command_of (codes "plan" ∷ codes "s" ∷ codes "q" ∷ codes "--stats=f" ∷ codes "--budget=4000001" ∷ [])
-        ≡ Some (over_query None (codes "s") (codes "q") (works.PlanFromStats (codes "f") (terms_by 4000001 false None))) }
+        ≡ Some (over_query None (codes "s") (codes "q") (query_tasks.PlanFromStats (codes "f") (terms_by 4000001 false None))) }
 
     // `--stats` can't be combined with another source of bounds or an accuracy. The command `stats` has only the option `--accuracy`.
     ensures accuracy { command_of (codes "plan" ∷ codes "s" ∷ codes "q" ∷ codes "--stats=f" ∷ codes "--accuracy=1" ∷ []) ≡ None }
@@ -173,7 +174,7 @@ pub fn small_statistics()
     ensures a_third { command_of (codes "stats" ∷ codes "s" ∷ codes "q" ∷ codes "f" ∷ []) ≡ None }
 {}
 
-/// Command lines with `--memory`. This function does nothing.
+/// Command lines with `--memory`. The function does nothing; its contract has the examples.
 pub fn small_limits()
     ensures run { command_of (codes "run" ∷ codes "s" ∷ codes "q" ∷ codes "--memory" ∷ codes "556" ∷ [])
         ≡ Some (over_query None (codes "s") (codes "q") (plan_by out_text.Rows 1000000 1 false false false (Some 556))) }
@@ -188,12 +189,12 @@ pub fn small_limits()
     ensures twice { command_of (codes "run" ∷ codes "--memory=5" ∷ codes "s" ∷ codes "q" ∷ codes "--memory=5" ∷ []) ≡ None }
     ensures no_number { command_of (codes "run" ∷ codes "s" ∷ codes "q" ∷ codes "--memory=5k" ∷ []) ≡ None }
     ensures of_a_file { command_of (codes "plan" ∷ codes "s" ∷ codes "q" ∷ codes "--stats=f" ∷ codes "--memory=5" ∷ [])
-        ≡ Some (over_query None (codes "s") (codes "q") (works.PlanFromStats (codes "f") (terms_by 1000000 false (Some 5)))) }
+        ≡ Some (over_query None (codes "s") (codes "q") (query_tasks.PlanFromStats (codes "f") (terms_by 1000000 false (Some 5)))) }
     ensures of_stats { command_of (codes "stats" ∷ codes "s" ∷ codes "q" ∷ codes "--memory=5" ∷ []) ≡ None }
     ensures of_demo { command_of (codes "demo" ∷ codes "7" ∷ codes "--memory=5" ∷ []) ≡ None }
 {}
 
-/// Command lines with the command `append`. This function does nothing.
+/// Command lines with the command `append`. The function does nothing; its contract has the examples.
 pub fn small_appends()
     ensures append { command_of (codes "append" ∷ codes "s" ∷ codes "f" ∷ codes "T" ∷ codes "n" ∷ [])
         ≡ Some (append_command (codes "s") (record { stats_file = (codes "f"); table = (codes "T"); rows_file = (codes "n") })) }

@@ -86,7 +86,7 @@ pub enum SchemaTask<'a> {
 #[derive(Debug, Drop)]
 pub struct Command<'a> {
     pub schema_file: Word<'a>,
-    pub aim: SchemaTask<'a>,
+    pub schema_task: SchemaTask<'a>,
     pub shop: Option<u32>,
 }
 

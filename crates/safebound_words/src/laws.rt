@@ -1,5 +1,5 @@
 //! Laws of the definitions. These functions do nothing.
-ghost use Rattle.std.specs.Prelude.{◌≡◌, ◌↔◌, ℕ, List, Some};
+ghost use Rattle.std.specs.Prelude.{◌≡◌, ◌↔◌, List, Some};
 ghost use Rattle.safebound_words.specs.Answer.{command_of};
 ghost use Rattle.safebound_words.specs.CommandLines.{AskFor, CommandReading, AreReadAs};
 ghost use Rattle.safebound_words.specs.declared.command.Command.{Command};

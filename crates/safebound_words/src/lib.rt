@@ -4,7 +4,7 @@
 //! memory. A command says which text is written to `out`, and from which source bounds are computed. It also says whether the plan is an order or a
 //! tree.
 //!
-//! Contracts see a word as its bytes. `AskFor` (in `specs/CommandLines.antt`) says which command words ask for, and `command_of` computes it.
+//! In contracts a word is its bytes. `AskFor` (in `specs/CommandLines.antt`) says which command words ask for, and `command_of` computes it.
 //! `HasRanges` (in `specs/InRange.antt`) gives the ranges of a command's values. All commands, options and flags are in one table,
 //! `specs/Table.antt`.
 #![tactic(auto)]

@@ -1,7 +1,7 @@
 //! Reads the words after the command's name (`run`, `plan`, ..), from left to right.
-ghost use Rattle.std.specs.Prelude.{◌≡◌, ◌+◌, ◌∷◌, ◌++◌, ℕ, [], length, List, map, if◌then◌else◌, IfOk, IfErr, IsTrue, None, false, true, OnErr, OnOk};
+ghost use Rattle.std.specs.Prelude.{◌≡◌, ◌+◌, ◌∷◌, ◌++◌, [], length, List, map, if◌then◌else◌, IfOk, None, false, true, OnErr, OnOk};
 ghost use Rattle.safebound_words.specs.Collected.{asked_by, asked_from, collected, FitsNext, given_to, option_words, times_of, words_of};
-ghost use Rattle.safebound_words.specs.CommandLines.{has_option, same_flag, same_option};
+ghost use Rattle.safebound_words.specs.CommandLines.{same_flag, same_option};
 ghost use Rattle.safebound_words.specs.Words.{Word};
 
 use crate::command::WordsError;

@@ -74,7 +74,7 @@ fn query_command<'a>(schema: &'a str, query: &'a str, work: QueryTask<'a>) -> Co
 {
     Command {
         schema_file: Word::new(schema),
-        aim: SchemaTask::Query {
+        schema_task: SchemaTask::Query {
             file: Word::new(query),
             work,
         },
@@ -193,7 +193,7 @@ fn append_of<'a>(line: &Line<'a>) -> Option<Command<'a>>
     };
     Some(Command {
         schema_file: Word::new(schema),
-        aim: SchemaTask::Append(NewRows {
+        schema_task: SchemaTask::Append(NewRows {
             stats_file: Word::new(stats),
             table: Word::new(table),
             rows_file: Word::new(rows),

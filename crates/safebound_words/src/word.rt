@@ -3,7 +3,7 @@ ghost use Rattle.std.specs.Prelude.{◌≡◌};
 
 use std::marker::Model;
 
-/// A word of a command line. Contracts see it as its bytes.
+/// A word of a command line. In contracts it is its bytes.
 #[derive(Debug, Drop)]
 pub struct Word<'a> {
     text: &'a str,

@@ -36,7 +36,7 @@ pub fn read_words<'a>(words: &[&'a str]) -> Result<Command<'a>, WordsError>
 
     // The result is what `command_of_words` computes from the words.
     ensures answer { result_ok result ≡ command_of_words (map (λ w. w.now) words.now) }
-    ensures ranges { IfOk result (λ command. HasRanges command.aim) }
+    ensures ranges { IfOk result (λ command. HasRanges command.schema_task) }
     ensures few { OnOk result (length words.now ≤ MOST_WORDS) }
 {
     match command_in(words) {

@@ -1,9 +1,9 @@
 -- Keys and references of a schema give columns by their numbers. Each of these numbers is less than the number of columns of its table.
-use Rattle.std.proofs.Common.{◌≡◌, ℕ, zero, suc, ◌+◌, ◌<◌, ◌≤◌, List, [], ◌∷◌, ◌++◌, length, map, Option, Some, None, All, refl, sym, ◌∙◌, ap, subst, arith}
+use Rattle.std.proofs.Common.{◌≡◌, ℕ, zero, suc, ◌<◌, List, [], ◌∷◌, length, map, Option, Some, None, All, refl, sym, ◌∙◌, ap, subst, arith}
 use Rattle.std.specs.List.{flat_map, slice_get}
 use Rattle.std.specs.Option.{unwrap_or, option_map, option_and_then}
 use Rattle.std.proofs.lemmas.List.{length-map}
-use Rattle.std.proofs.lemmas.List.Elements.{All-nil, All-cons, All-append, All-map, All-weaker, All-same}
+use Rattle.std.proofs.lemmas.List.Elements.{All-nil, All-cons, All-append, All-map, All-same}
 use Rattle.std.proofs.lemmas.Option.{slice_get-map, slice_get_within, get_or_from_slice_get}
 use Rattle.ll_grammars.specs.declared.lexeme.Lexeme.{Lexeme}
 use Rattle.schema_grammar.specs.declared.tree.TargetNode.{TargetNode}
@@ -13,9 +13,8 @@ use Rattle.schema_grammar.specs.declared.tree.TableConstraintNode.TheVariants as
 use Rattle.schema_grammar.specs.declared.tree.Element.{Element}
 use Rattle.schema_grammar.specs.declared.tree.Element.TheVariants as element
 use Rattle.schema_grammar.specs.declared.tree.TableNode.{TableNode}
-use Rattle.schema_types.specs.declared.types.Reference.{Reference}
 use Rattle.schema_types.specs.declared.types.Table.{Table}
-use Rattle.schema_types.specs.Declarations.{columns, column_names, referenced_columns, target_number, target_table, table_names}
+use Rattle.schema_types.specs.Declarations.{columns, column_names, referenced_columns, target_number, table_names}
 use Rattle.schema_types.specs.Meaning.{column_of, element_column, rule_keys, element_keys, target_column_numbers, reference_of, rule_references, element_references, table_of}
 use Rattle.schema_types.specs.Names.{index_of_name}
 use Rattle.schema_types.specs.Numbers.{number_of_name, number_of_column, numbers_of_columns}

@@ -5,7 +5,7 @@ use Rattle.std.proofs.lemmas.List.Elements.{All-cons}
 use Rattle.ll_grammars.specs.declared.lexeme.Lexeme.{Lexeme}
 use Rattle.ll_grammars.specs.declared.terminal.Terminal.TheVariants as terminal
 use Rattle.ll_grammars.specs.Language.{Language}
-use Rattle.ll_grammars.specs.Rules.{first_and_others, second, middle, in_parentheses, listed}
+use Rattle.ll_grammars.specs.Rules.{first_and_others, second, middle, in_parentheses}
 use Rattle.ll_grammars.specs.Preserving.{Preserves}
 use Rattle.ll_grammars.proofs.Preserving.{preserves_one, preserves_then, preserves_mapped, preserves_union, preserves_many}
 use Rattle.schema_grammar.specs.declared.tree.TableConstraintNode.{TableConstraintNode}

@@ -1,12 +1,11 @@
 -- The schema of a text is valid.
-use Rattle.std.proofs.Common.{◌≡◌, ◌≢◌, ℕ, zero, suc, ◌+◌, ◌<◌, ◌≤◌, ◌⊎◌, Bool, true, false, not, ◌||◌, cond, List, [], ◌∷◌, ◌++◌, length, get_or, map, Option, Some, None, is_none, Result, Ok, Err, All, refl, sym, ◌∙◌, ap, subst, inl, inr, append_assoc, arith}
-use Rattle.std.specs.Prelude.{AllPairs, IfOk, IsTrue, nat_lt}
-use Rattle.std.specs.List.{flat_map, list_any}
+use Rattle.std.proofs.Common.{◌≡◌, ◌≢◌, ℕ, zero, suc, ◌+◌, ◌<◌, ◌≤◌, Bool, true, false, not, ◌||◌, List, [], ◌∷◌, ◌++◌, length, get_or, map, is_none, Result, Ok, Err, All, refl, sym, ◌∙◌, ap, subst, append_assoc, arith}
+use Rattle.std.specs.Prelude.{IfOk, nat_lt}
 use Rattle.std.proofs.lemmas.List.{append-nil, length-map, map-append}
 use Rattle.std.proofs.lemmas.List.Concat.{flat_map-append}
-use Rattle.std.proofs.lemmas.List.Elements.{All-nil, All-cons, All-map, All-weaker, filter-append}
+use Rattle.std.proofs.lemmas.List.Elements.{All-nil, All-cons, All-map, filter-append}
 use Rattle.std.proofs.lemmas.List.Quantifiers.{all_pairs_push}
-use Rattle.std.proofs.lemmas.Bool.{or_parts, cases_Bool}
+use Rattle.std.proofs.lemmas.Bool.{or_parts}
 use Rattle.std.proofs.lemmas.Slice.Eq.{bytes_eq-Decides}
 use Rattle.std.specs.Str.{bytes_eq}
 use Rattle.ll_grammars.specs.declared.lexeme.Lexeme.{Lexeme}
@@ -17,18 +16,17 @@ use Rattle.schema_grammar.specs.declared.tree.Element.TheVariants as element
 use Rattle.schema_grammar.specs.declared.tree.TableNode.{TableNode}
 use Rattle.sql_tokens.specs.Words.{name_of}
 use Rattle.schema_types.specs.declared.types.Schema.{Schema}
-use Rattle.schema_types.specs.declared.types.Table.{Table}
 use Rattle.schema_types.specs.declared.errors.SchemaError.{SchemaError}
-use Rattle.schema_types.specs.Declarations.{columns, column_names, table_names, element_columns}
-use Rattle.schema_types.specs.Meaning.{element_column, table_of, schema_of, unless_found, if_within_limits, schema_or_refusal}
+use Rattle.schema_types.specs.Declarations.{columns, column_names, table_names}
+use Rattle.schema_types.specs.Meaning.{table_of, schema_of, unless_found, if_within_limits, schema_or_refusal}
 use Rattle.schema_types.specs.Names.{first, list_if, index_of_name, flat_map_with_earlier, flat_map_with_all_earlier}
-use Rattle.schema_types.specs.Offences.{is_one_of, is_taken, listed_offences, list_offences, column_offences, table_rule_offences, element_offences, table_offences, target_offences, offences}
+use Rattle.schema_types.specs.Offences.{is_taken, listed_offences, list_offences, column_offences, table_rule_offences, element_offences, table_offences, target_offences, offences}
 use Rattle.schema_types.specs.Refusals.{numbers_above, column_counts, nullable_offsets, text_lengths}
 use Rattle.schema_types.specs.Texts.{Declares, IsSchemaOf}
-use Rattle.schema_types.specs.Validity.{upper_case, NamesAreDifferent, has_only_word_bytes, AreColumnsOf, IsReference, IsValidTable, IsValid}
+use Rattle.schema_types.specs.Validity.{upper_case, NamesAreDifferent, has_only_word_bytes, IsReference, IsValidTable, IsValid}
 use Rattle.schema_types.proofs.Above.{empty_left, empty_right, not_above}
 use Rattle.schema_types.proofs.Bounds.{names_of_columns, count_of_columns, keys_valid, references_valid, HasColumns}
-use Rattle.schema_types.proofs.Filled.{IsNotEmpty, ConstraintHasColumns, ElementHasColumns, FirstElementHasColumns, TableHasColumns, AreTablesWithColumns, tables_have_columns}
+use Rattle.schema_types.proofs.Filled.{IsNotEmpty, ConstraintHasColumns, FirstElementHasColumns, TableHasColumns, AreTablesWithColumns, tables_have_columns}
 
 -- ---- lists without offences
 

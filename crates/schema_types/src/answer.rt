@@ -1,5 +1,5 @@
 //! Makes the schema of the tables, or finds the first refusal.
-ghost use Rattle.std.specs.Prelude.{◌≡◌, All, Ok};
+ghost use Rattle.std.specs.Prelude.{All, Ok};
 ghost use Rattle.sql_tokens.specs.Words.{IsLexemeOf};
 ghost use Rattle.schema_grammar.specs.Lexemes.{IsTableWith};
 ghost use Rattle.schema_types.specs.Answers.{Answers};

@@ -1,10 +1,10 @@
 //! Finds the keys and references that tables declare.
-ghost use Rattle.std.specs.Prelude.{◌≡◌, ℕ, ◌++◌, [], List, All, IfOk, OnOk, Some, map};
+ghost use Rattle.std.specs.Prelude.{◌≡◌, ◌++◌, All, IfOk, OnOk, Some};
 ghost use Rattle.std.specs.List.{flat_map};
 ghost use Rattle.ll_grammars.specs.declared.lexeme.Lexeme.{Lexeme};
 ghost use Rattle.sql_tokens.specs.Words.{IsLexemeOf};
 ghost use Rattle.schema_grammar.specs.declared.tree.TableNode.{TableNode};
-ghost use Rattle.schema_grammar.specs.Lexemes.{IsNameWith, IsTargetWith, IsTypeWith, IsColumnConstraintWith, IsColumnWith, IsTableConstraintWith, IsElementWith, IsTableWith};
+ghost use Rattle.schema_grammar.specs.Lexemes.{IsNameWith, IsTargetWith, IsColumnConstraintWith, IsColumnWith, IsTableConstraintWith, IsElementWith};
 ghost use Rattle.schema_types.specs.Index.{table_index};
 ghost use Rattle.schema_types.specs.Meaning.{rule_keys, column_keys, table_rule_keys, element_keys, target_column_numbers, reference_of, rule_references, column_references, table_rule_references, element_references};
 ghost use Rattle.schema_types.specs.Numbers.{number_of_column, numbers_of_columns};

@@ -10,7 +10,7 @@ use std::alloc::Global;
 use std::collections::HashMap;
 use std::marker::Model;
 
-/// A list of names that finds the first index of a name with one look-up. Contracts see a name as its bytes.
+/// A list of names that finds the first index of a name with one look-up. In contracts a name is its bytes.
 #[derive(Drop)]
 pub struct NameList {
     names: Vec<String>,

@@ -1,5 +1,5 @@
 //! Reads a schema text.
-ghost use Rattle.std.specs.Prelude.{◌≡◌, ◌≤◌, All, IfOk, IfErr, length};
+ghost use Rattle.std.specs.Prelude.{◌≤◌, All, IfOk, IfErr, length};
 ghost use Rattle.limits.specs.Profile.{most_text};
 ghost use Rattle.sql_tokens.specs.Words.{IsLexemeOf};
 ghost use Rattle.schema_types.specs.Answers.{AreLexemes, IsLexRefusal};

@@ -1,5 +1,5 @@
 //! Checks the limits on tables, columns and lengths of texts.
-ghost use Rattle.std.specs.Prelude.{◌≡◌, [], ◌∷◌, All, length};
+ghost use Rattle.std.specs.Prelude.{[], ◌∷◌, All, length};
 ghost use Rattle.std.specs.List.{flat_map};
 ghost use Rattle.limits.specs.Profile.{most_columns, most_length, most_tables};
 ghost use Rattle.sql_tokens.specs.Words.{IsLexemeOf};

@@ -9,3 +9,4 @@ pub mod Skipping
 pub mod Within
 pub mod OneTurn
 pub mod OnCycles
+pub mod Neighbours

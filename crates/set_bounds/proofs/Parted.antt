@@ -25,7 +25,7 @@ use Rattle.set_bounds.specs.Parts.{AreUnjoined, ConsistsOfParts}
 use Rattle.set_bounds.proofs.Forests.{AreAmong, all_in, among_rotated, each, forest_kept, forest_within, rotated_among, within_of}
 use Rattle.set_bounds.proofs.SameTrees.{CarriesTrees, classes_among, forest_set, places_where, tree_carries}
 
--- ---- members and lengths of filtered lists
+-- ---- members of filtered lists
 
 in_filter : {X : Type 0} (p : X → Bool) (xs : List X) (x : X) → Contains xs x → p x ≡ true → Contains (filter p xs) x
 in_filter p [] x k t = absurd (not_in_empty x k)
@@ -59,11 +59,11 @@ filter_every p (x ∷ xs) h = rw h.0 (ap (λ ys. x ∷ ys) (filter_every p xs h.
 
 -- ---- equalities of a set, and of a part of it
 
-abbrev count : Bool → ℕ
-count true = 1
-count false = 0
+abbrev one_if : Bool → ℕ
+one_if true = 1
+one_if false = 0
 
-one_or_none : (a b : Bool) → count a ≡ count b → a ≡ b
+one_or_none : (a b : Bool) → one_if a ≡ one_if b → a ≡ b
 one_or_none true true e = refl
 one_or_none true false e = absurd (omega (arith, e))
 one_or_none false true e = absurd (omega (arith, e))
@@ -109,8 +109,8 @@ module _ (es : List Edge) (subset part : ℕ) (forest : ClosesNoCycle (equalitie
   side_of_class : (p q : Place) → class_of kept_whole p ≡ class_of kept_whole q → side p.entry ≡ side q.entry
   side_of_class p q e =
       one_or_none (side p.entry) (side q.entry)
-      (same_class_same_keys kept_whole p q e (λ entry column. count (side entry))
-      (all_in (λ (f : Edge). count (side f.left.entry) ≡ count (side f.right.entry)) kept_whole (λ f k. ap count (same_side f k))))
+      (same_class_same_keys kept_whole p q e (λ entry column. one_if (side entry))
+      (all_in (λ (f : Edge). one_if (side f.left.entry) ≡ one_if (side f.right.entry)) kept_whole (λ f k. ap one_if (same_side f k))))
 
   class_in_part : (p q : Place) → side p.entry ≡ true → class_of kept_whole p ≡ class_of kept_whole q → class_of kept_part p ≡ class_of kept_part q
   class_in_part p q own e = class_of-joined kept_part p q there
@@ -214,32 +214,32 @@ in_two b p q (t ∷ ts) h = elim (cases_Bool (p t)) [
 ]
 
 rest_within : (es : List Edge) (subset part rest : ℕ) → ConsistsOfParts es subset part rest → IsSubset rest subset
-rest_within es subset part rest falls x has = (and_parts (has_entry subset x) (not (has_entry part x)) (sym (falls.others x) ∙ has)).0
+rest_within es subset part rest parted x has = (and_parts (has_entry subset x) (not (has_entry part x)) (sym (parted.others x) ∙ has)).0
 
 rest_unjoined : (es : List Edge) (subset part rest : ℕ) → ConsistsOfParts es subset part rest → AreUnjoined es subset rest
-rest_unjoined es subset part rest falls = all_in (λ (e : Edge). has_entry rest e.left.entry ≡ has_entry rest e.right.entry) (equalities_within subset es) at
+rest_unjoined es subset part rest parted = all_in (λ (e : Edge). has_entry rest e.left.entry ≡ has_entry rest e.right.entry) (equalities_within subset es) at
   where
     at : (e : Edge) → Contains (equalities_within subset es) e → has_entry rest e.left.entry ≡ has_entry rest e.right.entry
     at e k =
         let ends : (has_entry subset e.left.entry ≡ true) × (has_entry subset e.right.entry ≡ true) =
         and_parts (has_entry subset e.left.entry) (has_entry subset e.right.entry) (from_filter (joins_within subset) es e k).1 in
         let same : has_entry part e.left.entry ≡ has_entry part e.right.entry =
-        each (λ (f : Edge). has_entry part f.left.entry ≡ has_entry part f.right.entry) (equalities_within subset es) falls.unjoined e k in
-        falls.others e.left.entry ∙ ap (λ c. c && not (has_entry part e.left.entry)) (ends.0 ∙ sym ends.1) ∙ ap (λ c. has_entry subset e.right.entry && not c) same ∙ sym (falls.others e.right.entry)
+        each (λ (f : Edge). has_entry part f.left.entry ≡ has_entry part f.right.entry) (equalities_within subset es) parted.unjoined e k in
+        parted.others e.left.entry ∙ ap (λ c. c && not (has_entry part e.left.entry)) (ends.0 ∙ sym ends.1) ∙ ap (λ c. has_entry subset e.right.entry && not c) same ∙ sym (parted.others e.right.entry)
 
 pub parts_multiply : (b : EntryBounds) (es : List Edge) (subset part rest : ℕ) → ClosesNoCycle (equalities_within subset es) → ConsistsOfParts es subset part rest
     → bound_of_set b es subset ≡ bound_of_set b es part * bound_of_set b es rest
-parts_multiply b es subset part rest forest falls =
+parts_multiply b es subset part rest forest parted =
     forest_set b es subset forest
     ∙ in_two b (λ t. has_entry part t.root) (λ t. has_entry rest t.root) ts (all_in (λ (t : BergeTree). has_entry rest t.root ≡ not (has_entry part t.root)) ts at)
-    ∙ ap (λ m. m * bound_of_trees b (filter (λ (t : BergeTree). has_entry rest t.root) ts)) (sym (part_bound es subset part forest falls.within falls.unjoined b) ∙ sym (forest_set b es part (forest_within es part subset falls.within forest)))
+    ∙ ap (λ m. m * bound_of_trees b (filter (λ (t : BergeTree). has_entry rest t.root) ts)) (sym (part_bound es subset part forest parted.within parted.unjoined b) ∙ sym (forest_set b es part (forest_within es part subset parted.within forest)))
     ∙ ap (λ m. bound_of_set b es part * m) (sym (part_bound es subset rest forest within unjoined b) ∙ sym (forest_set b es rest (forest_within es rest subset within forest)))
   where
     within : IsSubset rest subset
-    within = rest_within es subset part rest falls
+    within = rest_within es subset part rest parted
 
     unjoined : AreUnjoined es subset rest
-    unjoined = rest_unjoined es subset part rest falls
+    unjoined = rest_unjoined es subset part rest parted
 
     ts : List BergeTree
     ts = trees_of (kept_of subset 0 es) subset
@@ -257,4 +257,4 @@ parts_multiply b es subset part rest forest falls =
     at : (t : BergeTree) → Contains ts t → has_entry rest t.root ≡ not (has_entry part t.root)
     at t k =
         let inside : has_entry subset t.root ≡ true = set_entries subset t.root (each (Contains (entries_of_set subset)) (entries_of_all ts) all.within t.root (root_in ts t k)) in
-        falls.others t.root ∙ ap (λ c. c && not (has_entry part t.root)) inside
+        parted.others t.root ∙ ap (λ c. c && not (has_entry part t.root)) inside

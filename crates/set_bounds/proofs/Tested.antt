@@ -17,9 +17,10 @@ use Rattle.tree_bounds.specs.SetBounds.{bound_of_set}
 use Rattle.tree_bounds.specs.TreeBounds.{EntryBounds}
 use Rattle.set_bounds.specs.AllSets.{bound_in_128_bits, bounds_below}
 use Rattle.set_bounds.specs.Parts.{DependsOnPartsOnly, AreUnjoined, ConsistsOfParts, crosses, some_cross}
+use Rattle.set_bounds.proofs.Forests.{forest_kept}
 use Rattle.set_bounds.proofs.Parted.{parts_multiply}
 
--- ---- if a turn keeps as many equalities as the set has, they close no cycle
+-- ---- a turn keeps as many equalities as the set has exactly if they close no cycle
 
 kept_fewer : (name : ℕ → ℕ) (es : List Edge) → length (kept_by_names name es) ≤ length es
 kept_fewer name [] = omega arith
@@ -48,6 +49,9 @@ forest_if_all_kept es subset kept is same closes =
     let of_set : List Edge = equalities_within subset es in
     let round : kept ≡ kept_by_names (λ x. x) of_set = is ∙ ap (kept_by_names (λ x. x)) (append-nil of_set) in
     subst ClosesNoCycle (round ∙ kept_every (λ x. x) of_set (ap length (sym round) ∙ same)) closes
+
+pub all_kept_if_forest : (es : List Edge) (subset : ℕ) (kept : List Edge) → kept ≡ kept_of subset 0 es → ClosesNoCycle (equalities_within subset es) → length kept ≡ length (equalities_within subset es)
+all_kept_if_forest es subset kept is closes = ap length (is ∙ forest_kept es subset 0 closes ∙ append-nil (equalities_within subset es))
 
 -- ---- if no equality crosses from the part to the rest, no equality joins them
 
@@ -97,9 +101,9 @@ module _ (b : ℕ → EntryBounds) (es : List Edge) where
   pub product_of_part_bounds : (subset part rest own others : ℕ) (bounds : List ℕ) → ClosesNoCycle (equalities_within subset es) → ConsistsOfParts es subset part rest → DependsOnPartsOnly b es
       → bounds ≡ bounds_below b es subset → part < subset → rest < subset → own ≡ get_or bounds part 0 → others ≡ get_or bounds rest 0
       → min (own * others) (2 ^ 128 - 1) ≡ bound_in_128_bits (b subset) es subset
-  product_of_part_bounds subset part rest own others bounds forest falls depends_on_parts is low high own_is others_is =
-      let parts = depends_on_parts subset part rest falls in
+  product_of_part_bounds subset part rest own others bounds forest parted depends_on_parts is low high own_is others_is =
+      let parts = depends_on_parts subset part rest parted in
       ap (λ m. saturated (m * others)) (own_is ∙ bound_below_at subset part bounds is low ∙ parts.0)
       ∙ ap (λ m. saturated (bound_in_128_bits (b subset) es part * m)) (others_is ∙ bound_below_at subset rest bounds is high ∙ parts.1)
       ∙ saturated-mul (bound_of_set (b subset) es part) (bound_of_set (b subset) es rest)
-      ∙ ap saturated (sym (parts_multiply (b subset) es subset part rest forest falls))
+      ∙ ap saturated (sym (parts_multiply (b subset) es subset part rest forest parted))

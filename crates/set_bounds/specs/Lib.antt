@@ -2,3 +2,4 @@ pub mod AllSets
 pub mod Parts
 pub mod Alike
 pub mod Cycles
+pub mod Neighbours

@@ -1,6 +1,7 @@
 //! Computes the bound of every set, one set after another. To fold a set is to compute its bound from its trees. If a set's equalities close no cycle
 //! and its entries are connected, the set is folded. If they close no cycle and the entries aren't connected, its bound is a product of bounds that
-//! were found before. If they close a cycle, its bound is the least over its turns, and turns that are alike are folded once.
+//! were found before. If they close a cycle, its bound is the least over its turns. Turns whose kept equalities name the same columns and make the
+//! same classes are folded once.
 ghost use Rattle.std.specs.Prelude.{◌≡◌, ◌⊎◌, ◌-◌, ◌^◌, ◌<◌, ◌≤◌, ℕ, List, length, slice_index, IfOk};
 ghost use Rattle.std.specs.List.{AllByRecursion};
 ghost use Rattle.limits.specs.Profile.{greatest_entries, top_bound};
@@ -22,8 +23,9 @@ use join_graph::Parts;
 use std::alloc::Global;
 
 /// The bounds, in rows, of all sets of the first `count` entries, each at the index whose bits are the set's entries. A bound above `u128::MAX` is
-/// listed as `u128::MAX`. The empty set has the bound 1. An entry's row bound and lists may depend on the set in which the entry is joined, but only
-/// on those entries that equalities of the set connect with this entry. So, if no cycle is closed, only connected sets are folded.
+/// listed as `u128::MAX`. The empty set has the bound 1. An entry's row bound and lists may differ from set to set. They depend only on the entries
+/// of the set that its equalities connect with this entry. Therefore an unconnected set without a cycle isn't folded: its bound is the product of its
+/// parts' bounds.
 ///
 /// A set's bound is the least over its turns. In a turn it is the product of the bounds of its trees (SafeBound, SIGMOD 2023; Degree Sequence Bound,
 /// ICDT 2023).

@@ -1,8 +1,10 @@
 //! What is found once of the equalities of a query, and serves for all its sets.
-ghost use Rattle.std.specs.Prelude.{◌<◌, IfOk};
+ghost use Rattle.std.specs.Prelude.{◌≡◌, ◌+◌, ◌<◌, ◌||◌, ℕ, IfOk, slice_index};
 ghost use Rattle.limits.specs.Profile.{greatest_entries};
+ghost use Rattle.entry_sets.specs.Sets.{has_entry};
 ghost use Rattle.join_graph.specs.Names.{HasEntriesBelow16};
-ghost use Rattle.set_bounds.specs.Cycles.{AreOnEveryCycle};
+ghost use Rattle.set_bounds.specs.Cycles.{AreAllOnEveryCycle};
+ghost use Rattle.set_bounds.specs.Neighbours.{AreNeighbours, joins};
 
 use crate::parts::is_forest;
 use base_io::NoMemory;
@@ -19,7 +21,7 @@ const ENTRIES: u8 = GREATEST_ENTRIES as u8;
 pub(crate) struct Graph {
     /// For each entry the entries with which equalities join it. A part of a set that is found by them is tested before it is used.
     pub neighbours: [EntrySet; GREATEST_ENTRIES],
-    /// Entries that are on every cycle. If a set lacks one of them, its equalities close no cycle.
+    /// The entries that are on every cycle. If a set lacks one of them, its equalities close no cycle.
     pub on_every_cycle: EntrySet,
 }
 
@@ -29,6 +31,7 @@ fn with_neighbours(
     edge: Edge,
 ) -> [EntrySet; GREATEST_ENTRIES]
     requires { HasEntriesBelow16 edge }
+    ensures { (a b : ℕ) → a < greatest_entries → has_entry (slice_index result a) b ≡ (has_entry (slice_index neighbours a) b || joins a b edge) }
 {
     let mut more = neighbours;
     let left = edge.left.entry;
@@ -38,8 +41,11 @@ fn with_neighbours(
     more
 }
 
+// For each entry the entries with which equalities within `all` join it.
 #[tactic(auto, using(join_graph::proofs::Turning::has_entries_below_16))]
-fn neighbours_of(edges: &[Edge], all: EntrySet) -> [EntrySet; GREATEST_ENTRIES] {
+fn neighbours_of(edges: &[Edge], all: EntrySet) -> [EntrySet; GREATEST_ENTRIES]
+    ensures { AreNeighbours edges.now all result }
+{
     let mut neighbours = [EntrySet::empty(); GREATEST_ENTRIES];
     for edge in edges {
         if joins_within(all, *edge) {
@@ -49,7 +55,7 @@ fn neighbours_of(edges: &[Edge], all: EntrySet) -> [EntrySet; GREATEST_ENTRIES] 
     neighbours
 }
 
-// Adds an entry to `found` if the equalities close no cycle without it.
+// Adds an entry to `found` if the equalities close no cycle without it. `found` has the lower entries that are on every cycle.
 fn with_entry_on_every_cycle(
     alloc: Global,
     parts: &Parts,
@@ -58,8 +64,8 @@ fn with_entry_on_every_cycle(
     found: EntrySet,
 ) -> Result<EntrySet, NoMemory>
     requires entry { entry < greatest_entries }
-    requires found { AreOnEveryCycle parts.now.equalities all found }
-    ensures { IfOk result (λ more. AreOnEveryCycle parts.now.equalities all more) }
+    requires found { AreAllOnEveryCycle parts.now.equalities all entry found }
+    ensures { IfOk result (λ more. AreAllOnEveryCycle parts.now.equalities all (entry + 1) more) }
 {
     let forest = is_forest(alloc, parts, all.without(entry))?;
     if forest {
@@ -68,8 +74,9 @@ fn with_entry_on_every_cycle(
     Ok(found)
 }
 
+// All entries without which the equalities within `all` close no cycle.
 fn entries_on_every_cycle(alloc: Global, parts: &Parts, all: EntrySet) -> Result<EntrySet, NoMemory>
-    ensures { IfOk result (λ entries. AreOnEveryCycle parts.now.equalities all entries) }
+    ensures { IfOk result (λ entries. AreAllOnEveryCycle parts.now.equalities all greatest_entries entries) }
 {
     let mut found = EntrySet::empty();
     for entry in 0..ENTRIES {
@@ -81,7 +88,8 @@ fn entries_on_every_cycle(alloc: Global, parts: &Parts, all: EntrySet) -> Result
 impl Graph {
     /// The join graph of the equalities of a query, for sets of the entries `all`.
     pub(crate) fn of(alloc: Global, parts: &Parts, all: EntrySet) -> Result<Graph, NoMemory>
-        ensures { IfOk result (λ graph. AreOnEveryCycle parts.now.equalities all graph.on_every_cycle) }
+        ensures neighbours { IfOk result (λ graph. AreNeighbours parts.now.equalities all graph.neighbours) }
+        ensures on_every_cycle { IfOk result (λ graph. AreAllOnEveryCycle parts.now.equalities all greatest_entries graph.on_every_cycle) }
     {
         let on_every_cycle = entries_on_every_cycle(alloc, parts, all)?;
         Ok(Graph {

@@ -1,5 +1,5 @@
 //! Computes the bound of a set from the bounds of the sets with smaller numbers.
-ghost use Rattle.std.specs.Prelude.{◌≡◌, IfOk, true};
+ghost use Rattle.std.specs.Prelude.{◌≡◌, ◌↔◌, IfOk, true};
 ghost use Rattle.berge_tree.specs.Equalities.{ClosesNoCycle};
 ghost use Rattle.join_graph.specs.Kept.{equalities_within};
 ghost use Rattle.set_bounds.specs.AllSets.{bound_in_128_bits, bounds_below};
@@ -50,7 +50,7 @@ fn is_forest_within(
     on_every_cycle: EntrySet,
 ) -> Result<bool, NoMemory>
     requires on_every_cycle { AreOnEveryCycle parts.now.equalities subset on_every_cycle }
-    ensures { IfOk result (λ forest. forest ≡ true → ClosesNoCycle (equalities_within subset parts.now.equalities)) }
+    ensures { IfOk result (λ forest. forest ≡ true ↔ ClosesNoCycle (equalities_within subset parts.now.equalities)) }
 {
     if !on_every_cycle.is_within(subset) {
         return Ok(true);

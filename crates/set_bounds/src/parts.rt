@@ -1,5 +1,5 @@
 //! Tests whether the equalities of a set close no cycle, and divides a set into parts that no equality joins.
-ghost use Rattle.std.specs.Prelude.{◌≡◌, ◌<◌, ◌&&◌, ℕ, true, not, IfOk};
+ghost use Rattle.std.specs.Prelude.{◌≡◌, ◌↔◌, ◌<◌, ◌&&◌, ℕ, true, not, IfOk};
 ghost use Rattle.entry_sets.specs.Sets.{has_entry};
 ghost use Rattle.berge_tree.specs.Equalities.{ClosesNoCycle};
 ghost use Rattle.join_graph.specs.Kept.{equalities_within};
@@ -15,9 +15,9 @@ use std::alloc::Global;
 // The number of rounds in which the first part grows. Each round adds the neighbours of another entry.
 const ROUNDS: u8 = GREATEST_ENTRIES as u8;
 
-/// Whether the equalities of a set close no cycle. They close no cycle if turn 0 keeps all of them.
+/// Whether the equalities of a set close no cycle. They close no cycle exactly if turn 0 keeps all of them.
 pub(crate) fn is_forest(alloc: Global, parts: &Parts, subset: EntrySet) -> Result<bool, NoMemory>
-    ensures { IfOk result (λ forest. forest ≡ true → ClosesNoCycle (equalities_within subset parts.now.equalities)) }
+    ensures { IfOk result (λ forest. forest ≡ true ↔ ClosesNoCycle (equalities_within subset parts.now.equalities)) }
 {
     let edges = kept(alloc, parts, subset, 0)?;
     Ok(edges.len() == count_within(parts.equalities.as_slice(), subset))

@@ -1,5 +1,5 @@
 //! Finds numbers outside the signed 64-bit range (SQL-92 5.3).
-ghost use Rattle.std.specs.Prelude.{◌≡◌, ◌^◌, ◌-◌, All};
+ghost use Rattle.std.specs.Prelude.{◌≡◌, ◌-◌, All};
 ghost use Rattle.sql_tokens.specs.Words.{IsLexemeOf};
 ghost use Rattle.query_names.specs.Answers.{first};
 ghost use Rattle.query_names.specs.Numbers.{is_out_of_range, sign_before, number_offence, number_offences};

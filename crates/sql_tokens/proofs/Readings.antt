@@ -63,15 +63,15 @@ valid_answer_on at n text bytes rest walked whole len rest_valid =
     subst (λ (x : ℕ). IsValidAnswer (at + x) rest walked) len (subst (λ (x : List ℕ). IsValidAnswer (at + n) x walked) left rest_valid)
 
 answer_after_step : (at : ℕ) (text : List ℕ) (p : TextPiece) → Sees text p → HasBytes p → ((to : ℕ) (rest : List ℕ) → length rest < length text → IsValidAnswer to rest (tokens_at to rest)) → 0 < length text → IsValidAnswer at text (step tokens_at at p text)
-answer_after_step at text (piece_.Separator n) s long rest_valid some =
+answer_after_step at text (piece_.Separator n) s lengths rest_valid some =
     answer_after_gap at text s.bytes s.rest (tokens_at (at + n) (drop n text)) s.whole s.separator
     (valid_answer_on at n text s.bytes s.rest (tokens_at (at + n) (drop n text)) s.whole s.len (rest_valid (at + n) (drop n text) (omega (arith, length-drop n text))))
-answer_after_step at text (piece_.Token k n) s long rest_valid some =
+answer_after_step at text (piece_.Token k n) s lengths rest_valid some =
     let walked : Walked = tokens_at (at + n) (drop n text) in
     let here : IsValidAnswer at text (with_first (record { kind = k; start = at; end = at + length s.bytes }) walked) =
     answer_after_token at text s.bytes s.rest k walked s.whole s.form s.ends (valid_answer_on at n text s.bytes s.rest walked s.whole s.len (rest_valid (at + n) (drop n text) (omega (arith, length-drop n text)))) in
     subst (λ (x : ℕ). IsValidAnswer at text (with_first (record { kind = k; start = at; end = at + x }) walked)) (sym s.len) here
-answer_after_step at text (piece_.Wrong n) s long rest_valid some = record { tokens = []; to = at; rest = text; offset = n; leads = stay at text; offence = s; here = refl }
+answer_after_step at text (piece_.Wrong n) s lengths rest_valid some = record { tokens = []; to = at; rest = text; offset = n; leads = stay at text; offence = s; here = refl }
 
 answer_of_empty : (at : ℕ) → IsValidAnswer at [] (tokens_at at [])
 unfolding tokens_at

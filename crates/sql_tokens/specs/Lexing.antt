@@ -83,14 +83,14 @@ pub record IsOffenceAt (start : ℕ) (text : List ℕ) (at : ℕ) : Type 0 where
 -- ---- complete texts
 
 -- the length of the byte order mark at the very start
-abbrev pub mark_len : List ℕ → ℕ
-mark_len (b ∷ c ∷ d ∷ rest) = if (b == 239) && ((c == 187) && (d == 191)) then 3 else 0
-mark_len text = 0
+abbrev pub byte_order_mark_len : List ℕ → ℕ
+byte_order_mark_len (b ∷ c ∷ d ∷ rest) = if (b == 239) && ((c == 187) && (d == 191)) then 3 else 0
+byte_order_mark_len text = 0
 
 -- these are the tokens of the text
 pub record IsLexed (text : List ℕ) (tokens : List Token) : Type 0 where
   pub utf8 : IsUtf8 text
-  pub leads : Leads (mark_len text) (drop (mark_len text) text) tokens (length text) []
+  pub leads : Leads (byte_order_mark_len text) (drop (byte_order_mark_len text) text) tokens (length text) []
 
 -- the text isn't UTF-8, and its first bad sequence begins at `at`
 pub record IsBadUtf8 (text : List ℕ) (at : ℕ) : Type 0 where
@@ -99,7 +99,7 @@ pub record IsBadUtf8 (text : List ℕ) (at : ℕ) : Type 0 where
 
 pub record IsBadToken (text : List ℕ) (at : ℕ) : Type 0 where
   pub utf8 : IsUtf8 text
-  pub offence : IsOffenceAt (mark_len text) (drop (mark_len text) text) at
+  pub offence : IsOffenceAt (byte_order_mark_len text) (drop (byte_order_mark_len text) text) at
 
 -- the first error of the text is at byte `at`. Bytes that aren't UTF-8 come before any other error
 abbrev pub IsBad : List ℕ → ℕ → Type 0

@@ -1,9 +1,9 @@
 //! Finds the tokens of a text, from its first byte to its last.
-ghost use Rattle.std.specs.Prelude.{◌≡◌, ◌+◌, ◌<◌, ◌≤◌, drop, length, IfOk, IfErr, All};
+ghost use Rattle.std.specs.Prelude.{◌≡◌, ◌+◌, ◌<◌, ◌≤◌, length, IfOk, IfErr, All};
 ghost use Rattle.limits.specs.Profile.{most_text};
 ghost use Rattle.sql_tokens.specs.Words.{IsTokenOf};
 ghost use Rattle.sql_tokens.specs.Pieces.{tokens_at, IsResultOf};
-ghost use Rattle.sql_tokens.specs.Lexing.{mark_len, IsLexed, IsRefusal, TokensAreInOrder};
+ghost use Rattle.sql_tokens.specs.Lexing.{byte_order_mark_len, IsLexed, IsRefusal, TokensAreInOrder};
 
 use crate::pieces::{TextPiece, piece_at};
 use crate::{LexError, Token};
@@ -34,8 +34,10 @@ fn tokens_from(alloc: Global, start: u32, text: &[u8]) -> Result<Seq<Token>, Lex
                 rest = rest.split_at(n).1;
                 at += n as u32;
             }
-            TextPiece::Wrong(n) => {
-                return Err(LexError::Bad { at: at + n as u32 });
+            TextPiece::Wrong(offset) => {
+                return Err(LexError::Bad {
+                    at: at + offset as u32,
+                });
             }
         }
     }
@@ -43,8 +45,8 @@ fn tokens_from(alloc: Global, start: u32, text: &[u8]) -> Result<Seq<Token>, Lex
 }
 
 /// The length of the byte order mark at the very start, or 0 without a mark.
-fn mark_len_of(text: &[u8]) -> usize
-    ensures value { result ≡ mark_len text.now }
+fn byte_order_mark_len_of(text: &[u8]) -> usize
+    ensures value { result ≡ byte_order_mark_len text.now }
     ensures within { result ≤ length text.now }
     ensures small { result ≤ 3 }
 {
@@ -70,7 +72,7 @@ pub fn tokens(alloc: Global, text: &[u8]) -> Result<Seq<Token>, LexError>
 {
     match std::str::from_utf8(text) {
         Ok(_) => {
-            let start = mark_len_of(text);
+            let start = byte_order_mark_len_of(text);
             tokens_from(alloc, start as u32, &text[start..])
         }
         Err(error) => Err(LexError::Bad {

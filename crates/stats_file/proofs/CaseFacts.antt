@@ -16,7 +16,7 @@ all_pairs_of_one : {X : Type 0} (R : X → X → Type 0) (x : X) → AllPairs R 
 all_pairs_of_one R x i j d lt within = absurd (omega arith)
 
 empty_is_list : IsList 0 []
-empty_is_list = record { falls = λ r. omega arith; positive = all_of_empty (λ x. 0 < x); within = omega arith }
+empty_is_list = record { descends = λ r. omega arith; positive = all_of_empty (λ x. 0 < x); within = omega arith }
 
 pair_without_rows_is_pair : IsPair (number_table (codes "E")) 0 pair_without_rows
 pair_without_rows_is_pair = record {

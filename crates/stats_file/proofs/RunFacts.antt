@@ -38,7 +38,7 @@ runs_expanded [] runs = refl
 runs_expanded (p ∷ ps) runs = run_of_count p.value p.count (expanded ps) ps runs.1 (runs_expanded ps runs.2) runs.0
 
 pub runs_found : (list : List ℕ) (ps : List Piece) → ArePieces ps → list ≡ expanded ps → runs_of list ≡ ps
-runs_found list ps are is = ap runs_of is ∙ runs_expanded ps are.falls
+runs_found list ps are is = ap runs_of is ∙ runs_expanded ps are.descends
 
 abbrev next_text : Piece → List ℕ
 next_text next = codes " " ++ run_text next

@@ -35,7 +35,7 @@ IsOfKind (kind.Text most) (datum.Text bytes) = IsUtf8 bytes
 
 -- a list of degrees: positive numbers in descending order (equal neighbours are allowed), with a sum of at most `rows`
 pub record IsList (rows : ℕ) (list : List ℕ) : Type 0 where
-  pub falls : IsDescending list
+  pub descends : IsDescending list
   pub positive : All (λ x. 0 < x) list
   pub within : sum list ≤ rows
 

@@ -8,7 +8,7 @@ ghost use Rattle.stats_file.specs.Lines.{cut_line, hex_text, run_text, runs_text
 ghost use Rattle.stats_file.specs.Rules.{KeepsRules};
 ghost use Rattle.stats_file.specs.Runs.{run_of, runs_of};
 
-/// The texts of a file without rows, of the lines of a pair, and of single lines and words. This function does nothing.
+/// The texts of a file without rows, of the lines of a pair, and of single lines and words. The function does nothing; its contract has the examples.
 pub fn examples()
     ensures no_rows { file_text schema_of_e stats_without_rows ≡ codes "safebound-stats 1 1\ntable x45 0\npair x58 x58\nwhole -\nrest -\nend\n" }
     ensures keeps { KeepsRules schema_of_e stats_without_rows }

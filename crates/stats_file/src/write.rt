@@ -1,5 +1,5 @@
 //! Appends the text of a file to a sink, without allocating memory.
-ghost use Rattle.std.specs.Prelude.{◌≡◌, ◌<◌, ◌∷◌, ◌++◌, List, ℕ, All, codes, length};
+ghost use Rattle.std.specs.Prelude.{◌<◌, ◌++◌, List, ℕ, All, codes};
 ghost use Rattle.std.specs.List.{concat, flat_map};
 ghost use Rattle.stats_file.specs.FileText.{file_text, name_at, pair_lines, section_lines};
 ghost use Rattle.stats_file.specs.Lines.{cut_line, first_line, frequent_line, list_line, pair_line, table_line};

@@ -1,7 +1,7 @@
 -- The lists of a file are in descending order: no element is greater than the element before it.
-use Rattle.std.proofs.Common.{◌≡◌, ℕ, zero, suc, ◌<◌, ◌≤◌, Bool, eqb, List, [], ◌∷◌, length, get_or, refl, subst, inl, inr, arith}
+use Rattle.std.proofs.Common.{ℕ, zero, suc, eqb, List, [], ◌∷◌, length, get_or, inl, inr, arith}
 use Rattle.std.specs.Prelude.{find, unwrap_or}
-use Rattle.std.proofs.Common.{Option, option_map}
+use Rattle.std.proofs.Common.{option_map}
 use Rattle.std.specs.List.{All, AllByRecursion, list_any}
 use Rattle.std.specs.Option.{option_map_or}
 use Rattle.std.proofs.lemmas.Bool.{cases_Bool, cases_lt, cond_both}
@@ -13,7 +13,7 @@ use Rattle.csv_tables.specs.Values.{Value}
 use Rattle.degree_sequences.specs.Descending.{IsDescending}
 use Rattle.stats_file_bounds.specs.Entries.{IsSectionOfSome}
 use Rattle.stats_file_bounds.specs.FileStatistics.{stats_file_lists, list_of_one_key, paired_with, whole_by, whole_list}
-use Rattle.stats_file_bounds.specs.Found.{no_pair, pair_for}
+use Rattle.stats_file_bounds.specs.Found.{pair_for}
 use Rattle.stats_file_bounds.proofs.Finding.{each_pair}
 use Rattle.stats_file_of_query.specs.Standing.{is_value, leaf_of_value, list_between, list_of_node, list_of_value}
 use Rattle.filtered_lists.specs.Ranges.{Range}
@@ -43,13 +43,13 @@ value_list_descends : (rows : ℕ) (value : Value) (frequent : List (Datum × Li
     → IsDescending (option_map_or (λ (found : Datum × List ℕ). found.1) (find (λ (found : Datum × List ℕ). is_value value found.0) frequent) rest)
 value_list_descends rows value [] rest all last = last
 value_list_descends rows value (f ∷ frequent) rest all last = elim (cases_Bool (is_value value f.0)) [
-  | inl e ↦ rw e all.0.falls
+  | inl e ↦ rw e all.0.descends
   | inr e ↦ rw e (value_list_descends rows value frequent rest all.1 last)
 ]
 
 lists_descend : (rows : ℕ) (lists : List (List ℕ)) → All (IsList rows) lists → (i : ℕ) → IsDescending (get_or lists i [])
 lists_descend rows lists all i = elim (cases_lt i (length lists)) [
-  | inl there ↦ (all i [] there).falls
+  | inl there ↦ (all i [] there).descends
   | inr past ↦ rw (get_or_past lists i [] past) empty_descends
 ]
 
@@ -63,8 +63,8 @@ module _ (section : TableStats) (from_stats_file : IsSectionOfSome section) wher
       let p : IsPair from_stats_file.is.table section.rows (get_or section.pairs i d) = from_stats_file.is.pairs i d i_in_range in
       let pair : PairStats = get_or section.pairs i d in
       record {
-        whole = p.whole.falls;
-        value = λ value. value_list_descends section.rows value pair.frequent pair.rest (recursion_from_All (λ (f : Datum × List ℕ). IsList section.rows f.1) pair.frequent p.frequent.lists) p.rest.falls;
+        whole = p.whole.descends;
+        value = λ value. value_list_descends section.rows value pair.frequent pair.rest (recursion_from_All (λ (f : Datum × List ℕ). IsList section.rows f.1) pair.frequent p.frequent.lists) p.rest.descends;
         node = λ size leaf. node_lists_descend p.filter.kind section.rows pair.cuts pair.nodes p.tree (node_place size leaf);
       }
 

@@ -2,7 +2,6 @@
 //! values of a filter column.
 ghost use Rattle.std.specs.Prelude.{◌≡◌, ◌<◌, ◌≤◌, IfOk, IfSome, length, option_map};
 ghost use Rattle.cond_stats.specs.Leaves.{node_size};
-ghost use Rattle.column_stats.specs.Nodes.{node_place};
 ghost use Rattle.predicate_bounds.specs.Steps.{range_of, value_of};
 ghost use Rattle.stats_file_of_query.specs.Standing.{leaf_of_value, list_between, list_of_node, list_of_value};
 

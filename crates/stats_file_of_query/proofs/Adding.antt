@@ -5,7 +5,6 @@ use Rattle.std.proofs.lemmas.List.{append-nil, map-append, take_all, take_more}
 use Rattle.std.proofs.lemmas.List.Elements.{filter_map-append}
 use Rattle.degree_lists.proofs.OneMoreKey.{different-push}
 use Rattle.degree_sequences.specs.Degrees.{different}
-use Rattle.stats_file_of_query.specs.declared.column_pairs.ColumnPair.{ColumnPair}
 use Rattle.stats_file_of_query.specs.Columns.{with_column}
 
 -- ---- one more column is added to a list that has each column once

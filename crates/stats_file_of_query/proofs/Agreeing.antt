@@ -1,8 +1,8 @@
 -- Any two pairs of a table agree (`PairsAgree` of stats_file).
-use Rattle.std.proofs.Common.{◌≡◌, ℕ, ◌+◌, ◌*◌, ◌/◌, ◌<◌, ◌≤◌, Bool, eqb, List, [], ◌∷◌, ◌++◌, length, map, sum, refl, ap, sym, ◌∙◌, arith}
-use Rattle.std.specs.List.{count_by, flat_map, range_with_len, zip}
+use Rattle.std.proofs.Common.{◌≡◌, ℕ, ◌+◌, ◌*◌, ◌/◌, Bool, eqb, List, [], ◌∷◌, ◌++◌, length, map, sum, refl, ap, sym, ◌∙◌, arith}
+use Rattle.std.specs.List.{count_by, flat_map, range_with_len}
 use Rattle.std.proofs.Math.Path.{fun_ext}
-use Rattle.std.proofs.lemmas.List.{length-map, map-append}
+use Rattle.std.proofs.lemmas.List.{map-append}
 use Rattle.cond_stats.specs.Frequency.{frequent, remaining}
 use Rattle.cond_stats.specs.Leaves.{cuts, in_node, leaf_of}
 use Rattle.cond_stats.specs.Lists.{compressed_degrees, greatest, keys_with, list_of_node, rest, whole}

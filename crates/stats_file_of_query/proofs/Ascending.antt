@@ -1,14 +1,12 @@
 -- The code sorts the cells of a column, and the cuts (the values at which leaves begin) ascend.
-use Rattle.std.proofs.Common.{◌≡◌, ◌≢◌, ◌⊎◌, ℕ, zero, suc, ◌+◌, ◌*◌, ◌/◌, ◌<◌, ◌≤◌, Bool, true, false, eqb, List, [], ◌∷◌, length, map, get_or, refl, ap, sym, ◌∙◌, subst, inl, inr, arith}
-use Rattle.std.specs.List.{All, AllByRecursion, AllPairs, range_with_len}
-use Rattle.std.specs.Ordering.{is_eq, is_ge, is_le, ordering_reverse}
+use Rattle.std.proofs.Common.{◌≡◌, ◌≢◌, ℕ, zero, suc, ◌<◌, ◌≤◌, Bool, true, false, List, [], ◌∷◌, length, map, get_or, refl, ap, sym, ◌∙◌, arith}
+use Rattle.std.specs.List.{AllByRecursion, range_with_len}
+use Rattle.std.specs.Ordering.{is_eq, is_le, ordering_reverse}
 use Rattle.std.specs.declared.cmp.Ordering.{Ordering}
 use Rattle.std.specs.declared.cmp.Ordering.TheVariants.{Less, Equal, Greater}
 use Rattle.std.specs.Str.{IsUtf8}
-use Rattle.std.proofs.lemmas.Bool.{cases_Bool, cases_lt, cond_both, false≢true}
-use Rattle.std.proofs.lemmas.List.{length-map}
-use Rattle.std.proofs.lemmas.List.FromFn.{get_or-map-range_with_len, length-map-range_with_len}
-use Rattle.std.proofs.lemmas.List.Elements.{All-from_recursion}
+use Rattle.std.proofs.lemmas.Bool.{cond_both, false≢true}
+use Rattle.std.proofs.lemmas.List.FromFn.{get_or-map-range_with_len}
 use Rattle.csv_tables.specs.Values as values
 use Rattle.csv_tables.specs.Values.{Value, value_cmp}
 use Rattle.csv_tables.proofs.OrderFacts.{order_of_texts}
@@ -18,7 +16,6 @@ use Rattle.cond_stats.proofs.LeavesFound.{cut_place, cut_place-mono, cut_place-w
 use Rattle.cond_stats.proofs.Ranges.{value_le-trans}
 use Rattle.filtered_lists.proofs.Ordered.{value_cmp-reverse}
 use Rattle.relabelling_laws.proofs.Ordered.{length-in_order}
-use Rattle.stats_file.specs.declared.types.Datum.{Datum}
 use Rattle.stats_file.specs.Rules.{datum_cmp}
 use Rattle.table_stats.proofs.EqualValues.{equal_itself}
 use Rattle.stats_file_of_query.specs.Data.{datum_of}

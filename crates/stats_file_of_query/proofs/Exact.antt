@@ -1,5 +1,5 @@
 -- The lists of a pair in the file are the lists that the statistics of its table have.
-use Rattle.std.proofs.Common.{◌≡◌, ℕ, ◌+◌, ◌<◌, ◌≤◌, Bool, List, [], length, map, get_or, Option, None, Some, option_map, refl, ap, sym, ◌∙◌, arith}
+use Rattle.std.proofs.Common.{◌≡◌, ℕ, ◌<◌, Bool, List, [], get_or, Option, None, Some, option_map, refl, ap, ◌∙◌, arith}
 use Rattle.std.specs.Prelude.{unwrap_or}
 use Rattle.std.specs.List.{range_with_len}
 use Rattle.std.proofs.lemmas.List.{get_or-map, length-map}
@@ -10,7 +10,6 @@ use Rattle.cond_stats.specs.Lists.{compressed_degrees}
 use Rattle.cond_stats.specs.Rows.{filter_values}
 use Rattle.cond_stats.proofs.Ranges.{leaf-below}
 use Rattle.column_stats.proofs.NodeLists.{node_is, node_size-is}
-use Rattle.filtered_lists.specs.Ranges.{Range}
 use Rattle.sql_meaning.specs.Tables.{Tables}
 use Rattle.stats_file.specs.declared.types.Datum.TheVariants as datum
 use Rattle.stats_file.specs.declared.types.PairStats.{PairStats}

@@ -1,5 +1,5 @@
 -- Each table of a query has fewer than 2^32 columns.
-use Rattle.std.proofs.Common.{◌≡◌, ℕ, ◌<◌, ◌≤◌, ◌^◌, length, inl, inr, ap, arith}
+use Rattle.std.proofs.Common.{ℕ, ◌<◌, ◌^◌, length, inl, inr, ap, arith}
 use Rattle.std.proofs.lemmas.Bool.{cases_lt}
 use Rattle.std.proofs.lemmas.List.{get_or_past}
 use Rattle.csv_tables.specs.declared.types.Database.{Database}

@@ -3,7 +3,7 @@ use Rattle.std.proofs.Common.{◌≡◌, ℕ, zero, suc, ◌+◌, ◌-◌, ◌<�
 use Rattle.std.specs.List.{All, AllByRecursion}
 use Rattle.std.proofs.lemmas.Bool.{cond_both, ltb-true}
 use Rattle.std.proofs.lemmas.List.Elements.{All-from_recursion}
-use Rattle.cond_stats.specs.Frequency.{frequent, remaining}
+use Rattle.cond_stats.specs.Frequency.{remaining}
 use Rattle.cond_stats.specs.Leaves.{in_node, leaf_of}
 use Rattle.cond_stats.specs.Lists.{compressed_degrees, greatest, keys_with, list_of_node, maxima, rest, whole}
 use Rattle.cond_stats.specs.Rows.{filter_values, joined_keys, keys_where}
@@ -20,7 +20,7 @@ use Rattle.degree_sequences.proofs.CompressedLists.{IsDescending-compressed}
 use Rattle.degree_sequences.proofs.DegreeLists.{IsDescending-degree_list}
 use Rattle.degree_sequences.proofs.FewRuns.{head_of_row_pos}
 use Rattle.degree_sequences.proofs.Rearranged.{degree_list_positive}
-use Rattle.gathered_stats.proofs.Sizes.{node_within, value_within}
+use Rattle.gathered_stats.proofs.Sizes.{value_within}
 use Rattle.std.proofs.lemmas.List.Sums.{count_by-le-length}
 use Rattle.std.proofs.lemmas.List.{length-map}
 use Rattle.stats_file.specs.Rules.{IsList}
@@ -28,17 +28,17 @@ use Rattle.stats_file.specs.Rules.{IsList}
 -- ---- compressed lists have only positive elements
 
 positive_from : (k : ℕ) (f : List ℕ) → IsDescending f → All (λ x. 0 < x) f → (n m : ℕ) → AllByRecursion (λ x. 0 < x) (compressed_from k f n m)
-positive_from k f falls positive zero m = tt
-positive_from k f falls positive (suc n) m =
+positive_from k f descends positive zero m = tt
+positive_from k f descends positive (suc n) m =
     let next : ℕ = min (head_of_row k f m) (sum f - m) in
     cond_both (ltb m (sum f)) (next ∷ compressed_from k f n (m + next)) [] (AllByRecursion (λ x. 0 < x))
-    (λ e. (omega (arith, ltb-true m (sum f) e, head_of_row_pos k f falls positive m (ltb-true m (sum f) e)), positive_from k f falls positive n (m + next)))
+    (λ e. (omega (arith, ltb-true m (sum f) e, head_of_row_pos k f descends positive m (ltb-true m (sum f) e)), positive_from k f descends positive n (m + next)))
     (λ e. tt)
 
 pub is_compressed : (k : ℕ) (f : List ℕ) (rows : ℕ) → IsDescending f → All (λ x. 0 < x) f → sum (compressed k f) ≤ rows → IsList rows (compressed k f)
-is_compressed k f rows falls positive within = record {
-  falls = IsDescending-compressed k f falls;
-  positive = All-from_recursion (λ x. 0 < x) (compressed k f) (positive_from k f falls positive (length f) 0);
+is_compressed k f rows descends positive within = record {
+  descends = IsDescending-compressed k f descends;
+  positive = All-from_recursion (λ x. 0 < x) (compressed k f) (positive_from k f descends positive (length f) 0);
   within = within;
 }
 

@@ -13,7 +13,7 @@ use Rattle.cond_stats.specs.Leaves.{cuts}
 use Rattle.cond_stats.specs.Rows.{filter_values}
 use Rattle.column_stats.specs.declared.stats.ColumnStats.{ColumnStats}
 use Rattle.column_stats.specs.declared.stats.FrequentList.{FrequentList}
-use Rattle.column_stats.specs.Stats.{frequent_list, frequent_lists, stats_of}
+use Rattle.column_stats.specs.Stats.{frequent_list, stats_of}
 use Rattle.gathered_stats.specs.Columns.{cells_in, kind_in}
 use Rattle.gathered_stats.specs.Filters.{IsColumnIn}
 use Rattle.relabelling_laws.proofs.Ordered.{All-cuts, All-frequent}

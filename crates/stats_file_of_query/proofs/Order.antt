@@ -1,9 +1,7 @@
 -- Pairs that are made column by column ascend by their columns. Sections that are made table by table ascend by their tables.
-use Rattle.std.proofs.Common.{◌≡◌, ℕ, zero, suc, ◌+◌, ◌<◌, ◌≤◌, Bool, ◌⊎◌, inl, inr, List, [], ◌∷◌, ◌++◌, length, map, get_or, Option, None, Some, refl, ap, sym, ◌∙◌, subst, arith}
-use Rattle.std.specs.List.{All, AllByRecursion, AllPairs, cons_option, filter, filter_map, flat_map, list_any, range_with_len}
+use Rattle.std.proofs.Common.{◌≡◌, ℕ, zero, suc, ◌+◌, ◌<◌, Bool, List, [], ◌∷◌, ◌++◌, length, map, get_or, Option, None, Some, refl, arith}
+use Rattle.std.specs.List.{AllByRecursion, AllPairs, cons_option, filter, filter_map, flat_map, list_any, range_with_len}
 use Rattle.std.proofs.lemmas.Bool.{cond_both}
-use Rattle.std.proofs.lemmas.List.Elements.{All-from_recursion}
-use Rattle.table_stats.proofs.FewerRows.{all_in_range}
 use Rattle.stats_file_of_query.specs.declared.column_pairs.ColumnPair.{ColumnPair}
 use Rattle.stats_file_of_query.specs.ColumnPairs.{is_pair}
 use Rattle.stats_file_of_query.specs.Files.{for_each_pair, joined_with}

@@ -1,9 +1,8 @@
 -- The pair that is made from two columns of cells keeps the rules of statistics files.
-use Rattle.std.proofs.Common.{◌≡◌, ◌≢◌, ℕ, zero, suc, ◌+◌, ◌*◌, ◌/◌, ◌<◌, ◌≤◌, ◌^◌, Bool, true, eqb, List, [], ◌∷◌, length, length-take, map, get_or, sum, Some, slice_get, refl, ap, sym, ◌∙◌, subst, arith}
+use Rattle.std.proofs.Common.{◌≡◌, ◌≢◌, ℕ, zero, suc, ◌*◌, ◌/◌, ◌<◌, ◌≤◌, Bool, List, [], ◌∷◌, length, length-take, map, get_or, Some, slice_get, refl, ap, sym, ◌∙◌, subst, arith}
 use Rattle.std.specs.List.{All, AllByRecursion, AllPairs, flat_map, range_with_len, zip}
 use Rattle.std.specs.declared.cmp.Ordering.TheVariants.{Greater}
 use Rattle.std.specs.Int.{w64}
-use Rattle.std.specs.Prelude.{FitsSigned}
 use Rattle.std.specs.Str.{IsUtf8}
 use Rattle.std.proofs.Math.Facts.{Fits-of_lt, sfits_to_z}
 use Rattle.std.proofs.lemmas.Bool.Decides.{Decides-eqb}
@@ -21,12 +20,11 @@ use Rattle.csv_tables.specs.Values.{Value}
 use Rattle.cond_stats.specs.Columns.{cell_le}
 use Rattle.cond_stats.specs.Frequency.{by_frequency, frequent}
 use Rattle.cond_stats.specs.Leaves.{cuts}
-use Rattle.cond_stats.specs.Lists.{compressed_degrees, keys_with, list_of_node, rest, whole}
-use Rattle.cond_stats.specs.Rows.{filter_values, joined_keys}
+use Rattle.cond_stats.specs.Lists.{list_of_node, rest, whole}
+use Rattle.cond_stats.specs.Rows.{filter_values}
 use Rattle.cond_stats.proofs.LeavesFound.{no_cuts}
 use Rattle.cond_stats.proofs.Ranges.{length-cuts}
 use Rattle.cond_stats.proofs.Sums.{sum-whole}
-use Rattle.column_stats.specs.declared.stats.FrequentList.{FrequentList}
 use Rattle.column_stats.specs.Nodes.{lists_of_size, node_lists, node_sizes}
 use Rattle.column_stats.specs.Stats.{frequent_list, frequent_lists}
 use Rattle.column_stats.proofs.FrequentLists.{IsDistinct-frequent}
@@ -37,8 +35,7 @@ use Rattle.level_bounds.proofs.Lists.{map_of_map}
 use Rattle.relabelling_laws.proofs.Ordered.{All-cuts, All-frequent}
 use Rattle.relabelling_laws.proofs.Rows.{zip_of_columns}
 use Rattle.stats_file.specs.declared.types.Datum.{Datum}
-use Rattle.stats_file.specs.declared.types.PairStats.{PairStats}
-use Rattle.stats_file.specs.Rules.{AreFrequent, IsList, IsOfKind, IsPair, IsHistogram, IsHistogramOf, datum_cmp}
+use Rattle.stats_file.specs.Rules.{AreFrequent, IsList, IsOfKind, IsPair, IsHistogramOf, datum_cmp}
 use Rattle.table_stats.proofs.EqualValues.{equal_itself, is_equal}
 use Rattle.stats_file_of_query.specs.Data.{datum_of, value_of}
 use Rattle.stats_file_of_query.specs.Pairs.{frequent_in, pair_stats_of}

@@ -1,17 +1,15 @@
 -- The statistics file of a query keeps the rules of statistics files.
-use Rattle.std.proofs.Common.{◌≡◌, ℕ, ◌+◌, ◌<◌, ◌≤◌, ◌==◌, List, [], length, map, get_or, Option, None, Some, option_map, slice_get, inl, inr, refl, ap, sym, ◌∙◌, subst, arith}
+use Rattle.std.proofs.Common.{◌≡◌, ℕ, ◌<◌, ◌≤◌, List, [], length, get_or, Option, None, Some, option_map, inl, inr, refl, ap, sym, ◌∙◌, subst, arith}
 use Rattle.std.specs.Str.{IsUtf8}
-use Rattle.std.specs.List.{All, AllPairs, filter_map, range_with_len, zip}
+use Rattle.std.specs.List.{All, AllPairs, range_with_len}
 use Rattle.std.proofs.lemmas.List.{get_or-map, length-map}
 use Rattle.std.proofs.lemmas.List.Elements.{All-from_recursion}
 use Rattle.std.proofs.lemmas.Option.{slice_get-get_or}
-use Rattle.limits.specs.Profile.{most_rows}
 use Rattle.schema_types.specs.declared.types.Column.{Column}
-use Rattle.schema_types.specs.declared.types.Kind.{Kind}
 use Rattle.schema_types.specs.declared.types.Kind.TheVariants as kind
 use Rattle.schema_types.specs.declared.types.Schema.{Schema}
 use Rattle.schema_types.specs.declared.types.Table.{Table}
-use Rattle.csv_tables.specs.Cells.{AreCellsOf, IsColumn, value_of_cell}
+use Rattle.csv_tables.specs.Cells.{AreCellsOf, IsColumn}
 use Rattle.csv_tables.specs.declared.types.Cells.{Cells}
 use Rattle.csv_tables.specs.declared.types.Database.{Database}
 use Rattle.cond_stats.specs.Columns.{cell_le}
@@ -20,7 +18,7 @@ use Rattle.level_bounds.specs.Keys.{HaveDifferentCharacters}
 use Rattle.level_bounds.proofs.Lists.{from_members, from_filter_map, range_within}
 use Rattle.query_types.specs.declared.types.Query.{Query}
 use Rattle.relabelling_laws.proofs.Rows.{zip_of_columns}
-use Rattle.sql_meaning.specs.Tables.{cells_of, row_counts, tables_of}
+use Rattle.sql_meaning.specs.Tables.{cells_of, tables_of}
 use Rattle.sql_meaning.proofs.ColumnFacts.{column_at}
 use Rattle.sql_meaning.proofs.LoopFacts.{rows_are}
 use Rattle.stats_file.specs.declared.types.PairStats.{PairStats}
@@ -30,7 +28,7 @@ use Rattle.stats_file.specs.Rules.{PairsAgree, HaveSameFilterCounts, IsPair, IsS
 use Rattle.stats_file_of_query.specs.declared.column_pairs.ColumnPair.{ColumnPair}
 use Rattle.stats_file_of_query.specs.Needs.{needed_of_table, table_of}
 use Rattle.stats_file_of_query.specs.Databases.{FitsQueryAndTexts, section_of_cells, sections_of_cells}
-use Rattle.stats_file_of_query.specs.Files.{file_of_query, first_entry, for_each_pair, for_each_table, section_of_table, table_at}
+use Rattle.stats_file_of_query.specs.Files.{file_of_query, first_entry, for_each_pair, table_at}
 use Rattle.stats_file_of_query.specs.Pairs.{datum_of_cell, pair_in_cells}
 use Rattle.stats_file_of_query.proofs.Agreeing.{count_same, whole_same}
 use Rattle.stats_file_of_query.proofs.Order.{made_in_order, pairs_in_order}

@@ -1,8 +1,8 @@
 -- The sections that are made from cells are equal to the sections that are defined by the tables' values.
-use Rattle.std.proofs.Common.{◌≡◌, ℕ, suc, ◌+◌, ◌==◌, ◌<◌, List, [], ◌∷◌, length, map, get_or, Option, None, Some, option_map, refl, ap, sym, ◌∙◌, subst, arith}
-use Rattle.std.specs.List.{AllByRecursion, Contains, filter, filter_map, flat_map, list_any, range_with_len}
+use Rattle.std.proofs.Common.{◌≡◌, ℕ, suc, ◌+◌, ◌==◌, ◌<◌, List, [], ◌∷◌, length, map, get_or, Option, None, Some, option_map, refl, ap, sym, ◌∙◌, arith}
+use Rattle.std.specs.List.{Contains, filter, filter_map, flat_map, list_any, range_with_len}
 use Rattle.std.proofs.lemmas.Bool.{eqb-true}
-use Rattle.std.proofs.lemmas.List.{get_or-map, length-map}
+use Rattle.std.proofs.lemmas.List.{length-map}
 use Rattle.csv_tables.specs.Cells.{IsColumn, value_of_cell}
 use Rattle.csv_tables.specs.Values.{Value}
 use Rattle.csv_tables.specs.declared.types.Cells.{Cells}

@@ -1,8 +1,7 @@
 -- The statistics of two columns of cells are equal to the statistics of the cells' values.
-use Rattle.std.proofs.Common.{◌≡◌, ℕ, ◌*◌, ◌/◌, ◌<◌, Bool, true, eqb, List, [], ◌∷◌, length, map, get_or, pos, Some, refl, ap, sym, ◌∙◌, subst, arith}
+use Rattle.std.proofs.Common.{◌≡◌, ℕ, ◌*◌, ◌/◌, ◌<◌, Bool, true, eqb, List, [], ◌∷◌, length, map, get_or, pos, refl, ap, sym, ◌∙◌, subst, arith}
 use Rattle.std.specs.List.{All, AllByRecursion, Contains, flat_map, list_any, range_with_len, zip}
 use Rattle.std.proofs.Math.Path.{fun_ext}
-use Rattle.std.proofs.lemmas.Bool.{false≢true}
 use Rattle.std.proofs.lemmas.List.{get_or-map, length-map}
 use Rattle.schema_types.specs.declared.types.Kind.{Kind}
 use Rattle.csv_tables.specs.Cells.{IsCell, value_of_cell}
@@ -10,24 +9,22 @@ use Rattle.csv_tables.specs.Values.{Value, Int}
 use Rattle.cond_stats.specs.Columns.{cell_le}
 use Rattle.cond_stats.specs.Frequency.{frequent}
 use Rattle.cond_stats.specs.Leaves.{cuts}
-use Rattle.cond_stats.specs.Lists.{compressed_degrees, is_frequent, keys_with, list_of_node, list_of_value, rest, whole}
+use Rattle.cond_stats.specs.Lists.{compressed_degrees, is_frequent, keys_with, list_of_node, rest, whole}
 use Rattle.cond_stats.specs.Rows.{filter_values, joined_keys}
 use Rattle.cond_stats.proofs.Members.{any-is_in}
 use Rattle.cond_stats.proofs.ValueLists.{list_of_frequent_value}
-use Rattle.column_stats.specs.declared.stats.FrequentList.{FrequentList}
-use Rattle.column_stats.specs.Nodes.{lists_of_size, node_lists, node_sizes}
+use Rattle.column_stats.specs.Nodes.{node_lists, node_sizes}
 use Rattle.column_stats.specs.Stats.{frequent_list, frequent_lists}
-use Rattle.degree_sequences.proofs.Counting.{is_in}
 use Rattle.level_bounds.specs.Keys.{HaveDifferentCharacters}
 use Rattle.level_bounds.proofs.CellKeys.{equal_cells}
-use Rattle.level_bounds.proofs.Lists.{at_member, from_map, in_map, test_of_member, map_same_on_members, map_of_map}
+use Rattle.level_bounds.proofs.Lists.{at_member, in_map, test_of_member, map_same_on_members, map_of_map}
 use Rattle.relabelling_laws.specs.Relabelling.{IsOneToOne, KeepsOrder}
 use Rattle.relabelling_laws.proofs.Columns.{cuts_are, frequent_is, column_contains_each}
 use Rattle.relabelling_laws.proofs.Ordered.{All-cuts, All-frequent}
 use Rattle.relabelling_laws.proofs.Rows.{zip_of_columns, node_list_unchanged, rest_list_unchanged, value_list_unchanged, whole_list_unchanged}
 use Rattle.stats_file.specs.declared.types.Datum.{Datum}
 use Rattle.stats_file.specs.declared.types.PairStats.{PairStats}
-use Rattle.table_stats.specs.Columns.{first_row, as_first_rows, paired, row_le, value_of_row}
+use Rattle.table_stats.specs.Columns.{as_first_rows, paired, row_le, value_of_row}
 use Rattle.table_stats.proofs.CellColumns.{cell_values, keeps_order, number_of, numbers_of_cells, one_to_one}
 use Rattle.table_stats.proofs.EqualValues.{equal_itself, is_equal}
 use Rattle.table_stats.proofs.FirstRows.{first_has, first_row_exists}
@@ -45,10 +42,10 @@ same_parts filter joined all all' rest rest' frequent frequent' cuts cuts' nodes
 same_nodes : (le le' : ℕ → ℕ → Bool) (accuracy : ℕ) (rows rows' : List (ℕ × ℕ)) → length rows ≡ length rows'
     → ((size leaf : ℕ) → list_of_node le accuracy rows size leaf ≡ list_of_node le' accuracy rows' size leaf)
     → node_lists le accuracy rows ≡ node_lists le' accuracy rows'
-same_nodes le le' accuracy [] [] long alike = refl
-same_nodes le le' accuracy [] (row ∷ rows') long alike = absurd (omega (arith, long))
-same_nodes le le' accuracy (row ∷ rows) [] long alike = absurd (omega (arith, long))
-same_nodes le le' accuracy (row ∷ rows) (row' ∷ rows') long alike =
+same_nodes le le' accuracy [] [] lengths alike = refl
+same_nodes le le' accuracy [] (row ∷ rows') lengths alike = absurd (omega (arith, lengths))
+same_nodes le le' accuracy (row ∷ rows) [] lengths alike = absurd (omega (arith, lengths))
+same_nodes le le' accuracy (row ∷ rows) (row' ∷ rows') lengths alike =
     ap (λ (lists : ℕ → List (List ℕ)). flat_map lists node_sizes)
     (fun_ext (λ (size : ℕ). ap (λ (node : ℕ → List ℕ). map node (range_with_len 0 (32 / size))) (fun_ext (λ (i : ℕ). alike size (size * i)))))
 

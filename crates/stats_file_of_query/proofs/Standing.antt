@@ -1,15 +1,14 @@
 -- The file of a query stands for the query's tables.
-use Rattle.std.proofs.Common.{◌≡◌, ℕ, ◌<◌, ◌==◌, Bool, true, false, cond, suc, List, [], ◌∷◌, length, map, get_or, Option, None, Some, option_map, find, refl, ap, sym, ◌∙◌, subst, arith}
+use Rattle.std.proofs.Common.{◌≡◌, ℕ, ◌<◌, ◌==◌, List, [], ◌∷◌, length, map, get_or, Option, None, Some, option_map, refl, ap, sym, ◌∙◌, subst, arith}
 use Rattle.std.specs.Prelude.{slice_index_or}
-use Rattle.std.specs.List.{All, AllByRecursion, Contains, filter, filter_map, flat_map, list_any, range_with_len}
-use Rattle.std.proofs.lemmas.Bool.{cases_Bool, eqb-true}
-use Rattle.std.proofs.lemmas.List.{length-map}
+use Rattle.std.specs.List.{All, AllByRecursion, filter_map, flat_map, list_any, range_with_len}
+use Rattle.std.proofs.lemmas.Bool.{eqb-true}
 use Rattle.std.proofs.lemmas.List.Elements.{All-append, All-map}
 use Rattle.csv_tables.specs.Cells.{rows_of_cells}
 use Rattle.csv_tables.specs.Rows.{Row}
 use Rattle.csv_tables.specs.Values.{Value}
 use Rattle.csv_tables.specs.declared.types.Database.{Database}
-use Rattle.level_bounds.proofs.Lists.{from_filter_map, range_within}
+use Rattle.level_bounds.proofs.Lists.{from_filter_map}
 use Rattle.query_types.specs.declared.types.Query.{Query}
 use Rattle.schema_types.specs.declared.types.Schema.{Schema}
 use Rattle.sql_meaning.specs.Tables.{Tables, no_cells, tables_of}
@@ -24,7 +23,7 @@ use Rattle.stats_file_of_query.specs.Needs.{needed_of_table, table_of}
 use Rattle.stats_file_of_query.specs.Databases.{FitsQueryAndTexts}
 use Rattle.stats_file_of_query.specs.Files.{column_count, file_of_query, first_entry, for_each_pair, joined_with, section_of_table}
 use Rattle.stats_file_of_query.specs.Pairs.{pair_in_table, pair_of_values}
-use Rattle.stats_file_of_query.specs.Standing.{PairStandsFor, SectionStandsFor, ShareRows, StandsFor, section_of}
+use Rattle.stats_file_of_query.specs.Standing.{PairStandsFor, SectionStandsFor, ShareRows, StandsFor}
 use Rattle.stats_file_of_query.proofs.Finding.{found_in}
 use Rattle.stats_file_of_query.proofs.SameSections.{first_is}
 use Rattle.stats_file_of_query.proofs.Stands.{pair_stands}

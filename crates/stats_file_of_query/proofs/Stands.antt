@@ -1,22 +1,20 @@
 -- The statistics of a pair of columns stand for the rows from which they are made.
-use Rattle.std.proofs.Common.{◌≡◌, ◌≢◌, ◌↔◌, ℕ, zero, suc, ◌+◌, ◌<◌, ◌≤◌, Bool, true, false, ◌==◌, if◌then◌else◌, eqb, pos, List, [], ◌∷◌, length, map, get_or, Option, None, Some, find, inl, inr, refl, ap, sym, ◌∙◌, subst, arith}
-use Rattle.std.specs.Prelude.{slice_index_or, ◌||◌}
-use Rattle.std.specs.List.{AllByRecursion, Contains, filter, list_any, range_with_len, sum, zip}
+use Rattle.std.proofs.Common.{◌≡◌, ◌≢◌, ◌↔◌, ℕ, suc, ◌+◌, ◌<◌, Bool, true, false, ◌==◌, if◌then◌else◌, eqb, List, [], ◌∷◌, length, map, get_or, Option, Some, find, inl, inr, refl, ap, sym, ◌∙◌, subst, arith}
+use Rattle.std.specs.Prelude.{◌||◌}
+use Rattle.std.specs.List.{AllByRecursion, filter, list_any, range_with_len, sum, zip}
 use Rattle.std.specs.Option.{option_map_or}
 use Rattle.std.proofs.lemmas.Bool.{cases_Bool, eq-eqb, eqb-true, false≢true, ne_eqb}
 use Rattle.std.proofs.lemmas.List.{get_or-map, length-map}
 use Rattle.std.proofs.lemmas.Slice.Zip.{length-zip}
 use Rattle.csv_tables.specs.Values as values
-use Rattle.csv_tables.specs.Values.{Value, value_cmp}
+use Rattle.csv_tables.specs.Values.{Value}
 use Rattle.cond_stats.specs.Columns.{value_le}
 use Rattle.cond_stats.specs.Frequency.{frequent}
 use Rattle.cond_stats.specs.Leaves.{IsNodeSize, cuts, in_node, last_place, leaf_of}
 use Rattle.cond_stats.specs.Lists as lists
-use Rattle.cond_stats.specs.Lists.{compressed_degrees, is_frequent, keys_with, rest, whole}
+use Rattle.cond_stats.specs.Lists.{compressed_degrees, keys_with, rest, whole}
 use Rattle.cond_stats.specs.Rows.{filter_values, joined_keys, keys_where}
 use Rattle.cond_stats.proofs.Sums.{sum-whole}
-use Rattle.column_stats.specs.declared.stats.FrequentList.{FrequentList}
-use Rattle.column_stats.specs.Nodes.{node_lists, node_place}
 use Rattle.column_stats.specs.Stats.{frequent_list}
 use Rattle.column_stats.proofs.NodeLists.{node_is}
 use Rattle.degree_sequences.specs.Domination.{DominatesKeys}
@@ -34,7 +32,6 @@ use Rattle.stats_file.specs.declared.types.Datum.TheVariants as datum
 use Rattle.stats_file.specs.declared.types.PairStats.{PairStats}
 use Rattle.table_stats.specs.Columns.{column_values, first_row, as_first_rows, paired, row_le, value_of_row}
 use Rattle.table_stats.specs.Keys.{SeparatesValues}
-use Rattle.table_stats.specs.Statistics.{column_lists}
 use Rattle.table_stats.proofs.ColumnRows.{values_length, number_at, number_below, number_has, numbers_are, same_number}
 use Rattle.table_stats.proofs.Dominating.{lists_stand}
 use Rattle.table_stats.proofs.EqualValues.{alike_le, equal_symmetric, equal_transitive, equal_itself, is_equal}

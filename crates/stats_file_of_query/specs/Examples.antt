@@ -2,7 +2,7 @@
 use Rattle.std.specs.Prelude.{ℕ, List, [], ◌∷◌, ◌++◌, codes, map, pos}
 use Rattle.csv_tables.specs.Values.{Int}
 use Rattle.query_grammar.specs.declared.tree.Op.TheVariants as op
-use Rattle.query_types.specs.declared.types.Cond.{Cond, Compare}
+use Rattle.query_types.specs.declared.types.Cond.{Compare}
 use Rattle.query_types.specs.declared.types.Operand.TheVariants as operand
 use Rattle.query_types.specs.declared.types.Query.{Query}
 use Rattle.join_graph.specs.Conjuncts.{column_operand}

@@ -1,5 +1,5 @@
 -- The pairs of columns of which a query's bounds need statistics.
-use Rattle.std.specs.Prelude.{ℕ, ◌==◌, if◌then◌else◌, Bool, List, [], length, map, slice_index}
+use Rattle.std.specs.Prelude.{ℕ, ◌==◌, if◌then◌else◌, List, [], length, map, slice_index}
 use Rattle.std.specs.List.{filter_map, flat_map, range_with_len}
 use Rattle.degree_sequences.specs.Degrees.{different}
 use Rattle.gathered_stats.specs.Asked.{compared_column, joined_columns}

@@ -3,7 +3,7 @@ use Rattle.std.specs.Prelude.{ℕ, ◌≡◌, ◌<◌, Bool, List, [], All, leng
 use Rattle.std.specs.List.{range_with_len, sum}
 use Rattle.std.specs.Option.{option_map_or}
 use Rattle.std.specs.Ordering.{is_eq}
-use Rattle.csv_tables.specs.Values.{Value, Int, value_cmp}
+use Rattle.csv_tables.specs.Values.{Value, value_cmp}
 use Rattle.cond_stats.specs.Columns.{leaf_among}
 use Rattle.cond_stats.specs.Leaves.{IsNodeSize, in_node, node_size}
 use Rattle.column_stats.specs.Nodes.{node_place}

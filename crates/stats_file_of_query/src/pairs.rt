@@ -1,6 +1,6 @@
 //! Makes the statistics of a pair of columns, and of all needed pairs of one filter column.
 ghost use Rattle.std.specs.Prelude.{◌≡◌, ◌++◌, ◌<◌, ◌^◌, All, IfOk, OnOk, length, map};
-ghost use Rattle.std.specs.List.{filter, list_any, range_with_len};
+ghost use Rattle.std.specs.List.{filter, list_any};
 ghost use Rattle.gathered_stats.specs.Filters.{IsColumnIn};
 ghost use Rattle.stats_file_of_query.specs.ColumnPairs.{is_pair};
 ghost use Rattle.sql_meaning.specs.Databases.{AreCells};

@@ -48,7 +48,7 @@ decided_descending (x ∷ y ∷ list) = decided_alike to from (decided_and (deci
 
 pub decided_list : (rows : ℕ) (list : List ℕ) → Decided (IsList rows list)
 decided_list rows list =
-    decided_alike (λ h. record { falls = h.0; positive = h.1.0; within = h.1.1 }) (λ h. (h.falls, (h.positive, h.within)))
+    decided_alike (λ h. record { descends = h.0; positive = h.1.0; within = h.1.1 }) (λ h. (h.descends, (h.positive, h.within)))
     (decided_and (decided_descending list) (decided_and (decided_all {P = λ x. 0 < x} (λ x. decided_less 0 x) list) (decided_at_most (sum list) rows)))
 
 list_within_limits : (rows most : ℕ) (list : List ℕ) → rows < most → All (λ x. 0 < x) list → sum list ≤ rows → IsWithinLimits rows most list

@@ -32,7 +32,7 @@ use Rattle.stats_reading.proofs.Opens.{nodes_are_cuts_remaining}
 use Rattle.stats_reading.proofs.AppendedLists.{all_at, get_map, both_some_same}
 use Rattle.stats_reading.proofs.Stepping.{ended, line_tag, spells_one, spells_two, weaker_valid}
 use Rattle.stats_reading.proofs.Tags.{tag}
-use Rattle.stats_reading.proofs.WordFacts.{hex_without, hex_word_without_blank}
+use Rattle.stats_reading.proofs.WordFacts.{hex_text_without_blank, hex_word_without_blank}
 
 -- ---- no two tables, and no two columns of a table, have the same name
 
@@ -172,7 +172,7 @@ table_goes at schema s t a b l r good ending is begins =
           record { value = o.value; is = o.is; may = o.may; rest = λ e. subst (λ (x : Draft). InTable schema x file more) (sym e) o.rest };
       closes = λ v file more e may h. close_table schema m v file more may (subst (λ (x : Draft). InTable schema x file more) e h);
       same = λ x y may_x may_y e. same_place schema m x y good may_x may_y e;
-      spells = λ v may. spells_two (codes "table ") (hex_text v.table.name) (decimal v.rows) a b l (hex_without v.table.name) (hex_word_without_blank a is.parts.0) is.whole;
+      spells = λ v may. spells_two (codes "table ") (hex_text v.table.name) (decimal v.rows) a b l (hex_text_without_blank v.table.name) (hex_word_without_blank a is.parts.0) is.whole;
     }
 
 pub column_place : (table : Table) (i j : ℕ) → IsGoodTable table → i < length table.columns → j < length table.columns → hex_text (name_at table i) ≡ hex_text (name_at table j) → i ≡ j
@@ -213,7 +213,7 @@ pair_goes at schema s t a b l r good ending is begins =
       closes = λ c file more with_new_pair may h. close_pair schema table m t c file more exists with_new_pair h;
       same = λ x y may_x may_y e. same_columns table m x y good_table may_x may_y e;
       spells = λ c may.
-          spells_two (codes "pair ") (hex_text (name_at table c.0)) (hex_text (name_at table c.1)) a b l (hex_without (name_at table c.0)) (hex_word_without_blank a is.parts.0) is.whole;
+          spells_two (codes "pair ") (hex_text (name_at table c.0)) (hex_text (name_at table c.1)) a b l (hex_text_without_blank (name_at table c.0)) (hex_word_without_blank a is.parts.0) is.whole;
     }
 
 pub end_line_goes : (at : Stage) (schema : Schema) (s t : Draft) (a b l : List ℕ) (r : Result (Unit {0}) Fault) → TableEnding at schema s (ended l) → IsLineOf kind.End a b l

@@ -93,7 +93,7 @@ table_begun_valid schema s v keeps may =
 -- ---- a pair begins
 
 list_of_none : (rows : ℕ) → IsList rows []
-list_of_none rows = record { falls = λ r. omega arith; positive = λ k d lt. absurd (omega arith); within = omega arith }
+list_of_none rows = record { descends = λ r. omega arith; positive = λ k d lt. absurd (omega arith); within = omega arith }
 
 abbrev no_list : List ℕ
 no_list = []
@@ -105,10 +105,10 @@ all_rows (suc n) = suc n ∷ []
 
 all_rows_is : (rows : ℕ) → IsList rows (all_rows rows) × (sum (all_rows rows) ≡ rows)
 all_rows_is zero = (list_of_none 0, refl)
-all_rows_is (suc n) = (record { falls = falls; positive = positive; within = omega arith }, omega arith)
+all_rows_is (suc n) = (record { descends = descends; positive = positive; within = omega arith }, omega arith)
   where
-    falls : IsDescending (suc n ∷ [])
-    falls r = omega arith
+    descends : IsDescending (suc n ∷ [])
+    descends r = omega arith
 
     positive : All (λ x. 0 < x) (suc n ∷ [])
     positive zero d lt = omega arith

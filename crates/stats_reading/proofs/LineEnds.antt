@@ -72,7 +72,7 @@ runs_without_line_end most (r ∷ rs) fits small = both_without 10 (run_text r) 
 list_without_line_end : (rows : ℕ) (list : List ℕ) → rows ≤ 4000000 → IsList rows list → HasNoByte 10 (list_text list)
 list_without_line_end rows list within_limit is =
     runs_without_line_end rows (runs_of list) (omega arith)
-    (runs_are_within rows (runs_of list) (runs_fall list is.falls is.positive) (subst (λ (x : List ℕ). sum x ≤ rows) (sym (expanded_runs list)) is.within))
+    (runs_are_within rows (runs_of list) (runs_fall list is.descends is.positive) (subst (λ (x : List ℕ). sum x ≤ rows) (sym (expanded_runs list)) is.within))
 
 -- ---- lines with line ends
 

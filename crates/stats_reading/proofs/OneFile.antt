@@ -32,7 +32,7 @@ use Rattle.stats_reading.proofs.LineEnds.{front_of, lines_ended, not_empty, IsEn
 use Rattle.stats_reading.proofs.AppendedLists.{all_at, both_some_same}
 use Rattle.stats_reading.proofs.Tags.{after_pair, after_pairs, from_tables, pair_opened, pair_rest, same_tag, tag, to_tables}
 use Rattle.stats_reading.proofs.BeginsAndEnds.{column_place, same_name_same_place}
-use Rattle.stats_reading.proofs.WordFacts.{datum_without_blank, hex_without, same_datum, same_list}
+use Rattle.stats_reading.proofs.WordFacts.{datum_without_blank, hex_text_without_blank, same_datum, same_list}
 
 abbrev Lines : Type 0
 Lines = List (List ℕ)
@@ -149,7 +149,7 @@ same_pairs schema table rows (p ∷ ps) (q ∷ qs) ts us good within_limit are_p
     let is_p = are_p 0 p (omega arith) in
     let is_q = are_q 0 q (omega arith) in
     let names = same_words_of_line (codes "pair ") (hex_text (name_at table p.filter)) (hex_text (name_at table p.joined)) (hex_text (name_at table q.filter)) (hex_text (name_at table q.joined))
-    (hex_without (name_at table p.filter)) (hex_without (name_at table q.filter)) line in
+    (hex_text_without_blank (name_at table p.filter)) (hex_text_without_blank (name_at table q.filter)) line in
     let filter = column_place table p.filter q.filter good (slice_get_within table.columns p.filter is_p.filter is_p.filter_is)
     (slice_get_within table.columns q.filter is_q.filter is_q.filter_is) names.0 in
     let joined = column_place table p.joined q.joined good is_p.joined is_q.joined names.1 in
@@ -184,7 +184,7 @@ same_tables schema (t ∷ ts) (u ∷ us) good are_t are_u e =
     let f = sym (first_line_of_tables schema t ts is_t) ∙ e ∙ first_line_of_tables schema u us is_u in
     let line : table_line is_t.table.name t.rows ≡ table_line is_u.table.name u.rows = cc in
     let behind : pairs_left schema is_t.table t.pairs ts ≡ pairs_left schema is_u.table u.pairs us = cc in
-    let words = same_words_of_line (codes "table ") (hex_text is_t.table.name) (decimal t.rows) (hex_text is_u.table.name) (decimal u.rows) (hex_without is_t.table.name) (hex_without is_u.table.name) line in
+    let words = same_words_of_line (codes "table ") (hex_text is_t.table.name) (decimal t.rows) (hex_text is_u.table.name) (decimal u.rows) (hex_text_without_blank is_t.table.name) (hex_text_without_blank is_u.table.name) line in
     let place = same_name_same_place (λ (x : Table). x.name) schema.tables t.table u.table is_t.table is_u.table good.names is_t.table_is is_u.table_is words.0 in
     let rows = decimal_injective t.rows u.rows (omega arith) (omega arith) words.1 in
     let found : slice_get schema.tables t.table ≡ Some is_u.table = ap (λ n. slice_get schema.tables n) place ∙ is_u.table_is in

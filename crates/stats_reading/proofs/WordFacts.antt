@@ -42,8 +42,8 @@ same_datum (kinds.Text most) (datum.Int a) b f g e = absurd f
 same_datum (kinds.Text most) (datum.Text a) (datum.Int b) f g e = absurd g
 same_datum (kinds.Text most) (datum.Text a) (datum.Text b) f g e = ap datum.Text (same_hex a b e)
 
-dash_is_none : (most : ℕ) (m : Piece) (ms : List Piece) → most < 2 ^ 64 → IsRunWithin most m → codes "-" ≢ runs_text (m ∷ ms)
-dash_is_none most m ms fits small e =
+dash_spells_no_run : (most : ℕ) (m : Piece) (ms : List Piece) → most < 2 ^ 64 → IsRunWithin most m → codes "-" ≢ runs_text (m ∷ ms)
+dash_spells_no_run most m ms fits small e =
     let is = is_run_word most m fits small in
     let whole : codes "-" ≡ is.value ++ (42 ∷ (is.count ++ flat_map (λ (next : Piece). codes " " ++ run_text next) ms)) =
     e ∙ ap (λ (w : List ℕ). w ++ flat_map (λ (next : Piece). codes " " ++ run_text next) ms) is.whole
@@ -56,8 +56,8 @@ dash_is_none most m ms fits small e =
 
 same_runs : (most : ℕ) (a b : List Piece) → most < 2 ^ 64 → AllByRecursion (IsRunWithin most) a → AllByRecursion (IsRunWithin most) b → runs_text a ≡ runs_text b → a ≡ b
 same_runs most [] [] fits small_a small_b e = refl
-same_runs most [] (n ∷ ns) fits small_a small_b e = absurd (dash_is_none most n ns fits small_b.0 e)
-same_runs most (m ∷ ms) [] fits small_a small_b e = absurd (dash_is_none most m ms fits small_a.0 (sym e))
+same_runs most [] (n ∷ ns) fits small_a small_b e = absurd (dash_spells_no_run most n ns fits small_b.0 e)
+same_runs most (m ∷ ms) [] fits small_a small_b e = absurd (dash_spells_no_run most m ms fits small_a.0 (sym e))
 same_runs most (m ∷ []) (n ∷ []) fits small_a small_b e =
     ap (λ (x : Piece). x ∷ []) (same_run_of most m n fits small_a.0 small_b.0 (sym (append-nil (run_text m)) ∙ e ∙ append-nil (run_text n)))
 same_runs most (m ∷ []) (n ∷ o ∷ ns) fits small_a small_b e =
@@ -77,11 +77,11 @@ same_list rows a b fits is_a is_b e =
     sym (expanded_runs a) ∙ ap expanded (same_runs rows (runs_of a) (runs_of b) fits (small a is_a) (small b is_b) e) ∙ expanded_runs b
   where
     small : (list : List ℕ) → IsList rows list → AllByRecursion (IsRunWithin rows) (runs_of list)
-    small list is = runs_are_within rows (runs_of list) (runs_fall list is.falls is.positive) (subst (λ (x : List ℕ). sum x ≤ rows) (sym (expanded_runs list)) is.within)
+    small list is = runs_are_within rows (runs_of list) (runs_fall list is.descends is.positive) (subst (λ (x : List ℕ). sum x ≤ rows) (sym (expanded_runs list)) is.within)
 
-pub not_next : {X : Type 0} (text : X → List ℕ) (Base Follows : X → Type 0) → ((a b : X) → Base a → Base b → text a ≡ text b → a ≡ b) → (word : List ℕ) (r : Option X) (v : X)
+pub spells_no_follower : {X : Type 0} (text : X → List ℕ) (Base Follows : X → Type 0) → ((a b : X) → Base a → Base b → text a ≡ text b → a ≡ b) → (word : List ℕ) (r : Option X) (v : X)
     → Spells text Base word r → r ≡ Some v → (Follows v → ⊥) → (x : X) → Base x × Follows x → text x ≢ word
-not_next text Base Follows same word r v spells is no' x (base, follows) e =
+spells_no_follower text Base Follows same word r v spells is no' x (base, follows) e =
     let own : Spells text Base word (Some v) = subst (Spells text Base word) is spells in
     no' (subst Follows (same x v base own.0 (e ∙ sym own.1)) follows)
 
@@ -100,8 +100,8 @@ pairs_without c low (b ∷ bytes) =
     front_without c (hex_digit (b / 16)) (hex_digit (b % 16) ∷ flat_map hex_byte bytes) (hex_digit_without (b / 16) c low)
     (front_without c (hex_digit (b % 16)) (flat_map hex_byte bytes) (hex_digit_without (b % 16) c low) (pairs_without c low bytes))
 
-pub hex_without : (bytes : List ℕ) → HasNoByte 32 (hex_text bytes)
-hex_without bytes = front_without 32 120 (flat_map hex_byte bytes) (λ e. omega (arith, e)) (pairs_without 32 (omega arith) bytes)
+pub hex_text_without_blank : (bytes : List ℕ) → HasNoByte 32 (hex_text bytes)
+hex_text_without_blank bytes = front_without 32 120 (flat_map hex_byte bytes) (λ e. omega (arith, e)) (pairs_without 32 (omega arith) bytes)
 
 pub numeral_without_blank : (word : List ℕ) → IsNumeral word → HasNoByte 32 word
 numeral_without_blank word is = numeral_without 32 (omega arith) word is
@@ -116,7 +116,7 @@ pub datum_without_blank : (k : Kind) (v : Datum) → IsOfKind k v → HasNoByte 
 datum_without_blank kinds.Int (datum.Int n) fits = signed_without 32 (omega arith) n fits
 datum_without_blank kinds.Int (datum.Text bytes) never = absurd never
 datum_without_blank (kinds.Text most) (datum.Int n) never = absurd never
-datum_without_blank (kinds.Text most) (datum.Text bytes) utf8 = hex_without bytes
+datum_without_blank (kinds.Text most) (datum.Text bytes) utf8 = hex_text_without_blank bytes
 
 hex_pairs_without_blank : (ds : List ℕ) → are_hex_pairs ds ≡ true → HasNoByte 32 ds
 hex_pairs_without_blank [] are = λ k d lt. absurd (omega arith)
@@ -140,7 +140,7 @@ value_without_blank word (inr is) = hex_word_without_blank word is
 
 -- ---- a line determines its words
 
--- a line with one word is its fixed first part, the word and the line end. So the line determines the word
+-- a line with one word consists of a fixed first part, the word and the line end. So the line determines the word
 pub one_word : (front word first l : List ℕ) → l ≡ front ++ first → (front ++ (word ++ codes "\n") ≡ l ++ codes "\n") ↔ (word ≡ first)
 one_word front word first l whole = (to, from)
   where

@@ -1,5 +1,5 @@
 //! Lines that begin a table or a pair of columns.
-ghost use Rattle.std.specs.Prelude.{◌≡◌, ◌≢◌, ◌<◌, ◌≤◌, ◌↔◌, ℕ, List, length, slice_get, All, AllPairs, Some, IsTrue, MatchOption};
+ghost use Rattle.std.specs.Prelude.{◌≡◌, ◌<◌, ◌≤◌, ◌↔◌, length, All, AllPairs, Some, IsTrue};
 ghost use Rattle.schema_types.specs.declared.types.Table.{Table as Declared};
 ghost use Rattle.schema_types.specs.Validity.{IsValid, IsValidTable};
 ghost use Rattle.stats_file.specs.declared.types.TableStats.{TableStats as Section};

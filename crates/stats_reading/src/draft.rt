@@ -1,5 +1,5 @@
 //! The draft: the part of a statistics file that is read so far. It grows line by line.
-ghost use Rattle.std.specs.Prelude.{◌≡◌, [], zero};
+ghost use Rattle.std.specs.Prelude.{◌≡◌};
 ghost use Rattle.stats_reading.specs.Drafts.{empty_draft, empty_pair, empty_section};
 
 use crate::stages::Stage;

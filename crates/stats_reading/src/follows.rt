@@ -1,5 +1,5 @@
 //! Tests whether a value may come next in a draft (the part of a file that is read so far).
-ghost use Rattle.std.specs.Prelude.{◌≡◌, ◌≢◌, ◌-◌, ◌<◌, ◌^◌, ◌↔◌, ℕ, length, sum, slice_get, All, None, Some, IsTrue, MatchOption};
+ghost use Rattle.std.specs.Prelude.{◌≡◌, ◌≢◌, ◌-◌, ◌<◌, ◌^◌, ◌↔◌, length, sum, slice_get, All, None, Some, IsTrue, MatchOption};
 ghost use Rattle.std.specs.declared.cmp.Ordering.TheVariants.{Greater};
 ghost use Rattle.stats_file.specs.declared.types.Datum.{Datum as Value};
 ghost use Rattle.stats_file.specs.declared.types.PairStats.{PairStats as Statistics};

@@ -1,6 +1,5 @@
 //! Reads the words of a line into a draft.
-ghost use Rattle.std.specs.Prelude.{◌≡◌, [], All, length, ◌∷◌};
-ghost use Rattle.schema_types.specs.declared.types.Schema.{Schema as Tables};
+ghost use Rattle.std.specs.Prelude.{◌≡◌, [], All};
 ghost use Rattle.stats_reading.specs.Drafts.{frequent_words, list_word, number_word, value_word, with_cut, with_frequent, with_node, with_rest, with_whole, HasSmallSums, MayBeAccuracy, MayBeCut, MayBeFrequent, MayBeNode, MayBeRest, MayBeWhole, ReadsValue};
 
 use crate::draft::Draft;

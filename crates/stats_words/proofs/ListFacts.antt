@@ -55,7 +55,7 @@ pub record RunsReadSoFar (rows : ℕ) (word rest list : List ℕ) (below left : 
   pub runs : List Piece
   pub front : word ≡ flat_map with_blank_after runs ++ rest
   pub list_is : list ≡ expanded runs
-  pub falls : AreRuns runs
+  pub descends : AreRuns runs
   pub below_is : below ≡ last_value (rows + 1) runs
   pub above : AllByRecursion (λ (r : Piece). below ≤ r.value) runs
   pub total : sum list + left ≡ rows
@@ -74,7 +74,7 @@ room_for_run rows word rest list below left run h may =
 
 record Pushed (rows : ℕ) (runs : List Piece) (run : Piece) (list : List ℕ) : Type 0 where
   pub list_is : list ≡ expanded (runs ++ run ∷ [])
-  pub falls : AreRuns (runs ++ run ∷ [])
+  pub descends : AreRuns (runs ++ run ∷ [])
   pub total : sum list ≡ sum (expanded runs) + run.count * run.value
 
 pushed : (rows : ℕ) (word rest list new : List ℕ) (below left : ℕ) (run : Piece) (h : RunsReadSoFar rows word rest list below left) → RunMayFollow below left run
@@ -83,7 +83,7 @@ pushed rows word rest list new below left run h may is =
     let same : new ≡ expanded (h.runs ++ run ∷ []) = is ∙ ap (λ (l : List ℕ). l ++ replicate run.count run.value) h.list_is ∙ sym (expanded-push h.runs run) in
     record {
       list_is = same;
-      falls = AreRuns-push h.runs run h.falls may.value may.count (all_above run.value below h.runs may.lower h.above);
+      descends = AreRuns-push h.runs run h.descends may.value may.count (all_above run.value below h.runs may.lower h.above);
       total = ap sum same ∙ sum-expanded-push h.runs run;
     }
 
@@ -100,7 +100,7 @@ list_read_step rows word rest first others list new below left run h split (may,
           ∙ ap (λ (w : List ℕ). flat_map with_blank_after h.runs ++ w) (sym (append_assoc (run_text run) (codes " ") others) ∙ ap (λ (w : List ℕ). w ++ others) (sym (append-nil (with_blank_after run))))
           ∙ sym (append_assoc (flat_map with_blank_after h.runs) (with_blank_after run ++ []) others) ∙ ap (λ (w : List ℕ). w ++ others) (sym (flat_map-append with_blank_after h.runs (run ∷ [])));
       list_is = more.list_is;
-      falls = more.falls;
+      descends = more.descends;
       below_is = sym (last_value_push (rows + 1) h.runs run);
       above = above_more run.value h.runs run refl (all_above run.value below h.runs may.lower h.above);
       total = omega (arith, more.total, h.total, ap sum h.list_is);
@@ -116,10 +116,10 @@ list_read_end rows word rest list new below left run fits h (may, text) is =
     let len = ap length is ∙ length-append list (replicate run.count run.value) in
     let short : length new ≤ rows = omega (arith, len, length-replicate run.count run.value) in
     let runs_are : runs_of new ≡ h.runs ++ run ∷ [] =
-    runs_found new (h.runs ++ run ∷ []) (record { falls = more.falls; fits = omega (arith, ap length more.list_is) }) more.list_is in (
+    runs_found new (h.runs ++ run ∷ []) (record { descends = more.descends; fits = omega (arith, ap length more.list_is) }) more.list_is in (
       record {
-        falls = subst IsDescending (sym more.list_is) (IsDescending-expanded (h.runs ++ run ∷ []) more.falls);
-        positive = subst (λ (l : List ℕ). All (λ x. 0 < x) l) (sym more.list_is) (All-from_recursion (λ x. 0 < x) _ (positive-expanded (h.runs ++ run ∷ []) more.falls));
+        descends = subst IsDescending (sym more.list_is) (IsDescending-expanded (h.runs ++ run ∷ []) more.descends);
+        positive = subst (λ (l : List ℕ). All (λ x. 0 < x) l) (sym more.list_is) (All-from_recursion (λ x. 0 < x) _ (positive-expanded (h.runs ++ run ∷ []) more.descends));
         within = omega (arith, more.total, h.total, ap sum h.list_is);
       },
       ap runs_text runs_are ∙ sym (texts_joined h.runs run) ∙ ap (λ (w : List ℕ). flat_map with_blank_after h.runs ++ w) text ∙ sym h.front,
@@ -128,10 +128,10 @@ list_read_end rows word rest list new below left run fits h (may, text) is =
 others_text : (rows : ℕ) (word rest list : List ℕ) (below left : ℕ) → rows < 2 ^ 32 → word ≢ codes "-" → (h : RunsReadSoFar rows word rest list below left)
     → (l : List ℕ) → IsList rows l → list_text l ≡ word → RunsSplitOff h.runs (runs_of l) rest
 others_text rows word rest list below left fits dash h l is e =
-    let runs = runs_fall l is.falls is.positive in
+    let runs = runs_fall l is.descends is.positive in
     let sum_is : sum (expanded (runs_of l)) ≤ rows = subst (λ (x : List ℕ). sum x ≤ rows) (sym (expanded_runs l)) is.within in
     let own_sum : sum (expanded h.runs) ≤ rows = omega (arith, ap sum h.list_is, h.total) in
-    stripped rows h.runs (runs_of l) rest (omega arith) (runs_are_within rows h.runs h.falls own_sum) (runs_are_within rows (runs_of l) runs sum_is) (not_none (runs_of l) (λ n. dash (sym e ∙ ap runs_text n)))
+    stripped rows h.runs (runs_of l) rest (omega arith) (runs_are_within rows h.runs h.descends own_sum) (runs_are_within rows (runs_of l) runs sum_is) (not_none (runs_of l) (λ n. dash (sym e ∙ ap runs_text n)))
     (e ∙ h.front)
   where
     not_none : (rs : List Piece) → (rs ≡ [] → ⊥) → 0 < length rs
@@ -149,7 +149,7 @@ runs_at (r ∷ rs) m ms runs = runs_at rs m ms runs.2
 may_be_next : (rows : ℕ) (word rest list : List ℕ) (below left : ℕ) (h : RunsReadSoFar rows word rest list below left) (l : List ℕ) → IsList rows l
     → (s : RunsSplitOff h.runs (runs_of l) rest) → RunMayFollow below left s.run
 may_be_next rows word rest list below left h l is s =
-    let runs = subst AreRuns s.whole (runs_fall l is.falls is.positive) in
+    let runs = subst AreRuns s.whole (runs_fall l is.descends is.positive) in
     let here = runs_at h.runs s.run s.more runs in
     let value : 0 < s.run.value = omega (arith, here.0) in
     let both = at_least_both s.run.value s.run.count value here.1 in
@@ -194,4 +194,4 @@ pub dash_is_empty_list : (rows : ℕ) (word list : List ℕ) → list ≡ [] →
 unfolding runs_of
 dash_is_empty_list rows word list none is =
     subst (λ (l : List ℕ). Spells list_text (IsList rows) word (Some l)) (sym none)
-    (record { falls = λ r. omega arith; positive = λ k d lt. absurd (omega arith); within = omega arith }, sym is)
+    (record { descends = λ r. omega arith; positive = λ k d lt. absurd (omega arith); within = omega arith }, sym is)

@@ -197,8 +197,8 @@ in_front_runs x (p ∷ ps) some le runs = at (x == p.value) refl
 
 pub runs_fall : (list : List ℕ) → IsDescending list → All (λ x. 0 < x) list → AreRuns (runs_of list)
 unfolding runs_of
-runs_fall [] falls positive = tt
-runs_fall (x ∷ list) falls positive =
+runs_fall [] descends positive = tt
+runs_fall (x ∷ list) descends positive =
     let first = first_runs list in
-    let below : get_or list 0 0 ≤ x = falls 0 in
-    in_front_runs x (runs_of list) (positive 0 0 (omega arith)) (omega arith) (runs_fall list (λ r. falls (suc r)) (λ k d lt. positive (suc k) d (omega arith)))
+    let below : get_or list 0 0 ≤ x = descends 0 in
+    in_front_runs x (runs_of list) (positive 0 0 (omega arith)) (omega arith) (runs_fall list (λ r. descends (suc r)) (λ k d lt. positive (suc k) d (omega arith)))

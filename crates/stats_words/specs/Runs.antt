@@ -1,5 +1,5 @@
 -- Runs that may come next in a list, and the text of a list.
-use Rattle.std.specs.Prelude.{ℕ, ◌+◌, ◌*◌, ◌<◌, ◌≤◌, List}
+use Rattle.std.specs.Prelude.{ℕ, ◌*◌, ◌<◌, ◌≤◌, List}
 use Rattle.piece_math.specs.declared.pieces.Piece.{Piece}
 use Rattle.stats_file.specs.Lines.{runs_text}
 use Rattle.stats_file.specs.Runs.{runs_of}

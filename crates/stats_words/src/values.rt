@@ -2,7 +2,7 @@
 ghost use Rattle.std.specs.Prelude.{◌≡◌, ◌↔◌, ℕ, IfOk, IsTrue, IsUtf8, MatchOption};
 ghost use Rattle.schema_types.specs.declared.types.Kind.TheVariants as kinds;
 ghost use Rattle.stats_file.specs.declared.types.Datum.TheVariants as datums;
-ghost use Rattle.stats_file.specs.Grammar.{IsHexWord, IsSignedNumeral, IsValueWord};
+ghost use Rattle.stats_file.specs.Grammar.{IsValueWord};
 ghost use Rattle.stats_file.specs.Lines.{datum_text};
 ghost use Rattle.stats_file.specs.Rules.{IsOfKind};
 ghost use Rattle.stats_words.specs.Words.{Spells};

@@ -1,5 +1,5 @@
 -- A query over a schema can be evaluated on the database of its tables.
-use Rattle.std.proofs.Common.{◌≡◌, ℕ, ◌<◌, ◌≤◌, Bool, List, [], ◌∷◌, length, map, Option, Some, option_map, get_or, refl, ap, sym, ◌∙◌, subst, arith}
+use Rattle.std.proofs.Common.{◌≡◌, ℕ, ◌<◌, ◌≤◌, Bool, List, [], ◌∷◌, length, map, Some, option_map, get_or, refl, ap, sym, ◌∙◌, subst, arith}
 use Rattle.std.specs.List.{All, AllByRecursion, slice_get}
 use Rattle.std.proofs.lemmas.List as list
 use Rattle.std.proofs.lemmas.List.{length-map}
@@ -27,7 +27,7 @@ use Rattle.query_types.proofs.CondFacts.{every_and, every_or, every_not, every_c
 use Rattle.sql_meaning.specs.Databases as asked
 use Rattle.sql_meaning.specs.Tables.{cells_of}
 use Rattle.table_files.specs.EntryTables.{AreCellsOfEach, HasCells}
-use Rattle.table_files.specs.Stage.{without_repeats, no_table, numbers_of, index_of, table_at, tables_of_query}
+use Rattle.table_files.specs.Stage.{no_table, numbers_of, index_of, table_at, tables_of_query}
 use Rattle.table_files.proofs.FewRows.{HasRowsWithinLimit, tables_within_row_limit}
 use Rattle.table_files.proofs.EntryRows.{db, each_count, each_sound, has_cells, index_within, slot_is}
 use Rattle.table_files.proofs.IndexFacts.{different_all, without_repeats_short}

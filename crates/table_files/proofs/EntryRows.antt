@@ -1,5 +1,5 @@
 -- The FROM entries of a database refer to their tables by index.
-use Rattle.std.proofs.Common.{◌≡◌, ℕ, zero, suc, ◌+◌, ◌<◌, List, [], ◌∷◌, length, get_or, map, refl, ap, sym, ◌∙◌, subst, arith}
+use Rattle.std.proofs.Common.{◌≡◌, ℕ, zero, suc, ◌<◌, List, [], ◌∷◌, length, get_or, map, refl, ap, sym, ◌∙◌, subst, arith}
 use Rattle.std.specs.List.{AllByRecursion, range_with_len}
 use Rattle.std.proofs.lemmas.List as list
 use Rattle.std.proofs.Math.ListN as listn
@@ -13,9 +13,9 @@ use Rattle.csv_tables.specs.declared.types.Cells.{Cells}
 use Rattle.csv_tables.specs.declared.types.Database.{Database}
 use Rattle.query_types.specs.declared.types.Source.{Source}
 use Rattle.sql_meaning.specs.Databases.{AreCells}
-use Rattle.sql_meaning.specs.Tables.{cells_of, no_cells, tables_of}
+use Rattle.sql_meaning.specs.Tables.{no_cells, tables_of}
 use Rattle.table_files.specs.EntryTables.{AreCellsOfEach, CanComeFromFile, CanComeFromFiles, EachCanComeFromFile, HasCells, entry_rows, rows_of_tables}
-use Rattle.table_files.specs.Stage.{without_repeats, numbers_of, index_of, rows_by_entry, table_at, tables_of_query}
+use Rattle.table_files.specs.Stage.{numbers_of, index_of, rows_by_entry, table_at, tables_of_query}
 use Rattle.table_files.proofs.IndexFacts.{at_place, has_different, has_each, has_place}
 
 map_same : {A B : Type 0} (f g : A → B) → ((x : A) → f x ≡ g x) → (xs : List A) → map f xs ≡ map g xs

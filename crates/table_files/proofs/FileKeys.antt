@@ -2,7 +2,7 @@
 use Rattle.std.proofs.Common.{◌≡◌, ℕ, ℤ, zero, suc, ◌+◌, ◌<◌, ◌≤◌, Bool, true, false, nat_eq, nat_lt, List, [], ◌∷◌, ◌++◌, length, map, get_or, pos, Option, None, Some, Result, Ok, Err, refl, ap, sym, ◌∙◌, subst, inl, inr, not, arith, length-append, append_assoc}
 use Rattle.std.specs.Prelude.{IsUtf8, encode_utf8_all, position, if◌then◌else◌, option_map, nat_le, ⊤}
 use Rattle.std.specs.Cmp.Lexicographic.{slice_cmp}
-use Rattle.std.specs.List.{AllByRecursion, Contains, position_or_len}
+use Rattle.std.specs.List.{AllByRecursion, position_or_len}
 use Rattle.std.specs.Ordering.{int_cmp, is_eq, nat_cmp}
 use Rattle.std.specs.Str.{chars, is_utf8}
 use Rattle.std.specs.Str.Lossy.{utf8_valid_len}
@@ -156,10 +156,10 @@ none_before seen (x ∷ rest) none i j less from' low =
           let at_i : get_or (seen ++ x ∷ rest) i [] ≡ get_or seen i [] = get_or-append seen (x ∷ rest) [] i (omega (arith, less, here)) in
           ap (λ (v : List Value). are_same v (get_or (seen ++ x ∷ rest) i [])) at_j ∙ ap (are_same x) at_i ∙ passed (are_same x) seen parts.1 i [] (omega (arith, less, here))
       | inr past ↦
-          let long : length (seen ++ x ∷ []) ≡ length seen + 1 = length-append seen (x ∷ []) in
+          let lengths : length (seen ++ x ∷ []) ≡ length seen + 1 = length-append seen (x ∷ []) in
           let whole : (seen ++ x ∷ []) ++ rest ≡ seen ++ x ∷ rest = append_assoc seen (x ∷ []) rest in
           ap (λ (all : List (List Value)). are_same (get_or all j []) (get_or all i [])) (sym whole)
-          ∙ none_before (seen ++ x ∷ []) rest parts.0 i j less (omega (arith, long, from', past)) (omega (arith, long, low))
+          ∙ none_before (seen ++ x ∷ []) rest parts.0 i j less (omega (arith, lengths, from', past)) (omega (arith, lengths, low))
     ]
 
 -- ---- values that compare as equal are equal
@@ -222,8 +222,8 @@ module _ (rows : List Row) (texts_are_utf8 : AllByRecursion (AllByRecursion IsUt
   before : (i j : ℕ) → i < j → j < length rows → value_in i ≡ value_in j → ⊥
   before i j less low same =
       let keys : List (List Value) = map (key_values (column ∷ [])) rows in
-      let long : length keys ≡ length rows = length-map rows (key_values (column ∷ [])) in
-      let apart' : are_same (get_or keys j []) (get_or keys i []) ≡ false = none_before [] keys no_repeat i j less (omega arith) (omega (arith, low, long)) in
+      let lengths : length keys ≡ length rows = length-map rows (key_values (column ∷ [])) in
+      let apart' : are_same (get_or keys j []) (get_or keys i []) ≡ false = none_before [] keys no_repeat i j less (omega arith) (omega (arith, low, lengths)) in
       let keys_apart : are_same (value_in j ∷ []) (value_in i ∷ []) ≡ false =
       ap (λ (k : List Value). are_same k (value_in i ∷ [])) (sym (key_at j low)) ∙ ap (are_same (get_or keys j [])) (sym (key_at i (omega (arith, less, low)))) ∙ apart' in
       let alike : is_same (value_in j) (value_in i) ≡ true = ap (is_same (value_in j)) same ∙ same_itself (value_in j) in

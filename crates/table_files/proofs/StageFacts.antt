@@ -1,5 +1,5 @@
 -- The result of reading a query's tables follows from the reading of each table.
-use Rattle.std.proofs.Common.{◌≡◌, ℕ, List, map, Result, Ok, Err, ap, sym, ◌∙◌, subst}
+use Rattle.std.proofs.Common.{◌≡◌, ℕ, List, map, Ok, Err, ap, sym, ◌∙◌, subst}
 use Rattle.std.specs.Prelude.{All}
 use Rattle.base_io.specs.Files.{Files}
 use Rattle.schema_types.specs.declared.types.Schema.{Schema}
@@ -15,7 +15,6 @@ use Rattle.base_io.specs.Devices.{Reading}
 use Rattle.outcomes.specs.Reads.{Reads}
 use Rattle.outcomes.specs.declared.failure.Failure.{Failure}
 use Rattle.outcomes.specs.declared.names.FileId.{FileId}
-use Rattle.outcomes.specs.declared.refusal.Refusal.{Refusal}
 use Rattle.outcomes.proofs.ReadFacts.{then_gives, then_stops}
 use Rattle.table_files.specs.EntryTables.{AreCellsOfEach, CanComeFromFiles, EachCanComeFromFile, HasCells, entry_rows, rows_of_tables}
 use Rattle.table_files.specs.Stage.{IsReached, numbers_of, index_of, rows_by_entry, rows_of_each, tables_of_query, tables_stage}

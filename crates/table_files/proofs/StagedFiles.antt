@@ -1,5 +1,5 @@
 -- If the stage that reads a query's tables succeeds, its rows are the rows of the files in the store.
-use Rattle.std.proofs.Common.{◌≡◌, ℕ, ◌+◌, ◌<◌, Bool, true, false, List, [], length, get_or, Option, None, Some, Result, Ok, Err, ap, sym, ◌∙◌, subst, arith}
+use Rattle.std.proofs.Common.{◌≡◌, ℕ, ◌+◌, ◌<◌, Bool, true, false, List, [], length, get_or, Option, None, Some, Result, Ok, Err, ap, sym, ◌∙◌, arith}
 use Rattle.std.specs.Prelude.{if◌then◌else◌, nat_lt}
 use Rattle.std.proofs.lemmas.List.{length-map}
 use Rattle.std.proofs.lemmas.Option.{slice_get-get_or}
@@ -16,7 +16,7 @@ use Rattle.outcomes.specs.declared.names.FileId.TheVariants as file
 use Rattle.outcomes.specs.declared.refusal.Refusal.{Refusal}
 use Rattle.outcomes.specs.declared.refusal.Refusal.TheVariants as refusal
 use Rattle.query_types.specs.declared.types.Source.{Source}
-use Rattle.table_files.specs.EntryTables.{CanComeFromFile, CanComeFromFiles, tables_in}
+use Rattle.table_files.specs.EntryTables.{CanComeFromFiles, tables_in}
 use Rattle.table_files.specs.FileNames.{file_name}
 use Rattle.table_files.specs.Stage.{numbers_of, index_of, rows_by_entry, rows_of_each, table_at, table_rows, tables_of_query, tables_stage}
 use Rattle.table_files.specs.TableFile.{bytes_of, file_rows, read, rows_of_bytes}

@@ -1,5 +1,5 @@
 //! Reads the rows of one table from a file with a given name.
-ghost use Rattle.std.specs.Prelude.{◌≡◌, ◌<◌, ◌≤◌, All, IfOk, IsUtf8, length};
+ghost use Rattle.std.specs.Prelude.{◌<◌, ◌≤◌, All, IfOk, IsUtf8, length};
 ghost use Rattle.limits.specs.Profile.{most_rows};
 ghost use Rattle.base_io.specs.Devices.{reading};
 ghost use Rattle.csv_tables.specs.Cells.{AreCellsOf};

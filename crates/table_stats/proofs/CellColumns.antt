@@ -1,5 +1,5 @@
 -- A column of cells has the same lists as the column of the cells' values. Equal cells have one number, and cells compare as their values do.
-use Rattle.std.proofs.Common.{◌≡◌, ℕ, ◌<◌, true, List, [], ◌∷◌, length, map, get_or, pos, Option, None, Some, refl, ap, sym, ◌∙◌, subst, arith, inl, inr}
+use Rattle.std.proofs.Common.{◌≡◌, ℕ, ◌<◌, true, List, length, map, get_or, pos, Option, None, Some, refl, ap, sym, ◌∙◌, subst, arith, inl, inr}
 use Rattle.std.specs.Prelude.{option_map}
 use Rattle.std.specs.List.{All, Contains, zip}
 use Rattle.std.proofs.lemmas.Bool.{false≢true}

@@ -72,23 +72,23 @@ module _ (tables : Tables) (entry : ℕ) where
     pub same_number : (row other : ℕ) → is_equal (value_at row) (value_at other) ≡ true → number_at row ≡ number_at other
     same_number row other h = same_first values (value_at row) (value_at other) h
 
-  -- ---- a list `joined` with one value for each row of the table; it needn't be a column of the table
-  module _ (joined : List Value) (joined_length : length joined ≡ row_count) where
-    pub listed_numbers_are : as_first_rows joined ≡ map (listed_number joined) rows
-    listed_numbers_are = listed_numbers joined ∙ ap (λ (n : ℕ). map (listed_number joined) (range_with_len 0 n)) joined_length
+  -- ---- a list `joined_values` with one value for each row of the table; it needn't be a column of the table
+  module _ (joined_values : List Value) (joined_length : length joined_values ≡ row_count) where
+    pub listed_numbers_are : as_first_rows joined_values ≡ map (listed_number joined_values) rows
+    listed_numbers_are = listed_numbers joined_values ∙ ap (λ (n : ℕ). map (listed_number joined_values) (range_with_len 0 n)) joined_length
 
-    pub pairs_are : (column : ℕ) → paired (values column) joined ≡ zip (map (number_at column) rows) (map (listed_number joined) rows)
+    pub pairs_are : (column : ℕ) → paired (values column) joined_values ≡ zip (map (number_at column) rows) (map (listed_number joined_values) rows)
     pairs_are column =
-        ap (λ (s : List ℕ). zip s (as_first_rows joined)) (numbers_are column)
+        ap (λ (s : List ℕ). zip s (as_first_rows joined_values)) (numbers_are column)
         ∙ ap (λ (s : List ℕ). zip (map (number_at column) rows) s) listed_numbers_are
 
-    pub filter_numbers : (column : ℕ) → filter_values (paired (values column) joined) ≡ as_first_rows (values column)
+    pub filter_numbers : (column : ℕ) → filter_values (paired (values column) joined_values) ≡ as_first_rows (values column)
     filter_numbers column =
-        (zip_of_columns (as_first_rows (values column)) (as_first_rows joined)
+        (zip_of_columns (as_first_rows (values column)) (as_first_rows joined_values)
         (omega (
           arith,
           length-map (values column) (first_row (values column)),
-          length-map joined (first_row joined),
+          length-map joined_values (first_row joined_values),
           values_length column,
           joined_length,
         ))).0

@@ -26,33 +26,33 @@ use Rattle.table_stats.proofs.Dominating.{equal_for_keys, first_leaf, last_leaf,
 
 -- ---- lists are in descending order
 
-compressed-falls : (accuracy : ℕ) (keys : List ℕ) → IsDescending (compressed_degrees accuracy keys)
-compressed-falls accuracy keys = IsDescending-compressed accuracy (degree_list keys) (IsDescending-degree_list keys)
+IsDescending-compressed_degrees : (accuracy : ℕ) (keys : List ℕ) → IsDescending (compressed_degrees accuracy keys)
+IsDescending-compressed_degrees accuracy keys = IsDescending-compressed accuracy (degree_list keys) (IsDescending-degree_list keys)
 
-rest-falls : (accuracy : ℕ) (pairs : List (ℕ × ℕ)) → IsDescending (rest accuracy pairs)
-rest-falls accuracy pairs =
+IsDescending-rest : (accuracy : ℕ) (pairs : List (ℕ × ℕ)) → IsDescending (rest accuracy pairs)
+IsDescending-rest accuracy pairs =
     subst IsDescending (sym (rest-is accuracy pairs)) (IsDescending-compressed accuracy (uncompressed_rest pairs) (IsDescending-uncompressed_rest pairs))
 
-value-falls : (accuracy : ℕ) (pairs : List (ℕ × ℕ)) (value : ℕ) → IsDescending (list_of_value accuracy pairs (Some value))
+IsDescending-list_of_value : (accuracy : ℕ) (pairs : List (ℕ × ℕ)) (value : ℕ) → IsDescending (list_of_value accuracy pairs (Some value))
 unfolding list_of_value
-value-falls accuracy pairs value =
+IsDescending-list_of_value accuracy pairs value =
     cond_both (is_frequent pairs value) (compressed_degrees accuracy (keys_with value pairs)) (rest accuracy pairs) IsDescending
-    (λ e. compressed-falls accuracy (keys_with value pairs)) (λ e. rest-falls accuracy pairs)
+    (λ e. IsDescending-compressed_degrees accuracy (keys_with value pairs)) (λ e. IsDescending-rest accuracy pairs)
 
-node-falls : (at_most : ℕ → ℕ → Bool) (accuracy : ℕ) (pairs : List (ℕ × ℕ)) (size leaf : ℕ) → IsDescending (list_of_node at_most accuracy pairs size leaf)
+IsDescending-list_of_node : (at_most : ℕ → ℕ → Bool) (accuracy : ℕ) (pairs : List (ℕ × ℕ)) (size leaf : ℕ) → IsDescending (list_of_node at_most accuracy pairs size leaf)
 unfolding list_of_node
-node-falls at_most accuracy pairs size leaf =
-    compressed-falls accuracy (keys_where (λ value. in_node size leaf (leaf_of at_most (filter_values pairs) value)) pairs)
+IsDescending-list_of_node at_most accuracy pairs size leaf =
+    IsDescending-compressed_degrees accuracy (keys_where (λ value. in_node size leaf (leaf_of at_most (filter_values pairs) value)) pairs)
 
-module _ (tables : Tables) (accuracy entry : ℕ) (joined : List Value) where
+module _ (tables : Tables) (accuracy entry : ℕ) (joined_values : List Value) where
   abbrev pairs : ℕ → List (ℕ × ℕ)
-  pairs column = paired (values tables entry column) joined
+  pairs column = paired (values tables entry column) joined_values
 
-  pub listed_descend : ListsDescend (lists_over accuracy (values tables entry) joined)
+  pub listed_descend : ListsDescend (lists_over accuracy (values tables entry) joined_values)
   listed_descend = record {
-    whole = compressed-falls accuracy (as_first_rows joined);
-    equal = λ column value. value-falls accuracy (pairs column) (first_row (values tables entry column) value);
-    range = λ range. node-falls (row_le (values tables entry range.column)) accuracy (pairs range.column)
+    whole = IsDescending-compressed_degrees accuracy (as_first_rows joined_values);
+    equal = λ column value. IsDescending-list_of_value accuracy (pairs column) (first_row (values tables entry column) value);
+    range = λ range. IsDescending-list_of_node (row_le (values tables entry range.column)) accuracy (pairs range.column)
         (node_size (first_leaf (values tables entry range.column) range.low) (last_leaf (values tables entry range.column) range.high))
         (first_leaf (values tables entry range.column) range.low);
   }
@@ -65,42 +65,42 @@ module _ (tables : Tables) (accuracy entry : ℕ) (joined : List Value) where
   abbrev count_of : List ℕ → ℕ → ℕ
   count_of numbers number = cond (list_any (λ other. eqb other number) (frequent numbers)) (degree numbers number) (remaining_count numbers)
 
-  module _ (joined_length : length joined ≡ row_counts tables entry) where
-    equal_sum : (column : ℕ) (value : Value) → sum ((lists_over accuracy (values tables entry) joined).equal column value) ≡ count_with (values tables entry column) value
+  module _ (joined_length : length joined_values ≡ row_counts tables entry) where
+    equal_sum : (column : ℕ) (value : Value) → sum ((lists_over accuracy (values tables entry) joined_values).equal column value) ≡ count_with (values tables entry column) value
     equal_sum column value =
         let number : ℕ = first_row (values tables entry column) value in
         sum-list_of_value accuracy (pairs column) number
         ∙ ap (λ (n : ℕ). cond (is_frequent (pairs column) number) (degree (filter_values (pairs column)) number) n) (sum-rest accuracy (pairs column))
-        ∙ ap (λ (numbers : List ℕ). count_of numbers number) (filter_numbers tables entry joined joined_length column)
+        ∙ ap (λ (numbers : List ℕ). count_of numbers number) (filter_numbers tables entry joined_values joined_length column)
 
-    range_sum : (range : Range) → sum ((lists_over accuracy (values tables entry) joined).range range) ≡ (entry_counts tables entry).range range
+    range_sum : (range : Range) → sum ((lists_over accuracy (values tables entry) joined_values).range range) ≡ (entry_counts tables entry).range range
     range_sum range =
         let at_most : ℕ → ℕ → Bool = row_le (values tables entry range.column) in
         let first : ℕ = first_leaf (values tables entry range.column) range.low in
         let size : ℕ = node_size first (last_leaf (values tables entry range.column) range.high) in
         sum-list_of_node at_most accuracy (pairs range.column) size first
-        ∙ ap (λ (numbers : List ℕ). count_by (λ number. in_node size first (leaf_of at_most numbers number)) numbers) (filter_numbers tables entry joined joined_length range.column)
+        ∙ ap (λ (numbers : List ℕ). count_by (λ number. in_node size first (leaf_of at_most numbers number)) numbers) (filter_numbers tables entry joined_values joined_length range.column)
 
-    pub listed_sum : SumTo (lists_over accuracy (values tables entry) joined) (entry_counts tables entry)
+    pub listed_sum : SumTo (lists_over accuracy (values tables entry) joined_values) (entry_counts tables entry)
     listed_sum = record {
-      whole = sum-compressed_degrees accuracy (as_first_rows joined)
-          ∙ length-map joined (first_row joined) ∙ joined_length;
+      whole = sum-compressed_degrees accuracy (as_first_rows joined_values)
+          ∙ length-map joined_values (first_row joined_values) ∙ joined_length;
       equal = equal_sum;
       range = range_sum;
     }
 
 -- ---- the lists of an entry's columns
 
-pub lists_descend : (tables : Tables) (accuracy entry joined : ℕ) → ListsDescend (column_lists tables accuracy entry joined)
-lists_descend tables accuracy entry joined = listed_descend tables accuracy entry (values tables entry joined)
+pub lists_descend : (tables : Tables) (accuracy entry joined_column : ℕ) → ListsDescend (column_lists tables accuracy entry joined_column)
+lists_descend tables accuracy entry joined_column = listed_descend tables accuracy entry (values tables entry joined_column)
 
-pub lists_sum : (tables : Tables) (accuracy entry joined : ℕ) → SumTo (column_lists tables accuracy entry joined) (entry_counts tables entry)
-lists_sum tables accuracy entry joined = listed_sum tables accuracy entry (values tables entry joined) (values_length tables entry joined)
+pub lists_sum : (tables : Tables) (accuracy entry joined_column : ℕ) → SumTo (column_lists tables accuracy entry joined_column) (entry_counts tables entry)
+lists_sum tables accuracy entry joined_column = listed_sum tables accuracy entry (values tables entry joined_column) (values_length tables entry joined_column)
 
 -- ---- the counts are at least the numbers of rows that pass
 
 module _ (tables : Tables) (entry : ℕ) where
-  -- this counts rows by the numbers of column 0; any other column would serve as well
+  -- the proof has to count rows by some joined column; it takes column 0, and any other would do
   abbrev first_column : List Value
   first_column = values tables entry 0
 

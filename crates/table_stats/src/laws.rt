@@ -22,20 +22,20 @@ pub fn statistics_stand_for_tables()
         → ListsStandFor (column_lists tables accuracy entry column) tables entry key }
     ensures counts { (tables : Tables) (entry : ℕ) → CountsStandFor (entry_counts tables entry) tables entry }
     // the joined values needn't be a column of the table: any list with one value for each row of the table is possible
-    ensures any_joined_list { (tables : Tables) (accuracy entry : ℕ) (joined : List Value) (key : ℕ → ℕ)
-        → length joined ≡ row_counts tables entry → SeparatesListed joined key
-        → ListsStandFor (lists_over accuracy (column_values tables entry) joined) tables entry key }
+    ensures any_joined_list { (tables : Tables) (accuracy entry : ℕ) (joined_values : List Value) (key : ℕ → ℕ)
+        → length joined_values ≡ row_counts tables entry → SeparatesListed joined_values key
+        → ListsStandFor (lists_over accuracy (column_values tables entry) joined_values) tables entry key }
 {}
 
 /// Each list is in descending order, and sums to the number of rows for the same condition. So all joined columns have the same sums.
 pub fn lists_sum_to_counts()
     ensures sums { (tables : Tables) (accuracy entry column : ℕ)
         → SumTo (column_lists tables accuracy entry column) (entry_counts tables entry) }
-    ensures falls { (tables : Tables) (accuracy entry column : ℕ) → ListsDescend (column_lists tables accuracy entry column) }
-    ensures sums_beside { (tables : Tables) (accuracy entry : ℕ) (joined : List Value) → length joined ≡ row_counts tables entry
-        → SumTo (lists_over accuracy (column_values tables entry) joined) (entry_counts tables entry) }
-    ensures falls_beside { (tables : Tables) (accuracy entry : ℕ) (joined : List Value)
-        → ListsDescend (lists_over accuracy (column_values tables entry) joined) }
+    ensures descends { (tables : Tables) (accuracy entry column : ℕ) → ListsDescend (column_lists tables accuracy entry column) }
+    ensures sums_beside { (tables : Tables) (accuracy entry : ℕ) (joined_values : List Value) → length joined_values ≡ row_counts tables entry
+        → SumTo (lists_over accuracy (column_values tables entry) joined_values) (entry_counts tables entry) }
+    ensures falls_beside { (tables : Tables) (accuracy entry : ℕ) (joined_values : List Value)
+        → ListsDescend (lists_over accuracy (column_values tables entry) joined_values) }
 {}
 
 /// Keys exist: there is a number for each row of each table in each column. Two keys are equal exactly if the values are.

@@ -7,7 +7,7 @@ use Rattle.ll_grammars.specs.declared.lexeme.Lexeme.{Lexeme}
 use Rattle.ll_grammars.specs.Reading.{Answer, Parser}
 use Rattle.ll_grammars.specs.Rules.{next_token_start}
 use Rattle.sql_tokens.specs.declared.token.Token.{Token}
-use Rattle.sql_tokens.specs.Lexing.{mark_len}
+use Rattle.sql_tokens.specs.Lexing.{byte_order_mark_len}
 use Rattle.sql_tokens.specs.Pieces.{tokens_at}
 
 -- if a stage gives a value, `rest` goes on with this value. If the stage gives a byte offset, the text is refused at this offset
@@ -17,7 +17,7 @@ or_refused_at wrong (Err at) rest = Err (wrong at)
 
 -- the tokens after the byte order mark. If a text isn't UTF-8, its error is at the first bad sequence, whatever other errors it has
 unfoldable pub tokens_of : List ℕ → Result (List Token) ℕ
-tokens_of text = if is_utf8 text then tokens_at (mark_len text) (drop (mark_len text) text) else Err (utf8_valid_len text)
+tokens_of text = if is_utf8 text then tokens_at (byte_order_mark_len text) (drop (byte_order_mark_len text) text) else Err (utf8_valid_len text)
 
 -- a parser's value counts if no token is left after it. Otherwise the error is where the parser stopped
 abbrev pub to_the_end : {A : Type 0} → ℕ → Option A → List Lexeme → Result A ℕ

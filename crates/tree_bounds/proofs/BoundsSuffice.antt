@@ -19,7 +19,7 @@ use Rattle.tree_bounds.specs.Counting.{child_keys, choices_for, number_of_choice
 -- ---- the lists of classes and entries are in descending order
 
 member_descends : (rows : ℕ) (g : List ℕ) (children : List ChildLists) → IsListOf rows g → AllByRecursion (IsChildOf rows) children → IsDescending (composed g children)
-member_descends rows g children is all = IsDescending-composed g children is.falls (rw is.total all)
+member_descends rows g children is all = IsDescending-composed g children is.descends (rw is.total all)
 
 mutual
   pub children_descend : (b : EntryBounds) (entry : ℕ) (cs : Classes) → EachColumnBelow (HasList b) entry cs → AllByRecursion (IsChildOf (b.rows entry)) (child_lists b entry cs)

@@ -63,7 +63,7 @@ module _ (accuracy : ℕ) (b exact : EntryBounds) where
 
   columns_descend : (entry : ℕ) (cs : Classes) → EachColumnBelow (HasList b) entry cs → AllByRecursion ColumnIsDescending (map (λ m. m.near) (matched entry cs))
   columns_descend entry no_class h = tt
-  columns_descend entry (and_class column members rest) h = (h.0.falls, columns_descend entry rest h.2)
+  columns_descend entry (and_class column members rest) h = (h.0.descends, columns_descend entry rest h.2)
 
   composed_near : (g f : List ℕ) (entry : ℕ) (cs : Classes) → SumsAreWithin accuracy (accuracy + 1) g f → sum g ≡ b.rows entry → sum f ≡ exact.rows entry
       → EachColumnBelow (HasList b) entry cs → EachColumnBelow (HasList exact) entry cs → AllByRecursion (IsNear accuracy) (matched entry cs)
@@ -94,9 +94,9 @@ module _ (accuracy : ℕ) (b exact : EntryBounds) where
         let n : ℕ = suc (length (entries_below below)) in
         let m : ℕ = length (entries_within rest) in
         let count : suc (length (entries_below below ++ entries_within rest)) ≡ n + m = omega (arith, length-append (entries_below below) (entries_within rest)) in
-        let falls : (r : ℕ) → get_or g (suc r) 0 ≤ get_or g r 0 = IsDescending-composed (b.list entry column) (child_lists b entry below) h.0.falls (rw h.0.total (children_descend b entry below h.1)) in
+        let descends : (r : ℕ) → get_or g (suc r) 0 ≤ get_or g r 0 = IsDescending-composed (b.list entry column) (child_lists b entry below) h.0.descends (rw h.0.total (children_descend b entry below h.1)) in
         rw (count, sym (power-add accuracy n m), sym (power-add (accuracy + 1) n m))
-        (rank_product-near (accuracy_power n) (next_power n) (accuracy_power m) (next_power m) f (class_list exact rest) g (class_list b rest) (class_descends exact rest k.2) falls
+        (rank_product-near (accuracy_power n) (next_power n) (accuracy_power m) (next_power m) f (class_list exact rest) g (class_list b rest) (class_descends exact rest k.2) descends
         (composed_near (b.list entry column) (exact.list entry column) entry below near.0 h.0.total k.0.total h.1 k.1 (below_near entry below h.1 k.1 near.1))
         (within_near rest h.2 k.2 near.2))
 

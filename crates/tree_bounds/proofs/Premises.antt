@@ -10,10 +10,10 @@ use Rattle.tree_bounds.specs.TreeBounds.{HasList}
 use Rattle.tree_bounds.specs.Tables.{Dominates}
 
 pub left_list : HasList exact_bounds 0 0
-left_list = record { falls = IsDescending-degree_list (two_keys 0 0); total = sum-degree_list (two_keys 0 0) }
+left_list = record { descends = IsDescending-degree_list (two_keys 0 0); total = sum-degree_list (two_keys 0 0) }
 
 pub right_list : HasList exact_bounds 1 0
-right_list = record { falls = IsDescending-degree_list (two_keys 1 0); total = sum-degree_list (two_keys 1 0) }
+right_list = record { descends = IsDescending-degree_list (two_keys 1 0); total = sum-degree_list (two_keys 1 0) }
 
 pub left_dominates : Dominates exact_bounds two_tables 0 0
 left_dominates = record { keys = degree_list_dominates (two_keys 0 0); key_per_row = refl }
@@ -22,10 +22,10 @@ pub right_dominates : Dominates exact_bounds two_tables 1 0
 right_dominates = record { keys = degree_list_dominates (two_keys 1 0); key_per_row = refl }
 
 pub left_near_list : HasList compressed_bounds 0 0
-left_near_list = record { falls = IsDescending-compressed 1 (exact_list 0 0) left_list.falls; total = refl }
+left_near_list = record { descends = IsDescending-compressed 1 (exact_list 0 0) left_list.descends; total = refl }
 
 pub right_near_list : HasList compressed_bounds 1 0
-right_near_list = record { falls = IsDescending-compressed 1 (exact_list 1 0) right_list.falls; total = refl }
+right_near_list = record { descends = IsDescending-compressed 1 (exact_list 1 0) right_list.descends; total = refl }
 
 pub within_by_elements : (a c : ℕ) (s t : List ℕ) → ((r : ℕ) → a * get_or s r 0 ≤ c * get_or t r 0) → SumsAreWithin a c s t
 within_by_elements a c s t h zero = omega arith
@@ -36,7 +36,7 @@ within_by_elements a c (x ∷ s) [] h (suc r) =
 within_by_elements a c (x ∷ s) (y ∷ t) h (suc r) = omega (arith, h 0, within_by_elements a c s t (λ i. h (suc i)) r)
 
 pub left_near : SumsAreWithin 1 2 (compressed_list 0 0) (exact_list 0 0)
-left_near = within_by_elements 1 2 (compressed_list 0 0) (exact_list 0 0) (compressed-near 1 (exact_list 0 0) left_list.falls)
+left_near = within_by_elements 1 2 (compressed_list 0 0) (exact_list 0 0) (compressed-near 1 (exact_list 0 0) left_list.descends)
 
 pub right_near : SumsAreWithin 1 2 (compressed_list 1 0) (exact_list 1 0)
-right_near = within_by_elements 1 2 (compressed_list 1 0) (exact_list 1 0) (compressed-near 1 (exact_list 1 0) right_list.falls)
+right_near = within_by_elements 1 2 (compressed_list 1 0) (exact_list 1 0) (compressed-near 1 (exact_list 1 0) right_list.descends)

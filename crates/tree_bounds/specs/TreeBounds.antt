@@ -14,7 +14,7 @@ pub record EntryBounds : Type 0 where
 
 -- `list` may be a list of a column of an entry with this row bound: it is in descending order, and it sums to the row bound
 pub record IsListOf (rows : ℕ) (list : List ℕ) : Type 0 where
-  pub falls : IsDescending list
+  pub descends : IsDescending list
   pub total : sum list ≡ rows
 
 abbrev pub HasList : EntryBounds → ℕ → ℕ → Type 0

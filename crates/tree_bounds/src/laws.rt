@@ -50,7 +50,8 @@ pub fn trees_are_unique()
         → AreAllTreesOf (kept_of subset turn es) (entries_of_set subset) trees ↔ (trees ≡ trees_of (kept_of subset turn es) subset) }
 {}
 
-/// If every column in a set's equalities has a descending list that sums to the row bound, so has every tree's column.
+/// Suppose that every column in a set's equalities has a descending list that sums to the row bound. Then every column of the set's trees has one
+/// too.
 pub fn trees_have_the_lists_of_their_set()
     ensures { (b : EntryBounds) (es : List Edge) (subset turn : ℕ) (trees : List BergeTree)
         → AreAllTreesOf (kept_of subset turn es) (entries_of_set subset) trees → SetHasLists b es subset

@@ -40,7 +40,7 @@ use Rattle.safebound_words.specs.Answer.{command_of, kind_of_word, parts_from, r
 use Rattle.safebound_words.specs.Commands.{over_query}
 use Rattle.safebound_words.specs.Numbers.{number_of}
 use Rattle.safebound_words.specs.Table.{over_files}
-use Rattle.safebound_words.specs.declared.command.SchemaTask.TheVariants as aims
+use Rattle.safebound_words.specs.declared.command.SchemaTask.TheVariants as schema_tasks
 use Rattle.safebound_words.specs.declared.command.Command.{Command}
 use Rattle.safebound_words.specs.declared.command.ListSource.TheVariants as sources
 use Rattle.safebound_words.specs.declared.command.OutText.TheVariants as out_text
@@ -52,7 +52,7 @@ use Rattle.prepared_runs.specs.Limits.{within_limit}
 use Rattle.prepared_runs.specs.RunOutcome.{Planned}
 use Rattle.prepared_runs.specs.Shapes.{answer_of, planned_by}
 use Rattle.prepared_runs.specs.Sources.{sets_by, scans_by, bounds_and_lists_by}
-use Rattle.prepared_runs.specs.Verdict.{aim_run, command_run, command_stage, plan_stage, query_stage, run_asked, schema_stage, verdict, work_run}
+use Rattle.prepared_runs.specs.Verdict.{schema_task_run, command_run, command_stage, plan_stage, query_stage, accepted_query, schema_stage, verdict, query_task_run}
 use Rattle.plans.specs.Orders.{tree_of_order}
 use Rattle.plans.specs.declared.bushy.BushyPlan.{BushyPlan}
 use Rattle.tree_rows.specs.Memory.{tree_bytes}
@@ -140,21 +140,21 @@ plan_found =
     ∙ ap as_order best_order_is
 
 abbrev run : AcceptedQuery
-run = run_asked task manager_query (rows ∷ rows ∷ []) plan
+run = accepted_query task manager_query (rows ∷ rows ∷ []) plan
 
 plan_made : plan_stage task worker_schema manager_query (rows ∷ rows ∷ []) ≡ Ok (Planned run)
 unfolding plan_stage
 plan_made =
     ap (λ (answer : Result BushyPlan PlanError). with_refusal plan_refusal answer
-    >>= λ plan. within_limit None (tree_bytes plan) (Planned (run_asked task manager_query (rows ∷ rows ∷ []) plan))) plan_found
+    >>= λ plan. within_limit None (tree_bytes plan) (Planned (accepted_query task manager_query (rows ∷ rows ∷ []) plan))) plan_found
 
 -- ---- the verdict
 
 of_files : command_run command workers_files ≡ Ok (Planned run)
 unfolding command_run
 of_files =
-    ap (λ (schema : Result Schema Refusal). schema >>= λ s. aim_run (aims.Query (codes "query.sql") (query_tasks.Plan task)) s workers_files) schema_found
-    ∙ ap (λ (query : Result Query Refusal). query >>= λ q. work_run (query_tasks.Plan task) worker_schema q workers_files) query_found
+    ap (λ (schema : Result Schema Refusal). schema >>= λ s. schema_task_run (schema_tasks.Query (codes "query.sql") (query_tasks.Plan task)) s workers_files) schema_found
+    ∙ ap (λ (query : Result Query Refusal). query >>= λ q. query_task_run (query_tasks.Plan task) worker_schema q workers_files) query_found
     ∙ ap (λ (found : Result (List (List Row)) Refusal). found >>= plan_stage task worker_schema manager_query) tables_found
     ∙ plan_made
 

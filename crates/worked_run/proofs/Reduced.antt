@@ -40,7 +40,7 @@ use Rattle.prepared_runs.specs.Limits.{within_limit}
 use Rattle.prepared_runs.specs.RunOutcome.{Planned}
 use Rattle.prepared_runs.specs.Shapes.{answer_of, planned_by}
 use Rattle.prepared_runs.specs.Sources.{sets_by, lists_by, scans_by, bounds_and_lists_by}
-use Rattle.prepared_runs.specs.Verdict.{command_stage, plan_stage, run_asked, verdict}
+use Rattle.prepared_runs.specs.Verdict.{command_stage, plan_stage, accepted_query, verdict}
 use Rattle.plans.specs.Orders.{tree_of_order}
 use Rattle.plans.specs.declared.bushy.BushyPlan.{BushyPlan}
 use Rattle.tree_rows.specs.Memory.{tree_bytes}
@@ -95,7 +95,7 @@ plan_found =
     ∙ plan_over (bounds_in_sets (in_every_set (entry_bounds_over T reduced_lists 1)) (equalities_of two_table_query) 2) set_bounds_are
 
 with_lists : (source : ListSource) → lists_by source two_table_query T ≡ reduced_lists
-    → run_asked (task source) two_table_query small_rows (tree_of_order plan) ≡ two_tables_reduced source
+    → accepted_query (task source) two_table_query small_rows (tree_of_order plan) ≡ two_tables_reduced source
 with_lists source is = ap (λ (lists : List (List ℕ)). record {
   query = two_table_query;
   rows = small_rows;
@@ -113,7 +113,7 @@ pub plan_made : (source : ListSource) → lists_by source two_table_query T ≡ 
 unfolding plan_stage
 plan_made source lists found =
     ap (λ (answer : Result BushyPlan PlanError). with_refusal plan_refusal answer
-    >>= λ plan. within_limit None (tree_bytes plan) (Planned (run_asked (task source) two_table_query small_rows plan))) found
+    >>= λ plan. within_limit None (tree_bytes plan) (Planned (accepted_query (task source) two_table_query small_rows plan))) found
     ∙ ap (λ run. Ok (Planned run)) (with_lists source lists)
 
 -- ---- the verdict

@@ -41,14 +41,14 @@ use Rattle.safebound_words.specs.Answer.{command_of, kind_of_word, parts_from, r
 use Rattle.safebound_words.specs.Commands.{over_query, terms_by, append_command}
 use Rattle.safebound_words.specs.Numbers.{number_of}
 use Rattle.safebound_words.specs.Table.{over_files}
-use Rattle.safebound_words.specs.declared.command.SchemaTask.TheVariants as aims
+use Rattle.safebound_words.specs.declared.command.SchemaTask.TheVariants as schema_tasks
 use Rattle.safebound_words.specs.declared.command.NewRows.{NewRows}
 use Rattle.safebound_words.specs.declared.command.OutText.TheVariants as out_texts
 use Rattle.safebound_words.specs.declared.command.QueryTask.TheVariants as query_tasks
 use Rattle.prepared_runs.specs.Appending.{append_run, grown_stage, rows_run, section_stage, stats_run}
 use Rattle.prepared_runs.specs.StatsFiles.{stats_stage, stats_file_of_tables}
 use Rattle.prepared_runs.specs.RunOutcome.{StatsMade}
-use Rattle.prepared_runs.specs.Verdict.{aim_run, command_run, command_stage, verdict, work_run}
+use Rattle.prepared_runs.specs.Verdict.{schema_task_run, command_run, command_stage, verdict, query_task_run}
 use Rattle.safebound_laws.proofs.Alike.{files_alike}
 use Rattle.safebound_laws.proofs.Databases.{DatabaseFound, database_found}
 use Rattle.safebound_laws.specs.Printed.{both_texts}
@@ -85,8 +85,8 @@ file_found = rw (entries_compare op.Eq (column_operand 0 0) (column_operand 1 0)
 file_made : command_run (over_query None (codes "schema.sql") (codes "query.sql") (query_tasks.WriteStats 1)) small_files ≡ Ok small_stats_file
 unfolding command_run
 file_made =
-    ap (λ (schema : Result Schema Refusal). schema >>= λ s. aim_run (aims.Query (codes "query.sql") (query_tasks.WriteStats 1)) s small_files) schema_found
-    ∙ ap (λ (query : Result Query Refusal). query >>= λ q. work_run (query_tasks.WriteStats 1) two_tables q small_files) query_found
+    ap (λ (schema : Result Schema Refusal). schema >>= λ s. schema_task_run (schema_tasks.Query (codes "query.sql") (query_tasks.WriteStats 1)) s small_files) schema_found
+    ∙ ap (λ (query : Result Query Refusal). query >>= λ q. query_task_run (query_tasks.WriteStats 1) two_tables q small_files) query_found
     ∙ ap (λ (rows : Result (List (List Row)) Refusal). rows >>= λ rows. Ok (stats_file_of_tables two_tables two_table_query rows 1)) tables_found
     ∙ ap (λ (f : StatsFile). Ok (StatsMade (record { schema = two_tables; query = two_table_query; rows = small_rows; file = f }))) file_found
 
@@ -158,7 +158,7 @@ grown_within_limits = refl
 append_made : command_run (append_command (codes "schema.sql") new_rows) small_files ≡ Ok small_appended
 unfolding command_run append_run stats_run rows_run
 append_made =
-    ap (λ (schema : Result Schema Refusal). schema >>= λ s. aim_run (aims.Append new_rows) s small_files) schema_found
+    ap (λ (schema : Result Schema Refusal). schema >>= λ s. schema_task_run (schema_tasks.Append new_rows) s small_files) schema_found
     ∙ ap (λ (stats : Result StatsFile Refusal). stats >>= λ f. stats_run new_rows two_tables f small_files) file_read
     ∙ ap (λ (found : Result TableStats Refusal). found >>= λ s. rows_run (codes "new.csv") two_tables small_stats s.table s.rows small_files) section_found
     ∙ ap (λ (rows : Result (List Row) Refusal). rows >>= grown_stage two_tables small_stats 0 6) rows_found

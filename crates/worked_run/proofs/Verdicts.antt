@@ -21,11 +21,11 @@ use Rattle.table_files.specs.TableFile.{file_rows}
 use Rattle.prepared_runs.specs.AcceptedQuery.{AcceptedQuery}
 use Rattle.safebound_words.specs.Commands.{over_query}
 use Rattle.safebound_words.specs.declared.command.Command.{Command}
-use Rattle.safebound_words.specs.declared.command.SchemaTask.TheVariants as aims
+use Rattle.safebound_words.specs.declared.command.SchemaTask.TheVariants as schema_tasks
 use Rattle.safebound_words.specs.declared.command.QueryTask.TheVariants as query_tasks
 use Rattle.prepared_runs.specs.Limits.{within_limit}
 use Rattle.prepared_runs.specs.RunOutcome.{Planned}
-use Rattle.prepared_runs.specs.Verdict.{aim_run, command_run, command_stage, plan_asked, plan_stage, query_stage, run_asked, schema_stage, verdict, work_run}
+use Rattle.prepared_runs.specs.Verdict.{schema_task_run, command_run, command_stage, plan_asked, plan_stage, query_stage, accepted_query, schema_stage, verdict, query_task_run}
 use Rattle.plans.specs.declared.bushy.BushyPlan.{BushyPlan}
 use Rattle.tree_rows.specs.Memory.{tree_bytes}
 use Rattle.safebound_words.specs.declared.command.ListSource.TheVariants as sources
@@ -100,7 +100,7 @@ tables_found = rw (r_found, s_found) refl
 -- ---- the plan is made
 
 -- the run of a plan over the lists that were found
-run_of_plan : (out : OutText) (shape : Shape) (memory : Option ℕ) (plan : BushyPlan) → run_asked (task out shape 1000000 memory) two_table_query small_rows plan ≡ record {
+run_of_plan : (out : OutText) (shape : Shape) (memory : Option ℕ) (plan : BushyPlan) → accepted_query (task out shape 1000000 memory) two_table_query small_rows plan ≡ record {
   query = two_table_query;
   rows = small_rows;
   shape = shape;
@@ -123,11 +123,11 @@ run_of_plan out shape memory plan = ap (λ (lists : List (List ℕ)). record {
 
 made : (out : OutText) (shape : Shape) (memory : Option ℕ) (plan : BushyPlan) → plan_asked (task out shape 1000000 memory) two_tables two_table_query (tables_in small_rows) ≡ Ok plan
     → plan_stage (task out shape 1000000 memory) two_tables two_table_query small_rows
-    ≡ within_limit memory (tree_bytes plan) (Planned (run_asked (task out shape 1000000 memory) two_table_query small_rows plan))
+    ≡ within_limit memory (tree_bytes plan) (Planned (accepted_query (task out shape 1000000 memory) two_table_query small_rows plan))
 unfolding plan_stage
 made out shape memory plan is =
     ap (λ (answer : Result BushyPlan PlanError). with_refusal plan_refusal answer
-    >>= λ plan. within_limit memory (tree_bytes plan) (Planned (run_asked (task out shape 1000000 memory) two_table_query small_rows plan))) is
+    >>= λ plan. within_limit memory (tree_bytes plan) (Planned (accepted_query (task out shape 1000000 memory) two_table_query small_rows plan))) is
 
 -- the plan as an order, tested against the limit of memory if there is one
 plan_within : (out : OutText) (memory : Option ℕ)
@@ -147,15 +147,15 @@ tree_made out =
 plan_too_dear : plan_stage (task out_text.Rows shapes.Order 11 None) two_tables two_table_query small_rows ≡ Err (refusal.Budget 12)
 unfolding plan_stage
 plan_too_dear = ap (λ (plan : Result BushyPlan PlanError). with_refusal plan_refusal plan
-    >>= λ plan. Ok (Planned (run_asked (task out_text.Rows shapes.Order 11 None) two_table_query small_rows plan))) plan_refused
+    >>= λ plan. Ok (Planned (accepted_query (task out_text.Rows shapes.Order 11 None) two_table_query small_rows plan))) plan_refused
 
 -- ---- the stages are put together
 
 of_files : (work : PlanWork) → command_run (over_query None (codes "schema.sql") (codes "query.sql") (query_tasks.Plan work)) small_files ≡ plan_stage work two_tables two_table_query small_rows
 unfolding command_run
 of_files work =
-    ap (λ (schema : Result Schema Refusal). schema >>= λ s. aim_run (aims.Query (codes "query.sql") (query_tasks.Plan work)) s small_files) schema_found
-    ∙ ap (λ (query : Result Query Refusal). query >>= λ q. work_run (query_tasks.Plan work) two_tables q small_files) query_found
+    ap (λ (schema : Result Schema Refusal). schema >>= λ s. schema_task_run (schema_tasks.Query (codes "query.sql") (query_tasks.Plan work)) s small_files) schema_found
+    ∙ ap (λ (query : Result Query Refusal). query >>= λ q. query_task_run (query_tasks.Plan work) two_tables q small_files) query_found
     ∙ ap (λ (rows : Result (List (List Row)) Refusal). rows >>= plan_stage work two_tables two_table_query) tables_found
 
 -- if the words are read as a command, their verdict is the run of this command

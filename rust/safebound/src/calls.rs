@@ -224,7 +224,7 @@ pub(crate) fn tree(bounds: &[u64], budget: u64) -> Result<Vec<sys::safebound_joi
     }
 }
 
-/// The version of the library that is linked, as text, such as `0.3.0`.
+/// The version of the library that is linked, as text, such as `0.4.0`.
 pub fn version() -> Result<String, Error> {
     let text = unsafe { answer(64, |into: *mut u8, room, detail| sys::safebound_version(into.cast(), room, detail)) };
     let bytes = text.map_err(Error::from_refusal)?;

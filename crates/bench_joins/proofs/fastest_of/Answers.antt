@@ -5,8 +5,8 @@ pub timed_execution-requires : goal.timed_execution-requires
 timed_execution-requires g c = record {
   left = c.args.sizes.left;
   right = c.args.sizes.right;
-  times = c.args.sizes.times;
-  values = c.args.values;
+  repeats = c.args.sizes.repeats;
+  comparison = c.args.comparison;
   is_plan = search rules;
   is_query = search rules;
   are_two = search rules;
@@ -20,8 +20,8 @@ pub timed_execution-requires-in-loop : goal.timed_execution-requires-in-loop
 timed_execution-requires-in-loop g c = record {
   left = c.args.sizes.left;
   right = c.args.sizes.right;
-  times = c.args.sizes.times;
-  values = c.args.values;
+  repeats = c.args.sizes.repeats;
+  comparison = c.args.comparison;
   is_plan = search rules;
   is_query = search rules;
   are_two = search rules;

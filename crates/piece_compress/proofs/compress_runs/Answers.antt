@@ -119,7 +119,7 @@ loop-equal-preserved c = elim c.if-covered-rows.branch [
       rw (w.pieces-is, w.run-is, w.covered-is, value_is) (run_covered c.args.accuracy c.pieces-runs.result.now c.loop-equal.equal-index c.loop-equal.pieces c.loop-equal.run.value c.loop-equal.run.count c.loop-equal.head c.loop-equal.rows c.loop-equal.covered c.pieces-runs.ensures.whole c.loop-equal-test.true c.loop-equal.invariant
       c.head_after-head.result (c.loop-equal.rows + (get_or c.pieces-runs.result.now c.loop-equal.equal-index no_piece).value * (get_or c.pieces-runs.result.now c.loop-equal.equal-index no_piece).count) c.head_after-head.ensures refl
       w.div_ceil-times.result w.if-covered-rows.true w.div_ceil-times.ensures w.extended.new.pieces c.head_after-head.result w.in_ok-run.run'.count refl
-      w.in_ok-run.ensures.more (rw value_is at w.in_ok-run.ensures.before) (rw value_is at w.in_ok-run.ensures.falls)))
+      w.in_ok-run.ensures.more (rw value_is at w.in_ok-run.ensures.before) (rw value_is at w.in_ok-run.ensures.descends)))
   | else-covered-rows w ↦ rw (w.pieces-is, w.run-is, w.covered-is) (run_skipped c.args.accuracy c.pieces-runs.result.now c.loop-equal.equal-index c.loop-equal.pieces c.loop-equal.run.value c.loop-equal.run.count c.loop-equal.head c.loop-equal.rows c.loop-equal.covered c.pieces-runs.ensures.whole c.loop-equal-test.true c.loop-equal.invariant
       c.head_after-head.result (c.loop-equal.rows + (get_or c.pieces-runs.result.now c.loop-equal.equal-index no_piece).value * (get_or c.pieces-runs.result.now c.loop-equal.equal-index no_piece).count) c.head_after-head.ensures refl w.if-covered-rows.false)
 ]

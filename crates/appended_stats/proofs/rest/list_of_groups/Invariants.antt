@@ -1,5 +1,4 @@
-use Rattle.std.proofs.Common.{◌≡◌, ◌<◌, ◌^◌, length, map, take}
-use Rattle.std.specs.List.{All}
+use Rattle.std.proofs.Common.{◌≡◌, length, map, take}
 use Rattle.cond_stats.specs.Lists.{greatest, maxima}
 use Rattle.degree_sequences.specs.Degrees.{degree_list}
 use Rattle.appended_stats.proofs.rest.list_of_groups.Given as goal

@@ -22,7 +22,7 @@ use Rattle.base_io.specs.declared.boxed.Boxed.TheView.{view, invariant}
 use Rattle.base_io.specs.contracts.boxed.Boxed as C
 use Rattle.base_io.specs.contracts.boxed.Boxed.TheInside as I
 
--- contracts see only the value
+-- in contracts it is only the value
 abbrev pub the_former : Former {0} → Former {0}
 the_former g = g
 

@@ -1,4 +1,4 @@
-use Rattle.std.proofs.Common.{arith, ap, refl, sym, subst, ◌∙◌, ◌≡◌, ◌+◌, ℕ, length}
+use Rattle.std.proofs.Common.{arith, ap, sym, subst, ◌≡◌, ◌+◌, length}
 use Rattle.counted_sets.specs.UseChains.{AreUseChains}
 use Rattle.counted_sets.specs.Counts.{item_at}
 use Rattle.counted_sets.proofs.chains.chained_by_item.Goals as goal

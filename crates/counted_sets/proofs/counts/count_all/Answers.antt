@@ -1,4 +1,4 @@
-use Rattle.std.proofs.Common.{arith, refl, ℕ, true, length, ◌<◌}
+use Rattle.std.proofs.Common.{arith, ℕ, true, ◌<◌}
 use Rattle.counted_sets.specs.Counts.{use_at}
 use Rattle.counted_sets.proofs.GiverCounts.{giver_count-within}
 use Rattle.counted_sets.proofs.counts.count_all.Goals as goal

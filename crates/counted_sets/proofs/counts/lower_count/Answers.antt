@@ -1,4 +1,4 @@
-use Rattle.std.proofs.Common.{ap, arith, refl, set, sym, subst, ◌∙◌, ◌-◌}
+use Rattle.std.proofs.Common.{arith, set, sym, subst, ◌-◌}
 use Rattle.counted_sets.specs.Counts.{IsWorkOf}
 use Rattle.counted_sets.proofs.Listing.{slot_not_listed_yet, work_after_last_giver, work_after_one_giver_less}
 use Rattle.counted_sets.proofs.counts.lower_count.Goals as goal

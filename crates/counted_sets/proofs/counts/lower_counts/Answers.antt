@@ -1,4 +1,4 @@
-use Rattle.std.proofs.Common.{arith, ap, refl, sym, subst, ◌∙◌, ◌≡◌, ◌<◌, ℕ, length, ◌-◌}
+use Rattle.std.proofs.Common.{arith, refl, sym, subst, ◌<◌, ℕ, length, ◌-◌}
 use Rattle.counted_sets.specs.Counts.{item_at, use_at}
 use Rattle.counted_sets.proofs.Listing.{extends_more, extends_same}
 use Rattle.counted_sets.proofs.Removing.{AreLowered, back_before, taken_at_start, taken_after_step, taken_some}

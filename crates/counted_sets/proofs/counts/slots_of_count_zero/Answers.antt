@@ -1,4 +1,4 @@
-use Rattle.std.proofs.Common.{arith, ap, length, sym, ◌∙◌, ◌<◌, length-append, [], ◌∷◌, List, ℕ}
+use Rattle.std.proofs.Common.{arith, length, sym, ◌∙◌, ◌<◌, length-append, [], ◌∷◌}
 use Rattle.counted_sets.proofs.Listing.{slots_after_positive_count, slots_after_zero_count}
 use Rattle.counted_sets.proofs.counts.slots_of_count_zero.Goals.{then-count-eq0, else-count-eq0}
 use Rattle.counted_sets.proofs.counts.slots_of_count_zero.Goals as goal

@@ -1,5 +1,5 @@
-use Rattle.std.proofs.Common.{arith, ap, refl, sym, subst, ◌∙◌, ◌<◌, ◌≤◌, ◌≡◌, ℕ, length, get_or}
-use Rattle.counted_sets.specs.Counts.{CountsAreCorrect, IsSafe, item_at, need_at}
+use Rattle.std.proofs.Common.{arith, sym, subst, ◌<◌, ◌≤◌, ◌≡◌, length}
+use Rattle.counted_sets.specs.Counts.{CountsAreCorrect, IsSafe}
 use Rattle.counted_sets.proofs.Removing.{reduced, reducing_at_start, reducing_after_step, slot_count_is_zero, slot_within}
 use Rattle.counted_sets.proofs.reduction.reduce.Goals as goal
 

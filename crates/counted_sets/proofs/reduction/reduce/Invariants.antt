@@ -1,6 +1,4 @@
-use Rattle.std.proofs.Common.{◌-◌, ◌≡◌, length}
-use Rattle.counted_sets.specs.UseChains.{AreUseChains}
-use Rattle.counted_sets.specs.Counts.{item_at, need_at}
+use Rattle.std.proofs.Common.{◌-◌}
 use Rattle.counted_sets.proofs.Removing.{Reducing}
 use Rattle.counted_sets.proofs.reduction.reduce.Given as goal
 

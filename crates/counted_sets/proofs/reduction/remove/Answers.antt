@@ -1,6 +1,5 @@
-use Rattle.std.proofs.Common.{arith, refl, sym, ◌∙◌, ◌≡◌, true, false, length, rules, subst}
+use Rattle.std.proofs.Common.{sym, ◌∙◌, ◌≡◌, true, false, length, rules, subst}
 use Rattle.counted_sets.specs.Counts.{CountsAreCorrect}
-use Rattle.counted_sets.specs.Sets.{marked}
 use Rattle.counted_sets.proofs.Removing.{enough_left, not_marked, removed}
 use Rattle.counted_sets.proofs.reduction.remove.Goals as goal
 

@@ -1,4 +1,4 @@
-use Rattle.std.proofs.Common.{arith, ap, refl, sym, subst, ◌∙◌, ◌≡◌, ◌<◌, ◌-◌, ℕ, false, length, set}
+use Rattle.std.proofs.Common.{arith, refl, sym, subst, ◌∙◌, ◌≡◌, ◌<◌, ◌-◌, ℕ, length}
 use Rattle.counted_sets.specs.Counts.{CountsAreCorrect, IsSafe, item_at, need_at, giver_count}
 use Rattle.counted_sets.specs.Sets.{marked}
 use Rattle.counted_sets.proofs.Listing.{extends_more, extends_same}

@@ -7,5 +7,5 @@ use Rattle.csv_tables.proofs.header.places_of.Given as goal
 abbrev pub invariant-columns : goal.invariant-columns
 invariant-columns l = record {
   read : ReadTo (column_places 0 l.columns (fields_of l.header)) l.places.items (column_places l.number (drop l.number l.columns) (fields_of l.header));
-  long : length l.places.items ≡ l.number;
+  lengths : length l.places.items ≡ l.number;
 }

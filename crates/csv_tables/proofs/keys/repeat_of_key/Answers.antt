@@ -13,7 +13,7 @@ columns-preserved c =
     let len : c.columns.first_places.len ≡ length new = omega (arith, same, c.columns.first_places.ok) in
     let whole : take c.columns.first_places.len (new ++ drop (length new) old) ≡ new = take_of_append c.columns.first_places.len new (drop (length new) old) len in
     rw whole (record {
-      long = same ∙ c.columns.invariant.long;
+      lengths = same ∙ c.columns.invariant.lengths;
       firsts = one_more_column c.args.columns.now c.args.key.now c.columns.column-index (get_or c.args.key.now c.columns.column-index 0) old new c.as_slice.result.now
           c.columns-test.true refl (c.as_slice.ensures ∙ c.index-columns-column.is ∙ get_or_default c.args.columns.now (get_or c.args.key.now c.columns.column-index 0) c.index-columns-column.result []
           (c.requires.key c.columns.column-index 0 c.columns-test.true)) same c.columns.invariant.firsts

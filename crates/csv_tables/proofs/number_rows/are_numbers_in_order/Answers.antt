@@ -1,4 +1,4 @@
-use Rattle.std.proofs.Common.{◌≡◌, ◌≤◌, All, arith, get_or, length, subst}
+use Rattle.std.proofs.Common.{◌≡◌, ◌≤◌, All, arith, get_or, length, refl, subst}
 use Rattle.std.proofs.lemmas.List.{take_all}
 use Rattle.std.proofs.lemmas.List.Elements.{All-nil}
 use Rattle.schema_types.specs.declared.types.Column.{Column}
@@ -18,10 +18,12 @@ columns-preserved c =
     }
 
 pub returns : goal.returns
-returns c = λ _.
-    let past : length c.args.columns.now ≤ c.columns.at = omega arith in
-    record {
-      long = omega arith;
-      order = λ i l. c.columns.invariant.order i (omega (arith, l, c.requires, past));
-      kinds = subst (All (λ (column : Column). column.kind ≡ kind.Int)) (take_all c.columns.at c.args.columns.now past) c.columns.invariant.kinds;
-    }
+returns c =
+    let past : length c.args.columns.now ≤ c.columns.at = omega arith in (
+      λ _. record {
+        lengths = omega arith;
+        order = λ i l. c.columns.invariant.order i (omega (arith, l, c.requires, past));
+        kinds = subst (All (λ (column : Column). column.kind ≡ kind.Int)) (take_all c.columns.at c.args.columns.now past) c.columns.invariant.kinds;
+      },
+      λ _. refl,
+    )

@@ -1,21 +1,33 @@
-use Rattle.std.proofs.Common.{◌≡◌, ◌∙◌, ap, arith, drop, rules, subst, sym, w64, Option, Some}
+use Rattle.std.proofs.Common.{◌≡◌, ◌≢◌, ◌∙◌, ◌+◌, ap, arith, drop, length, rules, sym, w64, Some}
 use Rattle.std.specs.Int.RustNames.{FitsSigned}
-use Rattle.std.specs.Prelude.{ℤ, IfSome}
 use Rattle.std.proofs.lemmas.Int.{to_z-of_z}
 use Rattle.plain_records.specs.Plain.{first_field}
 use Rattle.csv_tables.specs.NumberRows.{IsNumberCell}
 use Rattle.csv_tables.specs.Numbers.{number_in, number_of}
-use Rattle.csv_tables.proofs.NumberRowFacts.{numbers_last, numbers_more, numbers_none}
+use Rattle.csv_tables.proofs.NumberRowFacts.{more_numbers, no_number, numbers_last, numbers_more, numbers_none, other_count}
 use Rattle.csv_tables.proofs.number_rows.read_numbers.Goals as goal
 
 pub places-init : goal.places-init
 places-init c = numbers_none c.args.bytes.now c.args.start c.args.cells.now c.requires.within
 
+pub returns-in_default : goal.returns-in_default
+returns-in_default c =
+    no_number c.args.bytes.now c.args.start c.places.at c.places.place c.places.cells (length c.args.cells.now) c.places.invariant
+    (sym c.number_at.ensures ∙ c.in_default.is)
+
+pub returns-else-place-count : goal.returns-else-place-count
+returns-else-place-count c =
+    let differs : c.places.place + 1 ≢ length c.args.cells.now = λ same. omega (arith, same) in
+    other_count c.args.bytes.now c.args.start c.places.at c.places.place c.places.cells c.read_number-field.result (length c.args.cells.now) c.places.invariant c.read_number-field.ensures
+    (c.is_comma.ensures.no c.if-not-is_comma.true) (omega arith) differs
+
+pub returns : goal.returns
+returns c = more_numbers c.args.bytes.now c.args.start c.places.at c.places.place c.places.cells (length c.args.cells.now) c.places.invariant (omega arith) (omega arith)
+
 pub returns-then-place-count : goal.returns-then-place-count
 returns-then-place-count c =
     let field = first_field (drop c.places.at c.args.bytes.now) in
-    let spelled : number_of field ≡ Some c.in-Some.number =
-    subst (λ (o : Option ℤ). IfSome o (λ number. number_of field ≡ Some number)) c.in-Some.is c.read_number-field.ensures.number in
+    let spelled : number_of field ≡ Some c.in-Some.number = sym c.in-Some.ensures in
     let fits : FitsSigned w64 c.in-Some.number = search rules in
     let inverse : number_in c.cell_of.result ≡ c.in-Some.number = c.cell_of.ensures.inverse ∙ to_z-of_z w64 c.in-Some.number fits in
     let one : IsNumberCell field c.cell_of.result = record { spelled = spelled ∙ ap Some (sym inverse); small = omega arith } in
@@ -25,8 +37,7 @@ returns-then-place-count c =
 pub places-preserved : goal.places-preserved
 places-preserved c =
     let field = first_field (drop c.places.at c.args.bytes.now) in
-    let spelled : number_of field ≡ Some c.in-Some.number =
-    subst (λ (o : Option ℤ). IfSome o (λ number. number_of field ≡ Some number)) c.in-Some.is c.read_number-field.ensures.number in
+    let spelled : number_of field ≡ Some c.in-Some.number = sym c.in-Some.ensures in
     let fits : FitsSigned w64 c.in-Some.number = search rules in
     let inverse : number_in c.cell_of.result ≡ c.in-Some.number = c.cell_of.ensures.inverse ∙ to_z-of_z w64 c.in-Some.number fits in
     let one : IsNumberCell field c.cell_of.result = record { spelled = spelled ∙ ap Some (sym inverse); small = omega arith } in

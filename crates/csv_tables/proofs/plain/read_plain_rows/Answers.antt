@@ -20,7 +20,7 @@ rows-init c = record {
   within = c.skip_line_ends-at.ensures.within;
   cut = c.skip_line_ends-at.ensures.text c.requires.text c.requires.cut;
   at_text = c.skip_line_ends-at.ensures.at_text;
-  long = ap (λ (fs : List Field). length fs) c.as_mut_slice-fields.ensures.value ∙ c.in_ok-read.ensures;
+  lengths = ap (λ (fs : List Field). length fs) c.as_mut_slice-fields.ensures.value ∙ c.in_ok-read.ensures;
   values_long = ap (λ (cells : List ℕ). length cells) c.as_mut_slice-values.ensures.value ∙ c.in_ok-read_cells.ensures;
   so_far = subst (λ (remaining : List Record). RowsSoFar c.args.columns.now c.args.places.now c.args.width (plain_records (drop c.args.start c.args.bytes.now)) remaining
       c.args.pool.now c.args.pool.now c.in_ok-found.found.items 0) c.skip_line_ends-at.ensures.records
@@ -30,13 +30,13 @@ rows-init c = record {
 pub read_row_at-requires-clause-numeric : goal.read_row_at-requires-clause-numeric
 read_row_at-requires-clause-numeric c = λ yes.
     let width : length c.deref.result.now ≡ c.args.width = ap length c.deref.ensures.value ∙ c.in_ok-numbers.ensures in
-    subst (AreNumbersInOrder c.args.columns.now c.args.places.now) (sym width) (c.are_numbers_in_order-is_numeric.ensures yes)
+    subst (AreNumbersInOrder c.args.columns.now c.args.places.now) (sym width) (c.are_numbers_in_order-is_numeric.ensures.0 yes)
 
 pub read_row_at-requires-clause-wide : goal.read_row_at-requires-clause-wide
 read_row_at-requires-clause-wide c =
-    let long : length c.rows.found.items ≡ length c.args.columns.now =
+    let lengths : length c.rows.found.items ≡ length c.args.columns.now =
     columns_long c.rows.pool c.rows.rows (kinds_of c.args.columns.now) c.rows.found.items c.rows.invariant.so_far.are ∙ length-map c.args.columns.now (λ (column : Column). column.kind) in
-    omega (arith, long, c.rows.found.ok)
+    omega (arith, lengths, c.rows.found.ok)
 
 pub rows-preserved : goal.rows-preserved
 rows-preserved c =
@@ -53,7 +53,7 @@ rows-preserved c =
       within = c.skip_line_ends-at-in-rows.ensures.within;
       cut = c.skip_line_ends-at-in-rows.ensures.text c.requires.text next.text;
       at_text = c.skip_line_ends-at-in-rows.ensures.at_text;
-      long = omega (arith, c.read_row_at.auto.fields, c.rows.invariant.long);
+      lengths = omega (arith, c.read_row_at.auto.fields, c.rows.invariant.lengths);
       values_long = omega (arith, c.read_row_at.auto.values, c.rows.invariant.values_long);
       so_far = rw adds.added
           (rows_more c.args.columns.now c.args.places.now c.args.width (plain_records (drop c.args.start bytes)) (plain_records (drop at bytes)) (plain_records (drop after bytes))

@@ -9,7 +9,7 @@ invariant-rows l = record {
   within : l.at ≤ length l.bytes;
   cut : IsUtf8 (drop l.at l.bytes);
   at_text : l.at < length l.bytes → ends_line (get_or l.bytes l.at 0) ≡ false;
-  long : length l.fields ≡ l.width;
+  lengths : length l.fields ≡ l.width;
   values_long : length l.values ≡ l.width;
   so_far : RowsSoFar l.columns l.places l.width (plain_records (drop l.start l.bytes)) (plain_records (drop l.at l.bytes)) l.initial.pool l.pool l.found.items l.rows;
 }

@@ -12,8 +12,8 @@ returns-clause-goes_on c = compressed-goes_on
 pub returns-clause-sum : goal.returns-clause-sum
 returns-clause-sum c = sum-compressed
 
-pub returns-clause-falls : goal.returns-clause-falls
-returns-clause-falls c = IsDescending-compressed
+pub returns-clause-descends : goal.returns-clause-descends
+returns-clause-descends c = IsDescending-compressed
 
 pub returns-clause-above : goal.returns-clause-above
 returns-clause-above c = compressed-above

@@ -9,8 +9,8 @@ returns-clause-different c = IsDistinct-different
 pub returns-clause-rearranged : goal.returns-clause-rearranged
 returns-clause-rearranged c = degree_list_rearranged
 
-pub returns-clause-falls : goal.returns-clause-falls
-returns-clause-falls c = IsDescending-degree_list
+pub returns-clause-descends : goal.returns-clause-descends
+returns-clause-descends c = IsDescending-degree_list
 
 pub returns-clause-positive : goal.returns-clause-positive
 returns-clause-positive c = degree_list_positive

@@ -1,8 +1,8 @@
 use Rattle.filtered_lists.proofs.Lists.{filtered_descends, filtered_within, list_without_own, rows_without_own}
 use Rattle.filtered_lists.proofs.laws.filters_stay_within_the_whole.Goals as goal
 
-pub returns-clause-falls : goal.returns-clause-falls
-returns-clause-falls c = filtered_descends
+pub returns-clause-descends : goal.returns-clause-descends
+returns-clause-descends c = filtered_descends
 
 pub returns-clause-within : goal.returns-clause-within
 returns-clause-within c = filtered_within

@@ -1,7 +1,7 @@
-use Rattle.std.proofs.Common.{◌≡◌, ℕ, List, length, ap, sym, ◌∙◌, subst, arith}
+use Rattle.std.proofs.Common.{ℕ, List, length, ap, sym, ◌∙◌, subst, arith}
 use Rattle.std.proofs.lemmas.List.{take_at}
 use Rattle.sql_meaning.specs.Tables.{tables_of}
-use Rattle.join_steps.specs.Lists.{lists_of, scans_of, AreOfScans}
+use Rattle.join_steps.specs.Lists.{lists_of, AreOfScans}
 use Rattle.join_steps.proofs.WholeScans.{scans_are_of_scans}
 use Rattle.bushy_join.specs.Trees.{IsTreePlanOf}
 use Rattle.join_tests.proofs.TreeNodes.{has_nodes, plan_is_over_its_scans}

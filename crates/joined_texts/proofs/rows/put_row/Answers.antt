@@ -25,8 +25,8 @@ put_line-requires-clause-line g c =
     let it = joined_choices c.args.listed.now in
     let size : ℕ = c.len-size.result in
     let few : size ≤ 12 = omega (arith, c.len-size.ensures, c.requires.listed.database.few) in
-    let long : length c.read.new.rows ≡ size = c.read.auto.rows ∙ length-take-le size zeros few in
-    subst (IsChoice db) (sym (take_at c.read.new.rows (drop size zeros) size long ∙ c.read.ensures))
+    let lengths : length c.read.new.rows ≡ size = c.read.auto.rows ∙ length-take-le size zeros few in
+    subst (IsChoice db) (sym (take_at c.read.new.rows (drop size zeros) size lengths ∙ c.read.ensures))
     (is_choice query db c.requires.listed.database it.entries c.requires.listed.entries (get_or it.rows c.args.i []) (take size zeros) (c.requires.listed.whole c.args.i [] c.requires.row)
     (length-take-le size zeros few ∙ c.len-size.ensures))
 
@@ -37,9 +37,9 @@ returns g c =
     let it = joined_choices c.args.listed.now in
     let size : ℕ = c.len-size.result in
     let few : size ≤ 12 = omega (arith, c.len-size.ensures, c.requires.listed.database.few) in
-    let long : length c.read.new.rows ≡ size = c.read.auto.rows ∙ length-take-le size zeros few in
+    let lengths : length c.read.new.rows ≡ size = c.read.auto.rows ∙ length-take-le size zeros few in
     put_equal_text (choice_record query db it.entries (get_or it.rows c.args.i []))
-    (ap (choice_text query.select (tables_of db)) (take_at c.read.new.rows (drop size zeros) size long ∙ c.read.ensures)
+    (ap (choice_text query.select (tables_of db)) (take_at c.read.new.rows (drop size zeros) size lengths ∙ c.read.ensures)
     ∙ text_is query db c.requires.listed.database it.entries c.requires.listed.entries (get_or it.rows c.args.i []) (take size zeros) (c.requires.listed.whole c.args.i [] c.requires.row)
     (length-take-le size zeros few ∙ c.len-size.ensures))
     (rw c.as_slice-outs.ensures at c.put_line.ensures)

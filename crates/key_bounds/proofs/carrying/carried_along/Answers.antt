@@ -1,6 +1,5 @@
-use Rattle.std.proofs.Common.{◌≡◌, [], length, take, get_or, refl, ap, sym, ◌∙◌, subst, arith}
+use Rattle.std.proofs.Common.{subst}
 use Rattle.std.proofs.lemmas.List.{take_all}
-use Rattle.berge_tree.specs.declared.edges.Edge.{Edge}
 use Rattle.sql_meaning.specs.Tables.{tables_of}
 use Rattle.query_bounds.proofs.Holding.{no_edge}
 use Rattle.key_stats.specs.Carrying.{HaveCarriedBounds}

@@ -5,7 +5,6 @@ use Rattle.schema_types.specs.declared.types.Schema.{Schema}
 use Rattle.sql_meaning.specs.Tables.{Tables, tables_of}
 use Rattle.planning.specs.Bounds.{scan_bounds_of}
 use Rattle.planning.specs.HasBounds.{HasBounds}
-use Rattle.key_carriers.specs.Carriers.{carrying_equalities}
 use Rattle.key_stats.specs.Carrying.{HaveCarriedBounds}
 use Rattle.key_bounds.specs.Bounds.{set_bounds_by_keys}
 use Rattle.key_bounds.specs.TableStats.{AreStatsByKeys}

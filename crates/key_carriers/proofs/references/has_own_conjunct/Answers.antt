@@ -1,8 +1,6 @@
-use Rattle.std.proofs.Common.{◌≡◌, ◌<◌, ℕ, List, length, ltb, map, ap, sym, ◌∙◌, arith}
-use Rattle.std.specs.List.{range_with_len}
-use Rattle.std.proofs.lemmas.Option.{get_or_from_slice_get}
-use Rattle.std.proofs.lemmas.List.FromFn.{get_or-map-range_with_len, length-map-range_with_len}
-use Rattle.join_graph.specs.Conjuncts.{local_of, is_own_conjunct, numbers_where}
+use Rattle.std.proofs.Common.{ℕ, List, length, ltb, ap, ◌∙◌, arith}
+use Rattle.std.proofs.lemmas.List.FromFn.{length-map-range_with_len}
+use Rattle.join_graph.specs.Conjuncts.{is_own_conjunct, numbers_where}
 use Rattle.key_carriers.proofs.Carrying.{own_conjuncts_numbered}
 use Rattle.key_carriers.proofs.references.has_own_conjunct.Goals as goal
 

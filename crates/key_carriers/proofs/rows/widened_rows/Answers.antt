@@ -1,5 +1,4 @@
-use Rattle.std.proofs.Common.{◌≡◌, ◌≤◌, ℕ, List, length, map, get_or, ap, ◌∙◌, subst, arith}
-use Rattle.query_types.specs.declared.types.ColumnRef.{ColumnRef}
+use Rattle.std.proofs.Common.{◌≡◌, ℕ, List, length, map, get_or, ap, ◌∙◌, subst, arith}
 use Rattle.sql_meaning.specs.Tables.{row_counts, tables_of}
 use Rattle.link_index.specs.Places.{IsPlaceOf}
 use Rattle.join_steps.specs.Columns.{column_cells}
@@ -16,7 +15,7 @@ new-requires c =
       within_limit = omega (
         arith,
         ap (λ (s : List ℕ). length s) is,
-        right_count c.args.db.now c.args.edge c.requires.tables c.texts_are_different.ensures.different c.texts_are_different.ensures.utf8 c.requires.kinds,
+        right_count c.args.db.now c.args.edge c.requires.tables c.recall_texts_are_different.ensures.different c.recall_texts_are_different.ensures.utf8 c.requires.kinds,
         c.requires.within_limit,
       );
     }
@@ -33,7 +32,7 @@ row_of-other-requires c = record {
   within_limit = omega (
     arith,
     ap (λ (s : List ℕ). length s) c.rows.invariant.2,
-    right_count c.args.db.now c.args.edge c.requires.tables c.texts_are_different.ensures.different c.texts_are_different.ensures.utf8 c.requires.kinds,
+    right_count c.args.db.now c.args.edge c.requires.tables c.recall_texts_are_different.ensures.different c.recall_texts_are_different.ensures.utf8 c.requires.kinds,
     c.requires.within_limit,
   );
 }
@@ -45,7 +44,7 @@ overflow_cast-row c =
     omega (
       arith,
       ap (λ (s : List ℕ). length s) is,
-      left_count c.args.db.now c.args.edge c.requires.tables c.texts_are_different.ensures.different c.texts_are_different.ensures.utf8 c.requires.kinds,
+      left_count c.args.db.now c.args.edge c.requires.tables c.recall_texts_are_different.ensures.different c.recall_texts_are_different.ensures.utf8 c.requires.kinds,
       c.requires.rows,
       c.rows-test.true,
     )
@@ -55,11 +54,11 @@ rows-preserved c =
     let left : c.cells_of_column-left.result.now ≡ column_cells c.args.db.now (column_at_place c.args.edge.left) =
     c.cells_of_column-left.ensures.cells ∙ ap (column_cells c.args.db.now) c.column_at_place.ensures in
     let is : c.row_of-other.result ≡ referred_row (tables_of c.args.db.now) c.args.edge c.rows.row =
-    first_is c.args.db.now c.args.edge c.requires.tables c.texts_are_different.ensures.different c.texts_are_different.ensures.utf8 c.requires.kinds c.rows.row
+    first_is c.args.db.now c.args.edge c.requires.tables c.recall_texts_are_different.ensures.different c.recall_texts_are_different.ensures.utf8 c.requires.kinds c.rows.row
     (omega (
       arith,
       ap (λ (s : List ℕ). length s) left,
-      left_count c.args.db.now c.args.edge c.requires.tables c.texts_are_different.ensures.different c.texts_are_different.ensures.utf8 c.requires.kinds,
+      left_count c.args.db.now c.args.edge c.requires.tables c.recall_texts_are_different.ensures.different c.recall_texts_are_different.ensures.utf8 c.requires.kinds,
       c.rows-test.true,
     )) c.row_of-other.result
     (subst (λ (s : List ℕ). IsPlaceOf (column_cells c.args.db.now (column_at_place c.args.edge.right)) (get_or s c.rows.row 0) 0 c.row_of-other.result) left
@@ -77,7 +76,7 @@ returns-clause-rows c =
     omega (
       arith,
       ap (λ (s : List ℕ). length s) left,
-      left_count c.args.db.now c.args.edge c.requires.tables c.texts_are_different.ensures.different c.texts_are_different.ensures.utf8 c.requires.kinds,
+      left_count c.args.db.now c.args.edge c.requires.tables c.recall_texts_are_different.ensures.different c.recall_texts_are_different.ensures.utf8 c.requires.kinds,
       c.rows-test.false,
       c.rows.auto.row-end,
     ) in
@@ -91,7 +90,7 @@ returns-clause-others c =
     omega (
       arith,
       ap (λ (s : List ℕ). length s) left,
-      left_count c.args.db.now c.args.edge c.requires.tables c.texts_are_different.ensures.different c.texts_are_different.ensures.utf8 c.requires.kinds,
+      left_count c.args.db.now c.args.edge c.requires.tables c.recall_texts_are_different.ensures.different c.recall_texts_are_different.ensures.utf8 c.requires.kinds,
       c.rows-test.false,
       c.rows.auto.row-end,
     ) in

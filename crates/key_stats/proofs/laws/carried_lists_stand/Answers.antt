@@ -7,8 +7,8 @@ returns-clause-dominates c = λ query tables accuracy e column key tells. carrie
 pub returns-clause-fits : goal.returns-clause-fits
 returns-clause-fits c = carried_fits
 
-pub returns-clause-falls : goal.returns-clause-falls
-returns-clause-falls c = λ query tables accuracy e column. carried_descends query tables e accuracy column
+pub returns-clause-descends : goal.returns-clause-descends
+returns-clause-descends c = λ query tables accuracy e column. carried_descends query tables e accuracy column
 
 pub returns-clause-sums : goal.returns-clause-sums
 returns-clause-sums c = λ query tables accuracy e column. carried_sum query tables e accuracy column

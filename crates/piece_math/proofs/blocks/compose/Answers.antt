@@ -17,5 +17,5 @@ returns-clause-value c =
 
 pub returns-clause-few_pieces : goal.returns-clause-few_pieces
 returns-clause-few_pieces c =
-    composed_runs c.grouped.result c.args.parent.now c.in_ok-weights.weights c.args.children.now c.grouped.ensures.falls c.grouped.ensures.positive
+    composed_runs c.grouped.result c.args.parent.now c.in_ok-weights.weights c.args.children.now c.grouped.ensures.descends c.grouped.ensures.positive
     c.in_ok-weights.ensures.few_pieces (returns-clause-value c) c.grouped.ensures.few_pieces

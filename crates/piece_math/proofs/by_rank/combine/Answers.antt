@@ -4,8 +4,8 @@ use Rattle.piece_math.proofs.by_rank.combine.Goals as goal
 pub loop-places-init : goal.loop-places-init
 loop-places-init c = rw c.in_ok-list.ensures (combine_start c.args.how c.pieces-a.result.now c.pieces-b.result.now c.pieces-a.ensures.whole c.pieces-b.ensures.whole)
 
-pub put-requires-clause-falls : goal.put-requires-clause-falls
-put-requires-clause-falls c pos some =
+pub put-requires-clause-descends : goal.put-requires-clause-descends
+put-requires-clause-descends c pos some =
     combine_falls c.pieces-a.ensures.whole c.pieces-b.ensures.whole c.loop-places.invariant c.next_stretch-stretch.ensures c.of.ensures some
 
 pub put-requires-clause-room : goal.put-requires-clause-room

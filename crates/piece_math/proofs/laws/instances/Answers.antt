@@ -11,8 +11,8 @@ returns-clause-product_dominates c =
 pub returns-clause-compose_dominates : goal.returns-clause-compose_dominates
 returns-clause-compose_dominates c = (degree_list_dominates (1 ∷ 1 ∷ 1 ∷ 2 ∷ 2 ∷ 2 ∷ []), (instance.child_dominates, tt), instance.keys_instance)
 
-pub returns-clause-root_dominates : goal.returns-clause-root_dominates
-returns-clause-root_dominates c = (omega arith, (instance.child_dominates, tt), instance.rows_instance)
+pub returns-clause-compose_dominates_rows : goal.returns-clause-compose_dominates_rows
+returns-clause-compose_dominates_rows c = (omega arith, (instance.child_dominates, tt), instance.rows_instance)
 
 pub returns-clause-product_is_monotone : goal.returns-clause-product_is_monotone
 returns-clause-product_is_monotone c = (

@@ -13,7 +13,7 @@ returns c =
     let rest : List ℕ = take (length list - start) (drop start list) in
     let bound : count ≤ length (drop start list) = subst (λ (s : List ℕ). count ≤ length s) (take_rest_is_drop list start) c.partition_point.ensures.bound in
     let parted : IsPartitionedBy (λ x. eqb x first) rest =
-    subst (IsPartitionedBy (λ x. eqb x first)) (sym (take_rest_is_drop list start)) (equal_come_first list start c.requires.falls c.requires.start) in
+    subst (IsPartitionedBy (λ x. eqb x first)) (sym (take_rest_is_drop list start)) (equal_come_first list start c.requires.descends c.requires.start) in
     let at_rest : IsPartitionPoint (λ x. eqb x first ≡ true) (λ x. eqb x first ≡ false) rest count =
     IsPartitionPoint-from_clause (λ x. eqb x first) rest count c.partition_point.ensures.partitioned parted (λ a r q k. search rules) in
     let split : IsPartitionPoint (λ x. eqb x first ≡ true) (λ x. eqb x first ≡ false) (drop start list) count =

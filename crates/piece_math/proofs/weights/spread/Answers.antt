@@ -15,8 +15,8 @@ overflow_mul-rows c = rw c.from.ensures (omega (arith, rows_fit c.pieces-column.
 pub overflow_cast-rows : goal.overflow_cast-rows
 overflow_cast-rows c = rw c.from.ensures (omega (arith, rows_fit c.pieces-column.ensures.whole c.pieces-class.ensures.whole c.loop-places.invariant c.next_stretch-stretch.ensures, ap sum c.pieces-column.ensures.stands_for, c.requires))
 
-pub put-requires-clause-falls : goal.put-requires-clause-falls
-put-requires-clause-falls c = rw c.from.ensures (λ pos some. run_falls c.loop-places.invariant.built (spread_run c.pieces-column.ensures.whole c.pieces-class.ensures.whole c.loop-places.invariant c.next_stretch-stretch.ensures) (spread_falls c.pieces-column.ensures.whole c.pieces-class.ensures.whole c.loop-places.invariant) some)
+pub put-requires-clause-descends : goal.put-requires-clause-descends
+put-requires-clause-descends c = rw c.from.ensures (λ pos some. run_falls c.loop-places.invariant.built (spread_run c.pieces-column.ensures.whole c.pieces-class.ensures.whole c.loop-places.invariant c.next_stretch-stretch.ensures) (spread_falls c.pieces-column.ensures.whole c.pieces-class.ensures.whole c.loop-places.invariant) some)
 
 pub put-requires-clause-room : goal.put-requires-clause-room
 put-requires-clause-room c =
@@ -35,4 +35,4 @@ returns-clause-value c =
 pub returns-clause-few_pieces : goal.returns-clause-few_pieces
 returns-clause-few_pieces c =
     rw (c.pieces-class.ensures.stands_for, spread_end c.pieces-column.ensures.whole c.pieces-class.ensures.whole c.loop-places.invariant c.if-places-column.false)
-    (runs_after-spread 0 (expanded c.pieces-column.result.now) (expanded c.pieces-class.result.now) (positive-expanded c.pieces-class.result.now c.pieces-class.ensures.whole.falls))
+    (runs_after-spread 0 (expanded c.pieces-column.result.now) (expanded c.pieces-class.result.now) (positive-expanded c.pieces-class.result.now c.pieces-class.ensures.whole.descends))

@@ -19,7 +19,7 @@ bounds_from-requires-clause-listed c = λ subset fits.
     (c.in_ok-lists.ensures.holds c.requires.told.known c.requires.told.tells)) subset fits
 
 pub bounds_from-requires-clause-depends_on_parts : goal.bounds_from-requires-clause-depends_on_parts
-bounds_from-requires-clause-depends_on_parts c = λ subset part rest falls. (refl, refl)
+bounds_from-requires-clause-depends_on_parts c = λ subset part rest parted. (refl, refl)
 
 pub returns-clause-gives : goal.returns-clause-gives
 returns-clause-gives c = λ stats tells.

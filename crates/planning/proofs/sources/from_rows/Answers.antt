@@ -30,7 +30,7 @@ bounds_from-requires-clause-listed c = λ subset fits.
     (subst (All (HaveLists c.in_ok-lists.lists)) (c.as_slice.ensures ∙ c.requires.equalities) c.in_ok-lists.ensures.joined) (length c.args.query.now.from) (sym count)) subset fits
 
 pub bounds_from-requires-clause-depends_on_parts : goal.bounds_from-requires-clause-depends_on_parts
-bounds_from-requires-clause-depends_on_parts c = λ subset part rest falls. (refl, refl)
+bounds_from-requires-clause-depends_on_parts c = λ subset part rest parted. (refl, refl)
 
 pub returns : goal.returns
 returns c =

@@ -15,7 +15,7 @@ use Rattle.safebound_words.specs.declared.command.OutText.{OutText}
 use Rattle.prepared_runs.proofs.Answered.{limit_stops_by, plan_stage_ok, plan_stops_by}
 use Rattle.prepared_runs.proofs.KeyFacts.{needs_met}
 use Rattle.prepared_runs.proofs.LimitFacts.{within_ok}
-use Rattle.prepared_runs.proofs.ShapeFacts.{own_size, plan_fits, plan_over, shaped_is_tree, tree_over}
+use Rattle.prepared_runs.proofs.ShapeFacts.{is_plan_of_its_scans, plan_fits, plan_over, shaped_is_tree, tree_over}
 use Rattle.prepared_runs.proofs.SourceFacts.{rows_kept, stand}
 use Rattle.prepared_runs.proofs.prepare.prepare_plan.Goals as goal
 
@@ -30,10 +30,10 @@ tree_memory-bytes-requires c =
     let query = c.args.query in
     let tables = tables_of c.args.db in
     let planned = c.in_ok-planned.planned in
-    own_size (length query.from) planned.plan (shaped_is_tree (length query.from) task.terms.shape planned.plan (omega (arith, c.requires.database.some)) c.requires.database.few
+    is_plan_of_its_scans (length query.from) planned.plan (shaped_is_tree (length query.from) task.terms.shape planned.plan (omega (arith, c.requires.database.some)) c.requires.database.few
     (plan_fits query tables (bounds_and_lists_by task.source c.args.schema.now query tables)
     (stand query tables c.args.schema.now task.source (needs_met task.source c.args.schema.now query tables c.requires.keys)) task.accuracy task.terms.budget (omega (arith, c.requires.database.some))
-    c.requires.database.few task.terms.shape planned.plan c.in_ok-planned.ensures.planned c.requires.ranges.budget).plan)
+    c.requires.database.few task.terms.shape planned.plan c.in_ok-planned.ensures.planned c.requires.ranges.budget).is_shaped)
 
 pub returns-in_err-check_limit-clause-refused : goal.returns-in_err-check_limit-clause-refused
 returns-in_err-check_limit-clause-refused c =
@@ -74,7 +74,7 @@ returns-clause-ready c =
       plan = subst (IsShapedPlan _ task.terms.shape) (sym c.in_ok-rest.ensures.plan)
           (plan_fits query tables (bounds_and_lists_by task.source c.args.schema.now query tables)
           (stand query tables c.args.schema.now task.source (needs_met task.source c.args.schema.now query tables c.requires.keys)) task.accuracy task.terms.budget (omega (arith, c.requires.database.some))
-          c.requires.database.few task.terms.shape planned.plan c.in_ok-planned.ensures.planned c.requires.ranges.budget).plan;
+          c.requires.database.few task.terms.shape planned.plan c.in_ok-planned.ensures.planned c.requires.ranges.budget).is_shaped;
       bytes = c.tree_memory-bytes.ensures.value ∙ ap (λ (plan : BushyPlan). tree_bytes plan) (sym c.in_ok-rest.ensures.plan);
       tables = c.requires.tables;
       room = c.in_ok-rest.ensures.room;

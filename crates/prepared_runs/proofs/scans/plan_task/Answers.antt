@@ -19,12 +19,12 @@ plan_by-requires c =
     let known = c.in_ok-known.field-0.known in
     let known_is = subst (λ (a : ℕ). HasBounds ((bounds_and_lists_by task.source c.args.schema.now query tables).sets a) ((bounds_and_lists_by task.source c.args.schema.now query tables).scans a) known) c.of.ensures c.in_ok-known.ensures.known in
     let one_each = (scans_bound query tables task.source task.accuracy).one_each in
-    let long : length known.scans ≡ length query.from = ap (λ (s : List ℕ). length s) known_is.scans ∙ one_each in
+    let lengths : length known.scans ≡ length query.from = ap (λ (s : List ℕ). length s) known_is.scans ∙ one_each in
     record {
-      some = omega (arith, long, c.requires.database.some);
-      few = omega (arith, long, c.requires.database.few);
+      some = omega (arith, lengths, c.requires.database.some);
+      few = omega (arith, lengths, c.requires.database.few);
       sets =
-          ap (λ (s : List ℕ). length s) known_is.sets ∙ all_sets query tables c.args.schema.now task.source task.accuracy ∙ ap (λ (k : ℕ). 2 ^ k) (sym long);
+          ap (λ (s : List ℕ). length s) known_is.sets ∙ all_sets query tables c.args.schema.now task.source task.accuracy ∙ ap (λ (k : ℕ). 2 ^ k) (sym lengths);
       budget = c.requires.ranges.budget;
     }
 

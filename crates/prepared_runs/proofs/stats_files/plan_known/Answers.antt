@@ -8,7 +8,7 @@ use Rattle.prepared_runs.specs.Shapes.{answer_of}
 use Rattle.prepared_runs.specs.StatsFiles.{made_from_file, plan_from_file_asked}
 use Rattle.plans.specs.declared.bushy.BushyPlan.{BushyPlan}
 use Rattle.prepared_runs.proofs.Answered.{planned_kept, planned_past, planned_stops_by, was_made, was_refused}
-use Rattle.prepared_runs.proofs.ShapeFacts.{answer_is_plan, own_size, shaped_is_tree}
+use Rattle.prepared_runs.proofs.ShapeFacts.{answer_is_plan, is_plan_of_its_scans, shaped_is_tree}
 use Rattle.prepared_runs.proofs.StatsFileStages.{asked_known}
 use Rattle.prepared_runs.proofs.stats_files.plan_known.Goals as goal
 
@@ -16,11 +16,11 @@ pub plan_by-requires : goal.plan_by-requires
 plan_by-requires c =
     let query = c.args.query in
     let known = c.args.known.now in
-    let long : length known.scans ≡ length query.from = ap (λ (s : List ℕ). length s) c.requires.known.scans ∙ one_scan_bound_each query c.args.file in
+    let lengths : length known.scans ≡ length query.from = ap (λ (s : List ℕ). length s) c.requires.known.scans ∙ one_scan_bound_each query c.args.file in
     record {
-      some = omega (arith, long, c.requires.some);
-      few = omega (arith, long, c.requires.few);
-      sets = ap (λ (s : List ℕ). length s) c.requires.known.sets ∙ all_sets query c.args.file ∙ ap (λ (k : ℕ). 2 ^ k) (sym long);
+      some = omega (arith, lengths, c.requires.some);
+      few = omega (arith, lengths, c.requires.few);
+      sets = ap (λ (s : List ℕ). length s) c.requires.known.sets ∙ all_sets query c.args.file ∙ ap (λ (k : ℕ). 2 ^ k) (sym lengths);
       budget = c.requires.budget;
     }
 
@@ -40,10 +40,10 @@ tree_memory-bytes-requires c =
     let terms = c.args.terms.now in
     let query = c.args.query in
     let known = c.args.known.now in
-    let long : length known.scans ≡ length query.from = ap (λ (s : List ℕ). length s) c.requires.known.scans ∙ one_scan_bound_each query c.args.file in
+    let lengths : length known.scans ≡ length query.from = ap (λ (s : List ℕ). length s) c.requires.known.scans ∙ one_scan_bound_each query c.args.file in
     let made : answer_of terms.shape known.sets known.scans terms.budget ≡ Ok c.in_ok-plan.plan = was_made (answer_of terms.shape known.sets known.scans terms.budget) c.in_ok-plan.plan c.in_ok-plan.ensures in
-    own_size (length query.from) c.in_ok-plan.plan (shaped_is_tree (length query.from) terms.shape c.in_ok-plan.plan c.requires.some c.requires.few
-    (answer_is_plan terms.shape known.sets known.scans (length query.from) terms.budget long c.requires.some c.requires.few c.in_ok-plan.plan made))
+    is_plan_of_its_scans (length query.from) c.in_ok-plan.plan (shaped_is_tree (length query.from) terms.shape c.in_ok-plan.plan c.requires.some c.requires.few
+    (answer_is_plan terms.shape known.sets known.scans (length query.from) terms.budget lengths c.requires.some c.requires.few c.in_ok-plan.plan made))
 
 pub returns-in_err-check_limit-clause-refused : goal.returns-in_err-check_limit-clause-refused
 returns-in_err-check_limit-clause-refused c =

@@ -1,7 +1,4 @@
-use Rattle.std.proofs.Common.{[], ◌∷◌, Ok, Err}
 use Rattle.std.proofs.lemmas.Result.{err_from_is_err_and}
-use Rattle.base_io.specs.Devices.{growth}
-use Rattle.base_io.specs.Writes.{WroteBuffered}
 use Rattle.base_io.proofs.WriteFacts.{put_failed, put_with_other_error, put_then}
 use Rattle.printed_texts.specs.Words.{file_word_text}
 use Rattle.printed_texts.proofs.lines.put_file.Goals as goal

@@ -1,11 +1,9 @@
-use Rattle.std.proofs.Common.{[], ◌∷◌, ℕ, List, Ok, Err, map, ap, ◌∙◌, arith}
+use Rattle.std.proofs.Common.{[], ◌∷◌, ℕ, List, map, ap, ◌∙◌, arith}
 use Rattle.std.specs.Char.{to_ascii_lowercase}
 use Rattle.std.specs.List.{flat_map}
 use Rattle.std.proofs.lemmas.List.{take_all}
 use Rattle.std.proofs.lemmas.List.Concat.{flat_map_single}
 use Rattle.std.proofs.lemmas.Result.{err_from_is_err_and}
-use Rattle.base_io.specs.Devices.{growth}
-use Rattle.base_io.specs.Writes.{WroteBuffered}
 use Rattle.base_io.proofs.WriteFacts.{put_equal_text, put_with_other_error, put_part, put_part_failed}
 use Rattle.printed_texts.proofs.lines.put_lower.Goals as goal
 

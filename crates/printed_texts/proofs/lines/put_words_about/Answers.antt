@@ -1,4 +1,4 @@
-use Rattle.std.proofs.Common.{◌++◌, ◌∷◌, refl}
+use Rattle.std.proofs.Common.{◌++◌, ◌∷◌}
 use Rattle.std.specs.List.{flat_map}
 use Rattle.std.proofs.lemmas.Result.{err_from_is_err_and}
 use Rattle.base_io.proofs.WriteFacts.{put_equal_text, put_failed, put_failed_next, put_with_other_error, put_then}

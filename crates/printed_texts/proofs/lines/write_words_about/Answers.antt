@@ -1,13 +1,11 @@
-use Rattle.std.proofs.Common.{◌≡◌, ◌++◌, ◌∷◌, [], ℕ, List, Ok, Err, refl, ◌∙◌, append_assoc, append-nil, ap}
+use Rattle.std.proofs.Common.{◌++◌, ◌∷◌, refl}
 use Rattle.std.specs.Prelude.{codes}
 use Rattle.std.specs.List.{flat_map}
 use Rattle.std.proofs.lemmas.Result.{err_from_is_err_and}
-use Rattle.base_io.specs.Devices.{growth}
-use Rattle.base_io.specs.Writes.{WroteBuffered}
-use Rattle.base_io.proofs.WriteFacts.{wrote_with_last_flush, put_equal_text, put_failed, put_failed_next, put_with_other_error, put_then, wrote_err}
+use Rattle.base_io.proofs.WriteFacts.{wrote_with_last_flush, put_equal_text, put_failed, put_failed_next, put_then, wrote_err}
 use Rattle.printed_texts.specs.Faults.{after_blank, error_line}
 use Rattle.printed_texts.specs.Words.{file_word_text}
-use Rattle.printed_texts.proofs.ErrorLines.{line_is, words_now, word_parts, words_are}
+use Rattle.printed_texts.proofs.ErrorLines.{line_is, words_now}
 use Rattle.printed_texts.proofs.lines.write_words_about.Goals as goal
 
 pub returns-in_err-put : goal.returns-in_err-put

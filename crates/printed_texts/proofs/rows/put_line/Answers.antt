@@ -1,7 +1,5 @@
 use Rattle.std.specs.Prelude.{codes}
 use Rattle.std.proofs.lemmas.Result.{err_from_is_err_and}
-use Rattle.base_io.specs.Devices.{growth}
-use Rattle.base_io.specs.Writes.{WroteBuffered}
 use Rattle.base_io.proofs.WriteFacts.{put_failed, put_with_other_error, put_then}
 use Rattle.printed_texts.proofs.rows.put_line.Goals as goal
 

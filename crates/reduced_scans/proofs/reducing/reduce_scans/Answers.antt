@@ -58,7 +58,7 @@ returns-clause-reduced c =
     let tell : HoldsByKey scans es (cell_at c.args.db.now) equal =
     subst (λ s. HoldsByKey s es (cell_at c.args.db.now) equal) (sym same)
     (subst (λ es. HoldsByKey (scans_of query tables) es (cell_at c.args.db.now) equal) (sym edges)
-    (tells query c.args.db.now c.requires.database c.texts_are_different.ensures.different c.texts_are_different.ensures.utf8)) in
+    (tells query c.args.db.now c.requires.database c.recall_texts_are_different.ensures.different c.recall_texts_are_different.ensures.utf8)) in
     let sifted : IsSifted scans es equal left =
     subst (λ (lists : List (Rows ℕ)). IsSifted scans es equal (lists_of lists)) (sym c.as_slice-remaining.ensures)
     (c.in_ok-lists.ensures.sifted equal tell (subst AreAscending (sym same) (scan_ascends query tables))) in

@@ -11,5 +11,5 @@ equalities-preserved c = record {
   lists = c.in_ok-semi_join_equality.ensures.lists;
   stay = sifted_by_both_steps (cell_at c.args.db.now) c.args.equalities.now (lists_of c.args.lists.now) (lists_of c.equalities.lists) (lists_of c.semi_join_equality.new.lists) c.equalities.invariant.stay
       (c.in_ok-semi_join_equality.ensures.stay c.args.equalities.now
-      (Contains-get_or c.args.equalities.now (c.equalities.left - 1) _ (omega (arith, c.equalities.invariant.within, c.equalities-test.true))));
+      (Contains-get_or c.args.equalities.now (c.equalities.remaining - 1) _ (omega (arith, c.equalities.invariant.within, c.equalities-test.true))));
 }

@@ -7,10 +7,10 @@ use Rattle.reduced_scans.proofs.semi_joins.semi_join_back.Given as goal
 
 abbrev pub invariant-equalities : goal.invariant-equalities
 invariant-equalities l = record {
-  within : l.left ≤ length l.equalities;
+  within : l.remaining ≤ length l.equalities;
   lists : AreRowLists l.db l.lists;
   stay : StaySifted (cell_at l.db) l.equalities (lists_of l.initial.lists) (lists_of l.lists);
 }
 
 abbrev pub decreases-equalities : goal.decreases-equalities
-decreases-equalities l = l.left
+decreases-equalities l = l.remaining

@@ -8,7 +8,7 @@ pub returns-clause-rows : goal.returns-clause-rows
 returns-clause-rows c = passing_of_rows
 
 pub returns-clause-values : goal.returns-clause-values
-returns-clause-values c = λ column joined long. (zip_of_columns column joined long).0
+returns-clause-values c = λ column joined lengths. (zip_of_columns column joined lengths).0
 
 pub returns-clause-keys : goal.returns-clause-keys
-returns-clause-keys c = λ column joined long. (zip_of_columns column joined long).1
+returns-clause-keys c = λ column joined lengths. (zip_of_columns column joined lengths).1

@@ -6,9 +6,9 @@ use Rattle.safebound_bounds.proofs.bounding.bounds.Goals as goal
 
 pub parts_of-requires : goal.parts_of-requires
 parts_of-requires c = λ i low. record {
-  left = omega (arith, (c.in_ok-check_room.ensures.right.equalities_are_valid.each i low).left, c.in_ok-check_room.ensures.right.rows_are_valid.few);
-  right = omega (arith, (c.in_ok-check_room.ensures.right.equalities_are_valid.each i low).right, c.in_ok-check_room.ensures.right.rows_are_valid.few);
-  two = (c.in_ok-check_room.ensures.right.equalities_are_valid.each i low).two;
+  left = omega (arith, (c.in_ok-check_room.ensures.valid.equalities_are_valid.each i low).left, c.in_ok-check_room.ensures.valid.rows_are_valid.few);
+  right = omega (arith, (c.in_ok-check_room.ensures.valid.equalities_are_valid.each i low).right, c.in_ok-check_room.ensures.valid.rows_are_valid.few);
+  two = (c.in_ok-check_room.ensures.valid.equalities_are_valid.each i low).two;
 }
 
 pub returns-in_err-check_room-clause-refused : goal.returns-in_err-check_room-clause-refused
@@ -22,8 +22,8 @@ returns-clause-done c = c.write_all_bounds.ensures.done
 pub returns-clause-refused : goal.returns-clause-refused
 returns-clause-refused c = no_memory_is_bounds_cause c.args.rows.now c.args.equalities.now c.args.lists.now c.args.runs.now (length c.args.into.now) c.write_all_bounds.result c.write_all_bounds.ensures.refused
 
-pub returns-clause-right : goal.returns-clause-right
-returns-clause-right c = ok_always _ c.write_all_bounds.result c.in_ok-check_room.ensures.right
+pub returns-clause-valid : goal.returns-clause-valid
+returns-clause-valid c = ok_always _ c.write_all_bounds.result c.in_ok-check_room.ensures.valid
 
 pub returns-clause-never_under : goal.returns-clause-never_under
-returns-clause-never_under c = room_told c.args.rows.now c.args.equalities.now c.args.lists.now c.args.runs.now c.in_ok-check_room.ensures.right c.args.into.now c.write_all_bounds.new.into c.write_all_bounds.result c.write_all_bounds.ensures.done
+returns-clause-never_under c = room_told c.args.rows.now c.args.equalities.now c.args.lists.now c.args.runs.now c.in_ok-check_room.ensures.valid c.args.into.now c.write_all_bounds.new.into c.write_all_bounds.result c.write_all_bounds.ensures.done

@@ -10,4 +10,4 @@ returns-in_err-check_values-clause-refused c =
 
 pub returns-clause-room : goal.returns-clause-room
 returns-clause-room c =
-    omega (arith, (one_shifted (length c.args.rows.now) 18446744073709551615 refl (omega (arith, c.in_ok-check_values.ensures.right.rows_are_valid.few))).0, c.if-room-sets.false)
+    omega (arith, (one_shifted (length c.args.rows.now) 18446744073709551615 refl (omega (arith, c.in_ok-check_values.ensures.valid.rows_are_valid.few))).0, c.if-room-sets.false)

@@ -8,9 +8,9 @@ use Rattle.safebound_bounds.proofs.bounding.set_bound.Goals as goal
 
 pub parts_of-requires : goal.parts_of-requires
 parts_of-requires c = λ i low. record {
-  left = omega (arith, (c.in_ok-check_values.ensures.right.equalities_are_valid.each i low).left, c.in_ok-check_values.ensures.right.rows_are_valid.few);
-  right = omega (arith, (c.in_ok-check_values.ensures.right.equalities_are_valid.each i low).right, c.in_ok-check_values.ensures.right.rows_are_valid.few);
-  two = (c.in_ok-check_values.ensures.right.equalities_are_valid.each i low).two;
+  left = omega (arith, (c.in_ok-check_values.ensures.valid.equalities_are_valid.each i low).left, c.in_ok-check_values.ensures.valid.rows_are_valid.few);
+  right = omega (arith, (c.in_ok-check_values.ensures.valid.equalities_are_valid.each i low).right, c.in_ok-check_values.ensures.valid.rows_are_valid.few);
+  two = (c.in_ok-check_values.ensures.valid.equalities_are_valid.each i low).two;
 }
 
 pub returns-in_err-check_values-clause-refused : goal.returns-in_err-check_values-clause-refused
@@ -27,4 +27,4 @@ returns-clause-done c =
     c.in_64_bits.ensures
 
 pub returns-clause-never_under : goal.returns-clause-never_under
-returns-clause-never_under c = bound_never_under c.args.rows.now c.args.equalities.now c.args.lists.now c.args.runs.now c.in_ok-check_values.ensures.right c.args.set c.in_64_bits.result (returns-clause-done c)
+returns-clause-never_under c = bound_never_under c.args.rows.now c.args.equalities.now c.args.lists.now c.args.runs.now c.in_ok-check_values.ensures.valid c.args.set c.in_64_bits.result (returns-clause-done c)

@@ -15,7 +15,7 @@ own_runs-requires c =
 pub total-requires : goal.total-requires
 total-requires c =
     subst AreValid (sym c.own_runs.ensures)
-    (list_found_satisfies c.args.place.entry c.args.place.column c.args.lists.now (λ (l : ColumnList). AreValid (runs_of c.args.runs.now l)) c.requires.right c.in-Some.list (sym c.in-Some.ensures)).0
+    (list_found_satisfies c.args.place.entry c.args.place.column c.args.lists.now (λ (l : ColumnList). AreValid (runs_of c.args.runs.now l)) c.requires.valid c.in-Some.list (sym c.in-Some.ensures)).0
 
 pub returns-in-Some : goal.returns-in-Some
 returns-in-Some c =

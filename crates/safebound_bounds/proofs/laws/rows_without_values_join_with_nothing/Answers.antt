@@ -6,7 +6,7 @@ use Rattle.safebound_bounds.proofs.JoinableRows.{row_bounds_stay_in_set}
 use Rattle.safebound_bounds.proofs.laws.rows_without_values_join_with_nothing.Goals as goal
 
 pub returns-clause-never_under : goal.returns-clause-never_under
-returns-clause-never_under c rows equalities lists runs right subset fits tables fit choices satisfy differ = set_within rows equalities lists runs right subset tables fit choices satisfy differ
+returns-clause-never_under c rows equalities lists runs valid subset fits tables fit choices satisfy differ = set_within rows equalities lists runs valid subset tables fit choices satisfy differ
 
 pub returns-clause-unjoined : goal.returns-clause-unjoined
 returns-clause-unjoined c rows lists runs es subset none =

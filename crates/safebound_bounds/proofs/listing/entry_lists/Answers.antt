@@ -21,29 +21,29 @@ bounds-rows-list c = (c.requires.lists c.loop-list.list-index c.loop-list-test.t
 
 pub fitted-requires : goal.fitted-requires
 fitted-requires c =
-    let right : IsListValidAt (length c.args.rows.now) (length c.args.runs.now) c.args.lists.now c.loop-list.list-index = c.requires.lists c.loop-list.list-index c.loop-list-test.true in
+    let valid : IsListValidAt (length c.args.rows.now) (length c.args.runs.now) c.args.lists.now c.loop-list.list-index = c.requires.lists c.loop-list.list-index c.loop-list-test.true in
     record {
-      rows = c.requires.rows (list_at c.args.lists.now c.loop-list.list-index).entry right.entry;
-      right = subst AreValid (sym c.own_runs-own.ensures) (c.requires.runs c.loop-list.list-index c.loop-list-test.true);
+      rows = c.requires.rows (list_at c.args.lists.now c.loop-list.list-index).entry valid.entry;
+      valid = subst AreValid (sym c.own_runs-own.ensures) (c.requires.runs c.loop-list.list-index c.loop-list-test.true);
     }
 
 pub add-requires : goal.add-requires
 add-requires c =
-    let right : IsListValidAt (length c.args.rows.now) (length c.args.runs.now) c.args.lists.now c.loop-list.list-index = c.requires.lists c.loop-list.list-index c.loop-list-test.true in
+    let valid : IsListValidAt (length c.args.rows.now) (length c.args.runs.now) c.args.lists.now c.loop-list.list-index = c.requires.lists c.loop-list.list-index c.loop-list-test.true in
     record {
       total = row_bound_is_held c.args.rows.now (length c.args.rows.now) (take c.loop-list.list-index c.args.lists.now) c.args.runs.now c.loop-list.known c.loop-list.invariant
-          (list_at c.args.lists.now c.loop-list.list-index).entry right.entry ∙ ap Some (sym c.in_ok-fitting.ensures.total);
+          (list_at c.args.lists.now c.loop-list.list-index).entry valid.entry ∙ ap Some (sym c.in_ok-fitting.ensures.total);
       no_list = list_is_not_held c.args.rows.now (length c.args.rows.now) (take c.loop-list.list-index c.args.lists.now) c.args.runs.now c.loop-list.known
-          (list_at c.args.lists.now c.loop-list.list-index).entry (list_at c.args.lists.now c.loop-list.list-index).column c.loop-list.invariant right.once;
+          (list_at c.args.lists.now c.loop-list.list-index).entry (list_at c.args.lists.now c.loop-list.list-index).column c.loop-list.invariant valid.once;
     }
 
 pub loop-list-preserved : goal.loop-list-preserved
 loop-list-preserved c =
-    let right : IsListValidAt (length c.args.rows.now) (length c.args.runs.now) c.args.lists.now c.loop-list.list-index = c.requires.lists c.loop-list.list-index c.loop-list-test.true in
+    let valid : IsListValidAt (length c.args.rows.now) (length c.args.runs.now) c.args.lists.now c.loop-list.list-index = c.requires.lists c.loop-list.list-index c.loop-list-test.true in
     subst (λ (s : List ColumnList). HoldsListed c.args.rows.now (length c.args.rows.now) s c.args.runs.now c.add.new.self)
     (sym (take_more c.args.lists.now c.loop-list.list-index default_list c.loop-list-test.true))
     (one_more_list_held c.args.rows.now (length c.args.rows.now) (take c.loop-list.list-index c.args.lists.now) c.args.runs.now (list_at c.args.lists.now c.loop-list.list-index)
-    c.loop-list.known c.add.new.self c.in_ok-fitting.fitting c.loop-list.invariant right.once
+    c.loop-list.known c.add.new.self c.in_ok-fitting.fitting c.loop-list.invariant valid.once
     (c.in_ok-fitting.ensures.list ∙ ap (λ (own : List Run). fitted (get_or c.args.rows.now (list_at c.args.lists.now c.loop-list.list-index).entry 0) (list_of own)) c.own_runs-own.ensures)
     c.in_ok-add.ensures.set c.in_ok-add.ensures.others c.in_ok-add.ensures.rows)
 

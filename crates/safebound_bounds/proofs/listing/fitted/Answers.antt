@@ -13,19 +13,19 @@ use Rattle.safebound_bounds.proofs.listing.fitted.Goals.{then-total-rows+in_ok-p
 pub overflow_cast-total : goal.overflow_cast-total
 overflow_cast-total c = omega (arith, c.total-total.ensures, ap sum c.in_ok-cut.ensures.value, cut_sum c.in_ok-list.list c.args.rows)
 
-pub push_run-requires-clause-falls : goal.push_run-requires-clause-falls
-push_run-requires-clause-falls c =
-    let falls : IsDescending c.in_ok-list.list = subst IsDescending (sym c.in_ok-list.ensures.pieces) (valid_runs_descend c.args.runs.now c.requires.right) in
+pub push_run-requires-clause-descends : goal.push_run-requires-clause-descends
+push_run-requires-clause-descends c =
+    let descends : IsDescending c.in_ok-list.list = subst IsDescending (sym c.in_ok-list.ensures.pieces) (valid_runs_descend c.args.runs.now c.requires.valid) in
     subst (All (λ x. 1 ≤ x)) (sym c.in_ok-cut.ensures.value)
-    (All-from_recursion (λ x. 1 ≤ x) (capped_at c.in_ok-list.list c.args.rows) (positive_is_at_least_one (capped_at c.in_ok-list.list c.args.rows) (positive-capped_at c.in_ok-list.list c.args.rows falls)))
+    (All-from_recursion (λ x. 1 ≤ x) (capped_at c.in_ok-list.list c.args.rows) (positive_is_at_least_one (capped_at c.in_ok-list.list c.args.rows) (positive-capped_at c.in_ok-list.list c.args.rows descends)))
 
 pub push_run-requires-clause-room : goal.push_run-requires-clause-room
 push_run-requires-clause-room c =
-    let falls : IsDescending c.in_ok-list.list = subst IsDescending (sym c.in_ok-list.ensures.pieces) (valid_runs_descend c.args.runs.now c.requires.right) in
+    let descends : IsDescending c.in_ok-list.list = subst IsDescending (sym c.in_ok-list.ensures.pieces) (valid_runs_descend c.args.runs.now c.requires.valid) in
     omega (
       arith,
       ap length c.in_ok-cut.ensures.value,
-      length_at_most_sum (capped_at c.in_ok-list.list c.args.rows) (positive-capped_at c.in_ok-list.list c.args.rows falls),
+      length_at_most_sum (capped_at c.in_ok-list.list c.args.rows) (positive-capped_at c.in_ok-list.list c.args.rows descends),
       cut_sum c.in_ok-list.list c.args.rows,
       c.requires.rows,
     )

@@ -11,8 +11,8 @@ returns-clause-exact c = record {
   kept = c.bounds_within.ensures.kept;
 }
 
-pub returns-clause-right : goal.returns-clause-right
-returns-clause-right c = λ zero. done_from_status _ c.bounds_within.result c.answer_status.result c.answer_status.ensures.status zero c.bounds_within.ensures.right
+pub returns-clause-valid : goal.returns-clause-valid
+returns-clause-valid c = λ zero. done_from_status _ c.bounds_within.result c.answer_status.result c.answer_status.ensures.status zero c.bounds_within.ensures.valid
 
 pub returns-clause-never_under : goal.returns-clause-never_under
 returns-clause-never_under c = λ zero. done_from_status _ c.bounds_within.result c.answer_status.result c.answer_status.ensures.status zero c.bounds_within.ensures.never_under

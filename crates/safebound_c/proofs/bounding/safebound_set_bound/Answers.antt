@@ -12,8 +12,8 @@ returns-clause-exact c = record {
   kept = buffer_is_unchanged (c.args.rows.now ≡ c.args.rows.now) c.set_bound.result refl;
 }
 
-pub returns-clause-right : goal.returns-clause-right
-returns-clause-right c = λ zero. done_from_status _ c.set_bound.result c.answer_status.result c.answer_status.ensures.status zero c.set_bound.ensures.right
+pub returns-clause-valid : goal.returns-clause-valid
+returns-clause-valid c = λ zero. done_from_status _ c.set_bound.result c.answer_status.result c.answer_status.ensures.status zero c.set_bound.ensures.valid
 
 pub returns-clause-there : goal.returns-clause-there
 returns-clause-there c = λ zero. done_from_status _ c.set_bound.result c.answer_status.result c.answer_status.ensures.status zero c.set_bound.ensures.there

@@ -11,5 +11,5 @@ returns-clause-exact c = record {
   kept = c.lesser_of.ensures.kept;
 }
 
-pub returns-clause-right : goal.returns-clause-right
-returns-clause-right c = λ zero. done_from_status _ c.lesser_of.result c.answer_status.result c.answer_status.ensures.status zero c.lesser_of.ensures.right
+pub returns-clause-valid : goal.returns-clause-valid
+returns-clause-valid c = λ zero. done_from_status _ c.lesser_of.result c.answer_status.result c.answer_status.ensures.status zero c.lesser_of.ensures.valid

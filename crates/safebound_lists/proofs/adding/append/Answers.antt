@@ -9,12 +9,12 @@ use Rattle.safebound_lists.proofs.Small.{sum_exact, sum_fits}
 use Rattle.safebound_lists.proofs.Writing.{room_refusal_is_cause, on_ok_of_proof}
 use Rattle.safebound_lists.proofs.adding.append.Goals as goal
 
-pub returns-clause-right : goal.returns-clause-right
-returns-clause-right c =
+pub returns-clause-valid : goal.returns-clause-valid
+returns-clause-valid c =
     let small : sum c.in_ok-list.list + sum c.in_ok-other.other ≤ 2 ^ 48 =
     omega (arith, c.total.ensures, c.total-2.ensures, c.in_ok-list.ensures.small, c.in_ok-other.ensures.small, c.from.ensures) in
     let may : MayBeAdded c.args.runs.now c.args.others.now = record {
-      right = c.in_default.ensures;
+      valid = c.in_default.ensures;
       others_are_valid = c.in_default-first_invalid_run.ensures;
       small = omega (arith, small, ap sum c.in_ok-list.ensures.pieces, ap sum c.in_ok-other.ensures.pieces);
     } in
@@ -44,7 +44,7 @@ returns-clause-refused c =
     ∙ ap (λ (s : List ℕ). rank_sum s c.in_ok-other.other) c.in_ok-list.ensures.pieces
     ∙ ap (rank_sum (list_of c.args.runs.now)) c.in_ok-other.ensures.pieces in
     let may : MayBeAdded c.args.runs.now c.args.others.now = record {
-      right = c.in_default.ensures;
+      valid = c.in_default.ensures;
       others_are_valid = c.in_default-first_invalid_run.ensures;
       small = omega (arith, small, ap sum c.in_ok-list.ensures.pieces, ap sum c.in_ok-other.ensures.pieces);
     } in

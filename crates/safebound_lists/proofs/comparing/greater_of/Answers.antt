@@ -31,7 +31,7 @@ returns-then-sum-from-clause-refused c =
       is_saturated = c.in_ok-both.ensures.value;
     } in
     let total = maximum_total c.in_ok-list.list c.in_ok-other.other (list_of c.args.runs.now) (list_of c.args.others.now) c.in_ok-both.both c.total-sum.result are c.total-sum.ensures in
-    (record { right = c.in_default.ensures; others_are_valid = c.in_default-first_invalid_run.ensures }, total.0, omega (arith, c.from.ensures))
+    (record { valid = c.in_default.ensures; others_are_valid = c.in_default-first_invalid_run.ensures }, total.0, omega (arith, c.from.ensures))
 
 pub write_runs-requires : goal.write_runs-requires
 write_runs-requires c =
@@ -57,8 +57,8 @@ returns-clause-done c =
     let same : c.in_ok-both.both ≡ rank_maximum (list_of c.args.runs.now) (list_of c.args.others.now) = maximum_exact c.in_ok-list.list c.in_ok-other.other (list_of c.args.runs.now) (list_of c.args.others.now) c.in_ok-both.both are in
     subst (λ (s : List ℕ). IfOk c.write_runs.result (IsWritten s c.args.into.now c.write_runs.new.into)) same c.write_runs.ensures.done
 
-pub returns-clause-right : goal.returns-clause-right
-returns-clause-right c =
+pub returns-clause-valid : goal.returns-clause-valid
+returns-clause-valid c =
     let are : AreSmallLists c.in_ok-list.list c.in_ok-other.other (list_of c.args.runs.now) (list_of c.args.others.now) c.in_ok-both.both = record {
       first = c.in_ok-list.ensures.pieces;
       second = c.in_ok-other.ensures.pieces;
@@ -68,7 +68,7 @@ returns-clause-right c =
     } in
     let total = maximum_total c.in_ok-list.list c.in_ok-other.other (list_of c.args.runs.now) (list_of c.args.others.now) c.in_ok-both.both c.total-sum.result are c.total-sum.ensures in
     let may : MayTakeGreater c.args.runs.now c.args.others.now = record {
-      both = record { right = c.in_default.ensures; others_are_valid = c.in_default-first_invalid_run.ensures };
+      both = record { valid = c.in_default.ensures; others_are_valid = c.in_default-first_invalid_run.ensures };
       small = omega (arith, total.0, c.from.ensures);
     } in
     on_ok_of_proof c.write_runs.result may
@@ -85,7 +85,7 @@ returns-clause-refused c =
     let total = maximum_total c.in_ok-list.list c.in_ok-other.other (list_of c.args.runs.now) (list_of c.args.others.now) c.in_ok-both.both c.total-sum.result are c.total-sum.ensures in
     let same : c.in_ok-both.both ≡ rank_maximum (list_of c.args.runs.now) (list_of c.args.others.now) = maximum_exact c.in_ok-list.list c.in_ok-other.other (list_of c.args.runs.now) (list_of c.args.others.now) c.in_ok-both.both are in
     let may : MayTakeGreater c.args.runs.now c.args.others.now = record {
-      both = record { right = c.in_default.ensures; others_are_valid = c.in_default-first_invalid_run.ensures };
+      both = record { valid = c.in_default.ensures; others_are_valid = c.in_default-first_invalid_run.ensures };
       small = omega (arith, total.0, c.from.ensures);
     } in
     room_refusal_is_cause (IsGreaterCause c.args.runs.now c.args.others.now (length c.args.into.now)) (runs_in c.in_ok-both.both) (length c.args.into.now)

@@ -22,11 +22,11 @@ pub returns-clause-refused : goal.returns-clause-refused
 returns-clause-refused c =
     let same : c.in_ok-few.few ≡ compressed c.args.accuracy (list_of c.args.runs.now) =
     c.in_ok-few.ensures.compressed ∙ ap (λ (a : ℕ). compressed a c.in_ok-list.list) c.of.ensures ∙ ap (compressed c.args.accuracy) c.in_ok-list.ensures.pieces in
-    let may : MayBeCompressed c.args.runs.now c.args.accuracy = record { some = omega arith; most = omega arith; right = c.in_default.ensures } in
+    let may : MayBeCompressed c.args.runs.now c.args.accuracy = record { positive = omega arith; most = omega arith; valid = c.in_default.ensures } in
     room_refusal_is_cause (IsCompressCause c.args.runs.now c.args.accuracy (length c.args.into.now)) (runs_in c.in_ok-few.few) (length c.args.into.now)
     (λ n is low. (may, is ∙ ap runs_in same, omega (arith, ap runs_in same, low))) c.write_runs.result c.write_runs.ensures.refused
 
-pub returns-clause-right : goal.returns-clause-right
-returns-clause-right c =
-    let may : MayBeCompressed c.args.runs.now c.args.accuracy = record { some = omega arith; most = omega arith; right = c.in_default.ensures } in
+pub returns-clause-valid : goal.returns-clause-valid
+returns-clause-valid c =
+    let may : MayBeCompressed c.args.runs.now c.args.accuracy = record { positive = omega arith; most = omega arith; valid = c.in_default.ensures } in
     on_ok_of_proof c.write_runs.result may

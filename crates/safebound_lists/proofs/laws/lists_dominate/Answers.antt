@@ -10,8 +10,8 @@ pub returns-clause-degrees : goal.returns-clause-degrees
 returns-clause-degrees c = degree_list_dominates
 
 pub returns-clause-compressed : goal.returns-clause-compressed
-returns-clause-compressed c = λ list accuracy keys falls dominates picked apart.
-    omega (arith, dominates picked apart, compressed-above accuracy list falls (length picked))
+returns-clause-compressed c = λ list accuracy keys descends dominates picked apart.
+    omega (arith, dominates picked apart, compressed-above accuracy list descends (length picked))
 
 pub returns-clause-added : goal.returns-clause-added
 returns-clause-added c = λ list later keys more first second picked apart.

@@ -25,4 +25,4 @@ returns-then-run-eq0 c = elim c.then-run-eq0.branch [
 ]
   where
     wrong : (IsValidAt c.args.runs.now c.loop-place.place → ⊥) → IsFirstWrong (IsValidAt c.args.runs.now) (length c.args.runs.now) c.loop-place.place
-    wrong bad = record { within = c.loop-place-test.true; wrong = bad; before = c.loop-place.invariant.right }
+    wrong bad = record { within = c.loop-place-test.true; wrong = bad; before = c.loop-place.invariant.valid }

@@ -4,8 +4,8 @@ use Rattle.safebound_lists.specs.Runs.{list_of}
 use Rattle.safebound_lists.proofs.Following.{next_falls, next_list, next_room, valid_sum}
 use Rattle.safebound_lists.proofs.runs.pieces_of.Goals as goal
 
-pub push_run-requires-clause-falls : goal.push_run-requires-clause-falls
-push_run-requires-clause-falls c =
+pub push_run-requires-clause-descends : goal.push_run-requires-clause-descends
+push_run-requires-clause-descends c =
     next_falls c.args.runs.now c.loop-run.run-index c.from.result c.loop-run.pieces c.loop-run.invariant c.from.ensures c.loop-run-test.true c.requires
 
 pub push_run-requires-clause-room : goal.push_run-requires-clause-room

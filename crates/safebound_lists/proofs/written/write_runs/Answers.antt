@@ -14,7 +14,7 @@ no_piece = record { value = 0; count = 0 }
 pub overflow_cast-into : goal.overflow_cast-into
 overflow_cast-into c =
     let fits : (get_or c.pieces-pieces.result.now c.loop-place.place no_piece).value < 2 ^ 64 =
-    value_fits (λ x. x < 2 ^ 64) c.pieces-pieces.result.now c.pieces-pieces.ensures.whole.falls
+    value_fits (λ x. x < 2 ^ 64) c.pieces-pieces.result.now c.pieces-pieces.ensures.whole.descends
     (subst (AllByRecursion (λ x. x < 2 ^ 64)) c.pieces-pieces.ensures.stands_for c.requires) c.loop-place.place no_piece c.loop-place-test.true in
     omega (arith, fits)
 
@@ -28,7 +28,7 @@ pub returns-clause-done : goal.returns-clause-done
 returns-clause-done c =
     let ps : List Piece = c.pieces-pieces.result.now in
     let end : c.loop-place.place ≡ length ps = omega arith in
-    all_written c.args.list.now ps c.args.into.now c.loop-place.into (length ps) c.pieces-pieces.ensures.stands_for c.pieces-pieces.ensures.whole.falls refl
+    all_written c.args.list.now ps c.args.into.now c.loop-place.into (length ps) c.pieces-pieces.ensures.stands_for c.pieces-pieces.ensures.whole.descends refl
     (c.loop-place.invariant
     ∙ ap (λ k. map run_of (take k ps) ++ drop k c.args.into.now) end
     ∙ ap (λ (qs : List Piece). map run_of qs ++ drop (length ps) c.args.into.now) (take_all (length ps) ps (omega arith)))

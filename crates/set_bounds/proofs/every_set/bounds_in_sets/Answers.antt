@@ -1,6 +1,7 @@
 use Rattle.std.proofs.Common.{◌≡◌, ℕ, ◌-◌, ◌^◌, ap, subst, ◌∙◌, arith}
+use Rattle.limits.specs.Profile.{greatest_entries}
 use Rattle.set_bounds.specs.AllSets.{bound_in_128_bits, bounds_below}
-use Rattle.set_bounds.specs.Cycles.{AreOnEveryCycle}
+use Rattle.set_bounds.specs.Cycles.{AreAllOnEveryCycle}
 use Rattle.set_bounds.proofs.OnCycles.{on_every_cycle_within}
 use Rattle.set_bounds.proofs.Listing.{first_within}
 use Rattle.set_bounds.proofs.SetBySet.{sets_fit, bounds_pushed}
@@ -17,7 +18,7 @@ next_bound-requires-clause-on_every_cycle g c =
     let all : c.from_bits-all.result ≡ 2 ^ c.args.count - 1 = c.from_bits-all.ensures ∙ ap (λ (k : ℕ). k - 1) (sets_fit c.args.count c.requires.within_limit) in
     rw is (on_every_cycle_within c.args.parts.now.equalities c.loop-bits.bits (2 ^ c.args.count - 1) c.in_ok-graph.graph.on_every_cycle
     (first_within c.args.count c.loop-bits.bits (omega (arith, c.loop-bits-test.true, sets_fit c.args.count c.requires.within_limit)))
-    (subst (λ (k : ℕ). AreOnEveryCycle c.args.parts.now.equalities k c.in_ok-graph.graph.on_every_cycle) all c.in_ok-graph.ensures))
+    (subst (λ (k : ℕ). AreAllOnEveryCycle c.args.parts.now.equalities k greatest_entries c.in_ok-graph.graph.on_every_cycle) all c.in_ok-graph.ensures.on_every_cycle))
 
 pub loop-bits-preserved : goal.loop-bits-preserved
 loop-bits-preserved g c =

@@ -10,7 +10,7 @@ pub bounds_in_sets-requires-clause-listed : goal.bounds_in_sets-requires-clause-
 bounds_in_sets-requires-clause-listed c subset fits = first_entries_have_bounds c.args.lists.now c.args.parts.now.equalities c.args.count subset c.requires.listed fits
 
 pub bounds_in_sets-requires-clause-depends_on_parts : goal.bounds_in_sets-requires-clause-depends_on_parts
-bounds_in_sets-requires-clause-depends_on_parts c subset part rest falls = (refl, refl)
+bounds_in_sets-requires-clause-depends_on_parts c subset part rest parted = (refl, refl)
 
 pub returns-clause-exact : goal.returns-clause-exact
 returns-clause-exact c = c.bounds_in_sets.ensures

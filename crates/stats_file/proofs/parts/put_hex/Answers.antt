@@ -1,9 +1,6 @@
-use Rattle.std.proofs.Common.{[], ◌∷◌, Ok, Err}
 use Rattle.std.specs.List.{flat_map}
 use Rattle.std.proofs.lemmas.Result.{err_from_is_err_and}
 use Rattle.stats_file.specs.Lines.{hex_byte}
-use Rattle.base_io.specs.Devices.{growth}
-use Rattle.base_io.specs.Writes.{WroteBuffered}
 use Rattle.base_io.proofs.WriteFacts.{put_failed, put_with_other_error, put_then}
 use Rattle.stats_file.proofs.parts.put_hex.Goals as goal
 

@@ -1,10 +1,8 @@
-use Rattle.std.proofs.Common.{◌++◌, sym, Ok, Err}
+use Rattle.std.proofs.Common.{◌++◌, sym}
 use Rattle.std.specs.List.{flat_map}
 use Rattle.std.proofs.lemmas.Result.{err_from_is_err_and}
 use Rattle.stats_file.specs.FileText.{file_text}
 use Rattle.stats_file.specs.Lines.{end_line}
-use Rattle.base_io.specs.Devices.{growth}
-use Rattle.base_io.specs.Writes.{WroteBuffered}
 use Rattle.stats_file.proofs.TextFacts.{file_text_is, section_part}
 use Rattle.base_io.proofs.WriteFacts.{wrote_with_last_flush, put_failed, put_then, wrote_equal_text, wrote_err}
 use Rattle.stats_file.proofs.write.write_stats.Goals as goal

@@ -1,4 +1,4 @@
-use Rattle.std.proofs.Common.{Option, Some, option_map, ap, sym, ◌∙◌}
+use Rattle.std.proofs.Common.{Some, option_map, ap, sym, ◌∙◌}
 use Rattle.stats_file_of_query.specs.Databases.{section_of_cells}
 use Rattle.stats_file_of_query.specs.Files.{first_entry}
 use Rattle.stats_file_of_query.proofs.Few.{columns_below_2_32}

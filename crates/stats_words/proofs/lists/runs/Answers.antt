@@ -7,8 +7,8 @@ returns-in_default-next_run c =
     list_refused c.args.rows c.args.word.now c.runs.rest.now c.in-Some.first.now c.in-Some.others.now c.runs.list c.runs.below c.runs.left
     (omega (arith, c.ranges.rows)) c.requires c.runs.invariant c.in-Some.ensures c.in_default-next_run.ensures
 
-pub push_run-requires-clause-falls : goal.push_run-requires-clause-falls
-push_run-requires-clause-falls c =
+pub push_run-requires-clause-descends : goal.push_run-requires-clause-descends
+push_run-requires-clause-descends c =
     may_push c.args.rows c.args.word.now c.runs.rest.now c.runs.list c.runs.below c.runs.left c.in-Some-next_run.run' c.runs.invariant c.in-Some-next_run.ensures.0
 
 pub runs-preserved : goal.runs-preserved
@@ -21,8 +21,8 @@ returns-in_default-next_run-2 c =
     list_refused_at_end c.args.rows c.args.word.now c.runs.rest.now c.runs.list c.runs.below c.runs.left
     (omega (arith, c.ranges.rows)) c.requires c.runs.invariant c.in_default.ensures c.in_default-next_run-2.ensures
 
-pub push_run-requires-2-clause-falls : goal.push_run-requires-2-clause-falls
-push_run-requires-2-clause-falls c =
+pub push_run-requires-2-clause-descends : goal.push_run-requires-2-clause-descends
+push_run-requires-2-clause-descends c =
     may_push c.args.rows c.args.word.now c.runs.rest.now c.runs.list c.runs.below c.runs.left c.in-Some-next_run-2.run' c.runs.invariant c.in-Some-next_run-2.ensures.0
 
 pub returns : goal.returns

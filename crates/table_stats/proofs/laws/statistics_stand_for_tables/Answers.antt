@@ -9,4 +9,4 @@ pub returns-clause-counts : goal.returns-clause-counts
 returns-clause-counts c = counts_stand
 
 pub returns-clause-any_joined_list : goal.returns-clause-any_joined_list
-returns-clause-any_joined_list c = λ tables accuracy entry joined key long tells. listed_stand tables accuracy entry joined key long tells
+returns-clause-any_joined_list c = λ tables accuracy entry joined_values key lengths tells. listed_stand tables accuracy entry joined_values key lengths tells

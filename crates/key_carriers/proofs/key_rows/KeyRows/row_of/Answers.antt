@@ -1,4 +1,4 @@
-use Rattle.std.proofs.Common.{List, length, ap, sym, ◌∙◌, arith}
+use Rattle.std.proofs.Common.{length, ap, arith}
 use Rattle.std.proofs.lemmas.List.FromFn.{length-range_with_len}
 use Rattle.key_carriers.specs.Cells.{cells_found}
 use Rattle.key_carriers.specs.declared.key_rows.KeyRows.{KeyRows}

@@ -9,8 +9,8 @@ nonzero_div-whole c = value_positive c.pieces-piece-items.result.now c.loop-piec
 pub nonzero_rem-left : goal.nonzero_rem-left
 nonzero_rem-left c = value_positive c.pieces-piece-items.result.now c.loop-piece.piece-index (record { value = 0; count = 0 }) c.pieces-piece-items.ensures.whole c.loop-piece-test.true
 
-pub put-requires-clause-falls : goal.put-requires-clause-falls
-put-requires-clause-falls c pos some =
+pub put-requires-clause-descends : goal.put-requires-clause-descends
+put-requires-clause-descends c pos some =
     run_falls c.loop-piece.invariant.built (kept_run c.pieces-piece-items.ensures.whole c.loop-piece.invariant (record { value = 0; count = 0 }) c.loop-piece-test.true (c.loop-piece.left / (get_or c.pieces-piece-items.result.now c.loop-piece.piece-index (record { value = 0; count = 0 })).value) (omega (arith, c.if-whole-from.true, c.from.ensures)) (quotient_times_divisor c.loop-piece.left (get_or c.pieces-piece-items.result.now c.loop-piece.piece-index (record { value = 0; count = 0 })).value (c.loop-piece.left / (get_or c.pieces-piece-items.result.now c.loop-piece.piece-index (record { value = 0; count = 0 })).value) (omega arith))) (cut_falls c.pieces-piece-items.ensures.whole c.loop-piece.invariant) some
 
 pub put-requires-clause-room : goal.put-requires-clause-room
@@ -21,8 +21,8 @@ put-requires-clause-room c pos some =
       run_fits c.loop-piece.invariant.built (kept_run c.pieces-piece-items.ensures.whole c.loop-piece.invariant (record { value = 0; count = 0 }) c.loop-piece-test.true (c.loop-piece.left / (get_or c.pieces-piece-items.result.now c.loop-piece.piece-index (record { value = 0; count = 0 })).value) (omega (arith, c.if-whole-from.true, c.from.ensures)) (quotient_times_divisor c.loop-piece.left (get_or c.pieces-piece-items.result.now c.loop-piece.piece-index (record { value = 0; count = 0 })).value (c.loop-piece.left / (get_or c.pieces-piece-items.result.now c.loop-piece.piece-index (record { value = 0; count = 0 })).value) (omega arith))) pos,
     )
 
-pub put-requires-then-whole-from-clause-falls : goal.put-requires-then-whole-from-clause-falls
-put-requires-then-whole-from-clause-falls c pos some =
+pub put-requires-then-whole-from-clause-descends : goal.put-requires-then-whole-from-clause-descends
+put-requires-then-whole-from-clause-descends c pos some =
     let above : 0 < (get_or c.pieces-piece-items.result.now c.loop-piece.piece-index (record { value = 0; count = 0 })).value = value_positive c.pieces-piece-items.result.now c.loop-piece.piece-index (record { value = 0; count = 0 }) c.pieces-piece-items.ensures.whole c.loop-piece-test.true in
     run_falls
     (built_kept c.pieces-piece-items.ensures.whole c.loop-piece.invariant (record { value = 0; count = 0 }) c.loop-piece-test.true (c.loop-piece.left / (get_or c.pieces-piece-items.result.now c.loop-piece.piece-index (record { value = 0; count = 0 })).value) (omega (arith, c.if-whole-from.true, c.from.ensures)) (quotient_times_divisor c.loop-piece.left (get_or c.pieces-piece-items.result.now c.loop-piece.piece-index (record { value = 0; count = 0 })).value (c.loop-piece.left / (get_or c.pieces-piece-items.result.now c.loop-piece.piece-index (record { value = 0; count = 0 })).value) (omega arith)) c.in_ok-put.ensures)
@@ -47,8 +47,8 @@ returns-then-whole-from-clause-value c =
     rw c.pieces-piece-items.ensures.stands_for
     (cut_done c.pieces-piece-items.ensures.whole c.loop-piece.invariant (record { value = 0; count = 0 }) c.loop-piece-test.true (c.loop-piece.left / (get_or c.pieces-piece-items.result.now c.loop-piece.piece-index (record { value = 0; count = 0 })).value) (c.loop-piece.left % (get_or c.pieces-piece-items.result.now c.loop-piece.piece-index (record { value = 0; count = 0 })).value) (omega (arith, c.if-whole-from.true, c.from.ensures)) (quotient_and_remainder c.loop-piece.left (get_or c.pieces-piece-items.result.now c.loop-piece.piece-index (record { value = 0; count = 0 })).value above) (omega arith) c.in_ok-put.ensures c.in_ok-put-2.ensures)
 
-pub put-requires-in-loop-piece-clause-falls : goal.put-requires-in-loop-piece-clause-falls
-put-requires-in-loop-piece-clause-falls c pos some =
+pub put-requires-in-loop-piece-clause-descends : goal.put-requires-in-loop-piece-clause-descends
+put-requires-in-loop-piece-clause-descends c pos some =
     run_falls c.loop-piece.invariant.built (kept_run c.pieces-piece-items.ensures.whole c.loop-piece.invariant (record { value = 0; count = 0 }) c.loop-piece-test.true (get_or c.pieces-piece-items.result.now c.loop-piece.piece-index (record { value = 0; count = 0 })).count (omega arith) (quotient_times_divisor c.loop-piece.left (get_or c.pieces-piece-items.result.now c.loop-piece.piece-index (record { value = 0; count = 0 })).value (get_or c.pieces-piece-items.result.now c.loop-piece.piece-index (record { value = 0; count = 0 })).count (omega (arith, c.if-whole-from.false, c.from.ensures)))) (cut_falls c.pieces-piece-items.ensures.whole c.loop-piece.invariant) some
 
 pub put-requires-in-loop-piece-clause-room : goal.put-requires-in-loop-piece-clause-room

@@ -4,9 +4,9 @@ use Rattle.piece_math.proofs.Falling.{at_least_element}
 use Rattle.piece_math.proofs.FallingRuns.{one_run_more}
 use Rattle.piece_math.proofs.pieces.Pieces.from_list.Goals as goal
 
-pub push_run-requires-clause-falls : goal.push_run-requires-clause-falls
-push_run-requires-clause-falls c =
-    let above : All (λ x. get_or c.args.list.now c.runs.start 0 ≤ x) (take c.runs.start c.args.list.now) = at_least_element c.args.list.now c.requires.falls c.runs.start in
+pub push_run-requires-clause-descends : goal.push_run-requires-clause-descends
+push_run-requires-clause-descends c =
+    let above : All (λ x. get_or c.args.list.now c.runs.start 0 ≤ x) (take c.runs.start c.args.list.now) = at_least_element c.args.list.now c.requires.descends c.runs.start in
     rw c.from.ensures (subst (All (λ x. get_or c.args.list.now c.runs.start 0 ≤ x)) (sym c.runs.invariant.so_far) above)
 
 pub runs-preserved : goal.runs-preserved

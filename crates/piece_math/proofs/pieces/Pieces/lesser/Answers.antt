@@ -6,8 +6,8 @@ use Rattle.piece_math.proofs.pieces.Pieces.lesser.Goals as goal
 pub loop-places-init : goal.loop-places-init
 loop-places-init c = rw c.empty-list.ensures (lesser_start c.pieces-a.result.now c.pieces-b.result.now c.pieces-a.ensures.whole c.pieces-b.ensures.whole)
 
-pub put-requires-clause-falls : goal.put-requires-clause-falls
-put-requires-clause-falls c pos some =
+pub put-requires-clause-descends : goal.put-requires-clause-descends
+put-requires-clause-descends c pos some =
     run_falls c.loop-places.invariant.built
     (before_run c.pieces-a.ensures.whole c.pieces-b.ensures.whole c.loop-places.invariant c.next_stretch-stretch.ensures c.lower_line-lower.ensures)
     (lesser_falls c.pieces-a.ensures.whole c.pieces-b.ensures.whole) some
@@ -21,8 +21,8 @@ put-requires-clause-room c pos some =
           (before_run c.pieces-a.ensures.whole c.pieces-b.ensures.whole c.loop-places.invariant c.next_stretch-stretch.ensures c.lower_line-lower.ensures) pos,
     )
 
-pub put-requires-in-loop-places-clause-falls : goal.put-requires-in-loop-places-clause-falls
-put-requires-in-loop-places-clause-falls c pos some =
+pub put-requires-in-loop-places-clause-descends : goal.put-requires-in-loop-places-clause-descends
+put-requires-in-loop-places-clause-descends c pos some =
     run_falls (built_before c.pieces-a.ensures.whole c.pieces-b.ensures.whole c.loop-places.invariant c.next_stretch-stretch.ensures c.lower_line-lower.ensures c.in_ok-put.ensures)
     (between_run c.pieces-a.ensures.whole c.pieces-b.ensures.whole c.loop-places.invariant c.next_stretch-stretch.ensures c.lower_line-lower.ensures)
     (lesser_falls c.pieces-a.ensures.whole c.pieces-b.ensures.whole) some
@@ -36,8 +36,8 @@ put-requires-in-loop-places-clause-room c pos some =
           (between_run c.pieces-a.ensures.whole c.pieces-b.ensures.whole c.loop-places.invariant c.next_stretch-stretch.ensures c.lower_line-lower.ensures) pos,
     )
 
-pub put-requires-in-loop-places-2-clause-falls : goal.put-requires-in-loop-places-2-clause-falls
-put-requires-in-loop-places-2-clause-falls c pos some =
+pub put-requires-in-loop-places-2-clause-descends : goal.put-requires-in-loop-places-2-clause-descends
+put-requires-in-loop-places-2-clause-descends c pos some =
     run_falls (built_between c.pieces-a.ensures.whole c.pieces-b.ensures.whole c.loop-places.invariant c.next_stretch-stretch.ensures c.lower_line-lower.ensures c.in_ok-put.ensures c.in_ok-put-2.ensures)
     (after_run c.pieces-a.ensures.whole c.pieces-b.ensures.whole c.loop-places.invariant c.next_stretch-stretch.ensures c.lower_line-lower.ensures)
     (lesser_falls c.pieces-a.ensures.whole c.pieces-b.ensures.whole) some

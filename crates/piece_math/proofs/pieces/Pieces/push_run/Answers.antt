@@ -40,7 +40,7 @@ invariant_of-self-in-Continue-1 c =
       | else-len-gt0-via-then-len-gt0+else-as_slice-len w ↦ w.if-as_slice-len.false (rw (w.as_slice.ensures.value, len_is) same)
       | else-len-gt0-via-else-len-gt0 w ↦ absurd (omega (arith, len_is, w.if-len-gt0.false))
     ])
-    (subst (All (λ x. c.args.value ≤ x)) (sym c.self.view_is) c.requires.falls) c.requires.value c.requires.count c.self.invariant
+    (subst (All (λ x. c.args.value ≤ x)) (sym c.self.view_is) c.requires.descends) c.requires.value c.requires.count c.self.invariant
     (omega (arith, ap length c.self.view_is, c.requires.room)))
 
 pub returns-in_ok-push-clause-ok : goal.returns-in_ok-push-clause-ok
