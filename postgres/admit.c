@@ -1,7 +1,10 @@
-/* Admission: a query is refused before it runs if a join of its plan may have more rows than safebound.budget.
+/* Admission: a query is refused before it runs if a join of its plan may have
+   more rows than safebound.budget.
 
-   The hook of the planner stores in the plan all that is needed to compute the bounds of its joins. They are computed when the plan starts
-   to run, with the snapshot and the parameters of that run: a plan may come from an earlier snapshot, or be cached and run many times. */
+   The hook of the planner stores in the plan all that is needed to compute the
+   bounds of its joins. They are computed when the plan starts to run, with the
+   snapshot and the parameters of that run: a plan may come from an earlier
+   snapshot, or be cached and run many times. */
 #include "admit.h"
 
 #include "access/parallel.h"
@@ -36,29 +39,31 @@ typedef enum UnboundedChoice
 static const struct config_enum_entry unbounded_choices[] = {
 	{"refuse", UNBOUNDED_REFUSE, false},
 	{"admit", UNBOUNDED_ADMIT, false},
-	{NULL, 0, false}
-};
+	{NULL, 0, false}};
 
-static int	budget;
-static int	unbounded_setting;
+static int budget;
+static int unbounded_setting;
 
-/* True while the extension runs a query of its own to count a table. Such a query isn't checked. */
-bool		admission_paused = false;
+/* True while the extension runs a query of its own to count a table. Such a
+ * query isn't checked. */
+bool admission_paused = false;
 
 static planner_hook_type planner_before;
 static set_rel_pathlist_hook_type rel_paths_before;
 static ExecutorStart_hook_type start_before;
 
-/* A call of the planner. Calls may nest: the planner may evaluate a function, whose queries are planned too. */
+/* A call of the planner. Calls may nest: the planner may evaluate a function,
+ * whose queries are planned too. */
 typedef struct PlannerCall
 {
 	struct PlannerCall *outer;
-	List	   *roots;			/* each PlannerInfo that made paths */
+	List *roots; /* each PlannerInfo that made paths */
 } PlannerCall;
 
 static PlannerCall *planner_call;
 
-/* A plan that was cached while there was no budget lacks the data for its bounds. So all plans are made again. */
+/* A plan that was cached while there was no budget lacks the data for its
+ * bounds. So all plans are made again. */
 static void
 on_budget(int changed, void *extra)
 {
@@ -70,23 +75,27 @@ static void
 on_rel_paths(PlannerInfo *root, RelOptInfo *rel, Index rti, RangeTblEntry *rte)
 {
 	if (planner_call != NULL)
-		planner_call->roots = list_append_unique_ptr(planner_call->roots, root);
+		planner_call->roots =
+			list_append_unique_ptr(planner_call->roots, root);
 	if (rel_paths_before)
 		rel_paths_before(root, rel, rti, rte);
 }
 
 static PlannedStmt *
-call_planner_before(Query *parse, const char *text, int options, ParamListInfo parameters)
+call_planner_before(Query *parse, const char *text, int options,
+					ParamListInfo parameters)
 {
-	return planner_before ? planner_before(parse, text, options, parameters) : standard_planner(parse, text, options, parameters);
+	return planner_before ? planner_before(parse, text, options, parameters)
+						  : standard_planner(parse, text, options, parameters);
 }
 
 static PlannedStmt *
-on_planner(Query *parse, const char *text, int options, ParamListInfo parameters)
+on_planner(Query *parse, const char *text, int options,
+		   ParamListInfo parameters)
 {
-	PlannerCall	mine = {planner_call, NIL};
+	PlannerCall mine = {planner_call, NIL};
 	PlannedStmt *plan;
-	List	   *joins;
+	List *joins;
 
 	if (budget == 0)
 		return call_planner_before(parse, text, options, parameters);
@@ -110,17 +119,19 @@ on_planner(Query *parse, const char *text, int options, ParamListInfo parameters
 static bool
 is_exempt(Oid relation)
 {
-	return IsCatalogRelationOid(relation) || get_rel_namespace(relation) == get_namespace_oid("safebound", true);
+	return IsCatalogRelationOid(relation) ||
+		get_rel_namespace(relation) == get_namespace_oid("safebound", true);
 }
 
-/* Whether a plan reads tables and all of them are exempt. Such a plan is always admitted: psql makes some to describe a table. */
+/* Whether a plan reads tables and all of them are exempt. Such a plan is
+ * always admitted: psql makes some to describe a table. */
 static bool
 all_exempt(PlannedStmt *plan)
 {
-	bool		any = false;
-	ListCell   *cell;
+	bool any = false;
+	ListCell *cell;
 
-	foreach(cell, plan->rtable)
+	foreach (cell, plan->rtable)
 	{
 		RangeTblEntry *entry = lfirst_node(RangeTblEntry, cell);
 
@@ -138,14 +149,15 @@ static char *
 names_of(PlannerInfo *root, List *join)
 {
 	StringInfoData names;
-	ListCell   *cell;
+	ListCell *cell;
 
 	initStringInfo(&names);
-	foreach(cell, join)
+	foreach (cell, join)
 	{
 		RangeTblEntry *entry = root->simple_rte_array[lfirst_int(cell)];
 		const char *alias = entry->eref ? entry->eref->aliasname : "?";
-		const char *table = entry->rtekind == RTE_RELATION ? get_rel_name(entry->relid) : NULL;
+		const char *table =
+			entry->rtekind == RTE_RELATION ? get_rel_name(entry->relid) : NULL;
 
 		if (foreach_current_index(cell) > 0)
 			appendStringInfoString(&names, lnext(join, cell) ? ", " : " and ");
@@ -156,7 +168,8 @@ names_of(PlannerInfo *root, List *join)
 	return names.data;
 }
 
-/* Why a relation of a join has no bound, and how to give it one. NULL if it has a bound. */
+/* Why a relation of a join has no bound, and how to give it one. NULL if it
+ * has a bound. */
 static char *
 why_entry(BoundedQuery *query, int relid)
 {
@@ -166,34 +179,43 @@ why_entry(BoundedQuery *query, int relid)
 	if (query->entries[relid].table)
 		return NULL;
 	if (entry->rtekind != RTE_RELATION)
-		return psprintf("%s is a function, VALUES, or a subquery that stays apart in the plan. These have no bound.", name);
+		return psprintf("%s is a function, VALUES, or a subquery that stays "
+						"apart in the plan. These have no bound.",
+						name);
 	if (entry->relkind == RELKIND_FOREIGN_TABLE)
 		return psprintf("%s is a foreign table. These have no bound.", name);
 	if (entry->inh && entry->relkind != RELKIND_PARTITIONED_TABLE)
-		return psprintf("%s has children. Only its parts have bounds, where a query names them.", name);
+		return psprintf("%s has children. Only its parts have bounds, where a "
+						"query names them.",
+						name);
 	if (entry->tablesample)
 		return psprintf("TABLESAMPLE of %s has no bound.", name);
 	return why_not_known(entry->relid);
 }
 
-/* Why a join has no bound: its first relation without a bound, or else the limit that the join exceeds. */
+/* Why a join has no bound: its first relation without a bound, or else the
+ * limit that the join exceeds. */
 static char *
 why_unbounded(BoundedQuery *query, List *join, Relids relids)
 {
-	ListCell   *cell;
+	ListCell *cell;
 
-	foreach(cell, join)
+	foreach (cell, join)
 	{
-		char	   *why = why_entry(query, lfirst_int(cell));
+		char *why = why_entry(query, lfirst_int(cell));
 
 		if (why != NULL)
 			return why;
 	}
 	if (list_length(special_joins_within(query, relids)) > MOST_SPECIAL_JOINS)
-		return psprintf("A join with more than %d outer and semi-joins has no bound.", MOST_SPECIAL_JOINS);
+		return psprintf(
+			"A join with more than %d outer and semi-joins has no bound.",
+			MOST_SPECIAL_JOINS);
 	if (list_length(join) > SAFEBOUND_MOST_ENTRIES)
-		return psprintf("A join of more than %d tables has no bound.", SAFEBOUND_MOST_ENTRIES);
-	return pstrdup("Its bound passes 64 bits. More conditions on columns that are kept help.");
+		return psprintf("A join of more than %d tables has no bound.",
+						SAFEBOUND_MOST_ENTRIES);
+	return pstrdup("Its bound passes 64 bits. More conditions on columns that "
+				   "are kept help.");
 }
 
 static void
@@ -203,36 +225,44 @@ refuse_unbounded(const char *relations, const char *why)
 		return;
 	ereport(ERROR,
 			(errcode(ERRCODE_UNBOUNDED),
-			 errmsg("a join of this query has no bound, and safebound.unbounded is refuse"),
+			 errmsg("a join of this query has no bound, and "
+					"safebound.unbounded is refuse"),
 			 relations ? errdetail("It joins %s.", relations) : 0,
 			 errhint("%s", why)));
 }
 
-/* The hint of a refusal by the budget. It names safebound.estimates = bound where that isn't set. */
+/* The hint of a refusal by the budget. It names safebound.estimates = bound
+ * where that isn't set. */
 static const char *
 advice(void)
 {
 	if (estimates_mode != ESTIMATES_BOUND)
-		return "More conditions on columns that are kept help. So does safebound.estimates = bound: the planner then looks for an order by bounds.";
-	return "More conditions on columns that are kept help. So does safebound.fold for tables to which rows came.";
+		return "More conditions on columns that are kept help. So does "
+			   "safebound.estimates = bound: the planner then looks for an "
+			   "order by bounds.";
+	return "More conditions on columns that are kept help. So does "
+		   "safebound.fold for tables to which rows came.";
 }
 
 static void
 check_join(BoundedQuery *query, List *join)
 {
-	Relids		relids = NULL;
-	uint64		bound;
-	ListCell   *cell;
+	Relids relids = NULL;
+	uint64 bound;
+	ListCell *cell;
 
-	foreach(cell, join)
+	foreach (cell, join)
 		relids = bms_add_member(relids, lfirst_int(cell));
 	bound = bound_of_join(query, relids);
 	if (bound == UNKNOWN)
-		refuse_unbounded(names_of(query->root, join), why_unbounded(query, join, relids));
+		refuse_unbounded(names_of(query->root, join),
+						 why_unbounded(query, join, relids));
 	if (bound != UNKNOWN && bound > (uint64) budget)
 		ereport(ERROR,
 				(errcode(ERRCODE_BUDGET),
-				 errmsg("a join of this query may have %llu rows, and safebound.budget is %d", (unsigned long long) bound, budget),
+				 errmsg("a join of this query may have %llu rows, and "
+						"safebound.budget is %d",
+						(unsigned long long) bound, budget),
 				 errdetail("It joins %s.", names_of(query->root, join)),
 				 errhint("%s", advice())));
 }
@@ -241,23 +271,29 @@ static void
 check_root(List *root_data, ParamListInfo parameters)
 {
 	BoundedQuery *query = bounded_query(root_of_data(root_data, parameters));
-	ListCell   *cell;
+	ListCell *cell;
 
-	foreach(cell, joins_of_data(root_data))
+	foreach (cell, joins_of_data(root_data))
 		check_join(query, lfirst(cell));
 }
 
-/* Bounds all joins of a plan in the active snapshot. Raises an error at the first one that is refused. */
+/* Bounds all joins of a plan in the active snapshot. Raises an error at the
+ * first one that is refused. */
 static void
 check_plan(PlannedStmt *plan, ParamListInfo parameters)
 {
-	List	   *bound_data = bound_data_of(plan);
-	bool		unknown_joins = bound_data == NIL ? has_joins(plan) : linitial_int((List *) linitial(bound_data)) > 0;
+	List *bound_data = bound_data_of(plan);
+	bool unknown_joins = bound_data == NIL
+		? has_joins(plan)
+		: linitial_int((List *) linitial(bound_data)) > 0;
 
 	if (all_exempt(plan))
 		return;
 	if (unknown_joins)
-		refuse_unbounded(NULL, "What it joins can't be told from the plan: some of its rows come from no table, or another extension made the plan.");
+		refuse_unbounded(
+			NULL,
+			"What it joins can't be told from the plan: some of its rows come "
+			"from no table, or another extension made the plan.");
 	for (int i = 1; i < list_length(bound_data); i++)
 		check_root(list_nth(bound_data, i), parameters);
 }
@@ -265,9 +301,10 @@ check_plan(PlannedStmt *plan, ParamListInfo parameters)
 static void
 admit(QueryDesc *query)
 {
-	MemoryContext own = AllocSetContextCreate(CurrentMemoryContext, "safebound admission", ALLOCSET_DEFAULT_SIZES);
+	MemoryContext own = AllocSetContextCreate(
+		CurrentMemoryContext, "safebound admission", ALLOCSET_DEFAULT_SIZES);
 	MemoryContext before = MemoryContextSwitchTo(own);
-	bool		fresh_before = kept_fresh_only;
+	bool fresh_before = kept_fresh_only;
 
 	PushActiveSnapshot(query->snapshot);
 	kept_hold();
@@ -287,11 +324,14 @@ admit(QueryDesc *query)
 	MemoryContextDelete(own);
 }
 
-/* EXPLAIN without ANALYZE runs nothing, and a parallel worker's query was checked in its leader. So neither is checked. */
+/* EXPLAIN without ANALYZE runs nothing, and a parallel worker's query was
+ * checked in its leader. So neither is checked. */
 static void
 on_start(QueryDesc *query, int flags)
 {
-	if (budget > 0 && !admission_paused && !(flags & (EXEC_FLAG_EXPLAIN_ONLY | EXEC_FLAG_WITH_NO_DATA)) && !IsParallelWorker())
+	if (budget > 0 && !admission_paused &&
+		!(flags & (EXEC_FLAG_EXPLAIN_ONLY | EXEC_FLAG_WITH_NO_DATA)) &&
+		!IsParallelWorker())
 		admit(query);
 	if (start_before)
 		start_before(query, flags);
@@ -299,20 +339,23 @@ on_start(QueryDesc *query, int flags)
 		standard_ExecutorStart(query, flags);
 }
 
-/* Applies the settings of the role and the database again, as at the beginning of a session. */
+/* Applies the settings of the role and the database again, as at the beginning
+ * of a session. */
 static void
 apply_settings(void)
 {
-	bool		begins = !IsTransactionState();
-	Relation	settings;
-	Snapshot	snapshot;
+	bool begins = !IsTransactionState();
+	Relation settings;
+	Snapshot snapshot;
 
 	if (begins)
 		StartTransactionCommand();
 	settings = table_open(DbRoleSettingRelationId, AccessShareLock);
 	snapshot = RegisterSnapshot(GetCatalogSnapshot(DbRoleSettingRelationId));
-	ApplySetting(snapshot, MyDatabaseId, GetSessionUserId(), settings, PGC_S_DATABASE_USER);
-	ApplySetting(snapshot, InvalidOid, GetSessionUserId(), settings, PGC_S_USER);
+	ApplySetting(snapshot, MyDatabaseId, GetSessionUserId(), settings,
+				 PGC_S_DATABASE_USER);
+	ApplySetting(snapshot, InvalidOid, GetSessionUserId(), settings,
+				 PGC_S_USER);
 	ApplySetting(snapshot, MyDatabaseId, InvalidOid, settings, PGC_S_DATABASE);
 	ApplySetting(snapshot, InvalidOid, InvalidOid, settings, PGC_S_GLOBAL);
 	UnregisterSnapshot(snapshot);
@@ -321,7 +364,8 @@ apply_settings(void)
 		CommitTransactionCommand();
 }
 
-/* Whether a setting got a value before it was defined, and that value was refused. The setting then has its default. */
+/* Whether a setting got a value before it was defined, and that value was
+ * refused. The setting then has its default. */
 static bool
 was_denied(const char *name, bool given)
 {
@@ -336,24 +380,36 @@ was_denied(const char *name, bool given)
 static void
 define_settings(void)
 {
-	DefineCustomIntVariable("safebound.budget", "The most rows that a join of a query may have, by its bound.",
-							"A query with a join that may have more is refused before it runs. 0: no budget.",
-							&budget, 0, 0, INT_MAX, PGC_SUSET, 0, NULL, on_budget, NULL);
-	DefineCustomEnumVariable("safebound.unbounded", "What is done with a query of which a join has no bound, where there is a budget.",
-							 NULL, &unbounded_setting, UNBOUNDED_REFUSE, unbounded_choices, PGC_SUSET, 0, NULL, NULL, NULL);
+	DefineCustomIntVariable(
+		"safebound.budget",
+		"The most rows that a join of a query may have, by its bound.",
+		"A query with a join that may have more is refused before it runs. 0: "
+		"no budget.",
+		&budget, 0, 0, INT_MAX, PGC_SUSET, 0, NULL, on_budget, NULL);
+	DefineCustomEnumVariable("safebound.unbounded",
+							 "What is done with a query of which a join has "
+							 "no bound, where there is a budget.",
+							 NULL, &unbounded_setting, UNBOUNDED_REFUSE,
+							 unbounded_choices, PGC_SUSET, 0, NULL, NULL,
+							 NULL);
 }
 
-/* Before the library is loaded, a session can begin with any value of these settings. When they are defined here, PostgreSQL refuses a value that
-   the user may not set. But that value has replaced the value from the role, the database or the server, so these values are applied again. */
+/* Before the library is loaded, a session can begin with any value of these
+   settings. When they are defined here, PostgreSQL refuses a value that the
+   user may not set. But that value has replaced the value from the role, the
+   database or the server, so these values are applied again. */
 static void
 define_guarded_settings(void)
 {
-	bool		budget_given = GetConfigOption("safebound.budget", true, false) != NULL;
-	bool		unbounded_given = GetConfigOption("safebound.unbounded", true, false) != NULL;
+	bool budget_given =
+		GetConfigOption("safebound.budget", true, false) != NULL;
+	bool unbounded_given =
+		GetConfigOption("safebound.unbounded", true, false) != NULL;
 
 	define_settings();
 	if (!OidIsValid(MyDatabaseId) || IsParallelWorker() ||
-		!(was_denied("safebound.budget", budget_given) || was_denied("safebound.unbounded", unbounded_given)))
+		!(was_denied("safebound.budget", budget_given) ||
+		  was_denied("safebound.unbounded", unbounded_given)))
 		return;
 	apply_settings();
 	ProcessConfigFile(PGC_SIGHUP);

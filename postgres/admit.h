@@ -1,4 +1,5 @@
-/* Admission: the joins of a plan, the data from which their bounds are computed, and the refusal. */
+/* Admission: the joins of a plan, the data from which their bounds are
+ * computed, and the refusal. */
 #ifndef SAFEBOUND_ADMIT_H
 #define SAFEBOUND_ADMIT_H
 
@@ -6,11 +7,12 @@
 
 #include "nodes/plannodes.h"
 
-/* A join of a plan: the relations that it joins, by their numbers in one PlannerInfo. If they aren't known, root is NULL. */
+/* A join of a plan: the relations that it joins, by their numbers in one
+ * PlannerInfo. If they aren't known, root is NULL. */
 typedef struct PlanJoin
 {
 	PlannerInfo *root;
-	Relids		relids;
+	Relids relids;
 } PlanJoin;
 
 /* plan_joins.c */

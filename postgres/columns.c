@@ -1,6 +1,8 @@
-/* Codes of columns: each column is sorted once, and each row gets the code of its value.
+/* Codes of columns: each column is sorted once, and each row gets the code of
+   its value.
 
-   Along a foreign key, columns of the referred table count as columns of this one: each row has the values of the row that it refers to. */
+   Along a foreign key, columns of the referred table count as columns of this
+   one: each row has the values of the row that it refers to. */
 #include "counting.h"
 
 #include "access/genam.h"
@@ -29,41 +31,51 @@
 static TupleDesc
 numbered_values(Form_pg_attribute attribute)
 {
-	TupleDesc	desc = CreateTemplateTupleDesc(2);
+	TupleDesc desc = CreateTemplateTupleDesc(2);
 
-	TupleDescInitEntry(desc, 1, "value", attribute->atttypid, attribute->atttypmod, 0);
+	TupleDescInitEntry(desc, 1, "value", attribute->atttypid,
+					   attribute->atttypmod, 0);
 	TupleDescInitEntryCollation(desc, 1, attribute->attcollation);
 	TupleDescInitEntry(desc, 2, "row", INT4OID, -1, 0);
 	return desc;
 }
 
-/* Equal values don't depend on the sort order. If values are equal only when their bytes are, the sort compares bytes, which is faster. */
+/* Equal values don't depend on the sort order. If values are equal only when
+ * their bytes are, the sort compares bytes, which is faster. */
 Oid
 sort_collation(Oid collation)
 {
-	return OidIsValid(collation) && get_collation_isdeterministic(collation) ? C_COLLATION_OID : collation;
+	return OidIsValid(collation) && get_collation_isdeterministic(collation)
+		? C_COLLATION_OID
+		: collation;
 }
 
-/* Whether the sort uses the column's own order, so that consecutive sorted values form a range. */
+/* Whether the sort uses the column's own order, so that consecutive sorted
+ * values form a range. */
 static bool
 keeps_order(Oid collation)
 {
-	return !OidIsValid(collation) || !get_collation_isdeterministic(collation) || lc_collate_is_c(collation);
+	return !OidIsValid(collation) ||
+		!get_collation_isdeterministic(collation) ||
+		lc_collate_is_c(collation);
 }
 
 static Tuplesortstate *
 begin_sort(TupleDesc desc, Form_pg_attribute attribute, int memory)
 {
-	TypeCacheEntry *type = lookup_type_cache(attribute->atttypid, TYPECACHE_LT_OPR);
-	AttrNumber	key = 1;
-	Oid			collation = sort_collation(attribute->attcollation);
-	bool		nulls_first = true;
+	TypeCacheEntry *type =
+		lookup_type_cache(attribute->atttypid, TYPECACHE_LT_OPR);
+	AttrNumber key = 1;
+	Oid collation = sort_collation(attribute->attcollation);
+	bool nulls_first = true;
 
-	return tuplesort_begin_heap(desc, 1, &key, &type->lt_opr, &collation, &nulls_first, memory, NULL, TUPLESORT_NONE);
+	return tuplesort_begin_heap(desc, 1, &key, &type->lt_opr, &collation,
+								&nulls_first, memory, NULL, TUPLESORT_NONE);
 }
 
 static void
-put_value(Tuplesortstate *sort, TupleTableSlot *slot, Datum value, bool null, uint32 row)
+put_value(Tuplesortstate *sort, TupleTableSlot *slot, Datum value, bool null,
+		  uint32 row)
 {
 	ExecClearTuple(slot);
 	slot->tts_values[0] = value;
@@ -74,22 +86,27 @@ put_value(Tuplesortstate *sort, TupleTableSlot *slot, Datum value, bool null, ui
 	tuplesort_puttupleslot(sort, slot);
 }
 
-/* Reads the column of all rows that the snapshot sees, always in the same order. Returns the number of rows. */
+/* Reads the column of all rows that the snapshot sees, always in the same
+ * order. Returns the number of rows. */
 static uint32
-sort_rows(Relation relation, AttrNumber number, Tuplesortstate *sort, TupleTableSlot *put)
+sort_rows(Relation relation, AttrNumber number, Tuplesortstate *sort,
+		  TupleTableSlot *put)
 {
-	Rows	   *all = rows_begin(relation);
+	Rows *all = rows_begin(relation);
 	TupleTableSlot *row;
-	uint32		rows = 0;
+	uint32 rows = 0;
 
 	while ((row = rows_next(all)) != NULL)
 	{
-		bool		null;
-		Datum		value = slot_getattr(row, number, &null);
+		bool null;
+		Datum value = slot_getattr(row, number, &null);
 
 		CHECK_FOR_INTERRUPTS();
 		if (rows >= PG_INT32_MAX)
-			ereport(ERROR, (errcode(ERRCODE_PROGRAM_LIMIT_EXCEEDED), errmsg("a table of more than %d rows can't be kept", PG_INT32_MAX)));
+			ereport(ERROR,
+					(errcode(ERRCODE_PROGRAM_LIMIT_EXCEEDED),
+					 errmsg("a table of more than %d rows can't be kept",
+							PG_INT32_MAX)));
 		put_value(sort, put, value, null, rows++);
 	}
 	rows_end(all);
@@ -99,24 +116,25 @@ sort_rows(Relation relation, AttrNumber number, Tuplesortstate *sort, TupleTable
 /* The state of coding a column, while its sorted values arrive. */
 typedef struct ColumnCoder
 {
-	Column	   *column;
-	int			most_common;
-	int			most_leaves;
-	const uint32 *weights;		/* how many rows each row counts for; NULL: one */
-	uint64		total;			/* the sum of all weights */
-	uint64		nulls;
-	uint64		passed;			/* the rows of all values before the last one */
-	uint64		count;			/* the rows of the last value so far */
-	Datum		last;
+	Column *column;
+	int most_common;
+	int most_leaves;
+	const uint32 *weights; /* how many rows each row counts for; NULL: one */
+	uint64 total;          /* the sum of all weights */
+	uint64 nulls;
+	uint64 passed; /* the rows of all values before the last one */
+	uint64 count;  /* the rows of the last value so far */
+	Datum last;
 	NumberSort *by_row;
 } ColumnCoder;
 
-/* Keeps the most common values. A more common value replaces the least common one. */
+/* Keeps the most common values. A more common value replaces the least common
+ * one. */
 static void
 note_common(ColumnCoder *coder)
 {
-	Column	   *column = coder->column;
-	int			least = 0;
+	Column *column = coder->column;
+	int least = 0;
 	CommonValue *into;
 
 	if (column->common_length < coder->most_common)
@@ -126,28 +144,34 @@ note_common(ColumnCoder *coder)
 		for (int i = 1; i < coder->most_common; i++)
 			if (column->common[i].count < column->common[least].count)
 				least = i;
-		if (coder->most_common == 0 || column->common[least].count >= coder->count)
+		if (coder->most_common == 0 ||
+			column->common[least].count >= coder->count)
 			return;
 		into = &column->common[least];
 		if (!column->attribute->attbyval)
 			pfree(DatumGetPointer(into->value));
 	}
-	*into = (CommonValue) {.code = column->highest, .count = coder->count};
-	into->value = datumCopy(coder->last, column->attribute->attbyval, column->attribute->attlen);
+	*into = (CommonValue){.code = column->highest, .count = coder->count};
+	into->value = datumCopy(coder->last, column->attribute->attbyval,
+							column->attribute->attlen);
 }
 
-/* Ends a leaf with the last value, if the leaves so far then have their share of the rows. The last leaf reaches its share only at the last row. */
+/* Ends a leaf with the last value, if the leaves so far then have their share
+ * of the rows. The last leaf reaches its share only at the last row. */
 static void
 note_leaf(ColumnCoder *coder)
 {
-	Column	   *column = coder->column;
-	uint64		all = coder->total - coder->nulls;
-	Leaf	   *leaf = &column->leaves[column->leaves_length];
+	Column *column = coder->column;
+	uint64 all = coder->total - coder->nulls;
+	Leaf *leaf = &column->leaves[column->leaves_length];
 
-	if (coder->passed * coder->most_leaves < all * (column->leaves_length + 1) || coder->most_leaves == 0)
+	if (coder->passed * coder->most_leaves <
+			all * (column->leaves_length + 1) ||
+		coder->most_leaves == 0)
 		return;
-	*leaf = (Leaf) {.last = column->highest, .end = coder->passed};
-	leaf->greatest = datumCopy(coder->last, column->attribute->attbyval, column->attribute->attlen);
+	*leaf = (Leaf){.last = column->highest, .end = coder->passed};
+	leaf->greatest = datumCopy(coder->last, column->attribute->attbyval,
+							   column->attribute->attlen);
 	column->leaves_length++;
 }
 
@@ -181,8 +205,8 @@ begin_value(ColumnCoder *coder, Datum value)
 static int
 by_code(const void *one, const void *other)
 {
-	uint32		a = ((const CommonValue *) one)->code;
-	uint32		b = ((const CommonValue *) other)->code;
+	uint32 a = ((const CommonValue *) one)->code;
+	uint32 b = ((const CommonValue *) other)->code;
 
 	return (a > b) - (a < b);
 }
@@ -191,24 +215,29 @@ by_code(const void *one, const void *other)
 static void
 code_values(ColumnCoder *coder, Tuplesortstate *sort, TupleTableSlot *slot)
 {
-	Column	   *column = coder->column;
-	FmgrInfo   *equal = &lookup_type_cache(column->attribute->atttypid, TYPECACHE_EQ_OPR_FINFO)->eq_opr_finfo;
+	Column *column = coder->column;
+	FmgrInfo *equal =
+		&lookup_type_cache(column->attribute->atttypid, TYPECACHE_EQ_OPR_FINFO)
+			 ->eq_opr_finfo;
 
 	while (tuplesort_gettupleslot(sort, true, true, slot, NULL))
 	{
-		bool		null,
-					isnull;
-		Datum		value = slot_getattr(slot, 1, &null);
-		uint32		row = (uint32) DatumGetInt32(slot_getattr(slot, 2, &isnull));
-		uint64		weight = coder->weights ? coder->weights[row] : 1;
+		bool null, isnull;
+		Datum value = slot_getattr(slot, 1, &null);
+		uint32 row = (uint32) DatumGetInt32(slot_getattr(slot, 2, &isnull));
+		uint64 weight = coder->weights ? coder->weights[row] : 1;
 
 		CHECK_FOR_INTERRUPTS();
 		if (null)
 			coder->nulls += weight;
-		else if (column->highest == 0 || !DatumGetBool(FunctionCall2Coll(equal, column->attribute->attcollation, coder->last, value)))
+		else if (column->highest == 0 ||
+				 !DatumGetBool(
+					 FunctionCall2Coll(equal, column->attribute->attcollation,
+									   coder->last, value)))
 			begin_value(coder, value);
 		coder->count += weight;
-		sorted_put(coder->by_row, ((uint64) row << 32) | (null ? 0 : column->highest));
+		sorted_put(coder->by_row,
+				   ((uint64) row << 32) | (null ? 0 : column->highest));
 	}
 	end_value(coder);
 	qsort(column->common, column->common_length, sizeof(CommonValue), by_code);
@@ -218,7 +247,7 @@ code_values(ColumnCoder *coder, Tuplesortstate *sort, TupleTableSlot *slot)
 static void
 write_codes(ColumnCoder *coder)
 {
-	uint64		number;
+	uint64 number;
 
 	sorted_perform(coder->by_row);
 	coder->column->codes = codes_begin();
@@ -229,16 +258,21 @@ write_codes(ColumnCoder *coder)
 }
 
 static void
-code_column(const TableCounting *table_count, Column *column, Tuplesortstate *sort, TupleDesc desc, uint32 rows, const uint32 *weights)
+code_column(const TableCounting *table_count, Column *column,
+			Tuplesortstate *sort, TupleDesc desc, uint32 rows,
+			const uint32 *weights)
 {
-	TupleTableSlot *sorted = MakeSingleTupleTableSlot(desc, &TTSOpsMinimalTuple);
-	ColumnCoder		coder = {
-		.column = column,.most_common = table_count->most_common,.most_leaves = table_count->most_leaves,
-		.weights = weights,.total = table_count->rows
-	};
+	TupleTableSlot *sorted =
+		MakeSingleTupleTableSlot(desc, &TTSOpsMinimalTuple);
+	ColumnCoder coder = {.column = column,
+						 .most_common = table_count->most_common,
+						 .most_leaves = table_count->most_leaves,
+						 .weights = weights,
+						 .total = table_count->rows};
 
 	tuplesort_performsort(sort);
-	column->common = palloc((table_count->most_common + 1) * sizeof(CommonValue));
+	column->common =
+		palloc((table_count->most_common + 1) * sizeof(CommonValue));
 	if (keeps_order(column->attribute->attcollation))
 		column->leaves = palloc((table_count->most_leaves + 1) * sizeof(Leaf));
 	coder.by_row = sorted_begin(rows, 0, 63);
@@ -260,25 +294,30 @@ read_columns(TableCounting *table_count)
 {
 	for (int i = 0; i < table_count->length; i++)
 	{
-		Column	   *column = &table_count->columns[i];
-		TupleDesc	desc = numbered_values(column->attribute);
+		Column *column = &table_count->columns[i];
+		TupleDesc desc = numbered_values(column->attribute);
 		TupleTableSlot *slot = MakeSingleTupleTableSlot(desc, &TTSOpsVirtual);
-		Tuplesortstate *sort = begin_sort(desc, column->attribute, maintenance_work_mem / 2);
+		Tuplesortstate *sort =
+			begin_sort(desc, column->attribute, maintenance_work_mem / 2);
 
-		table_count->rows = sort_rows(table_count->relation, column->number, sort, slot);
+		table_count->rows =
+			sort_rows(table_count->relation, column->number, sort, slot);
 		code_column(table_count, column, sort, desc, table_count->rows, NULL);
 		ExecDropSingleTupleTableSlot(slot);
 	}
 }
 
-/* The columns of a referred table, by number, whose conditions can be used along a reference to its key. */
+/* The columns of a referred table, by number, whose conditions can be used
+ * along a reference to its key. */
 static List *
 columns_beside(Relation referred, AttrNumber key)
 {
-	List	   *numbers = NIL;
+	List *numbers = NIL;
 
 	for (int i = 0; i < RelationGetDescr(referred)->natts; i++)
-		if (i + 1 != key && !TupleDescAttr(RelationGetDescr(referred), i)->attisdropped && has_order(TupleDescAttr(RelationGetDescr(referred), i)))
+		if (i + 1 != key &&
+			!TupleDescAttr(RelationGetDescr(referred), i)->attisdropped &&
+			has_order(TupleDescAttr(RelationGetDescr(referred), i)))
 			numbers = lappend_int(numbers, i + 1);
 	return numbers;
 }
@@ -286,42 +325,60 @@ columns_beside(Relation referred, AttrNumber key)
 static void
 put_operator(StringInfo into, Oid operator)
 {
-	HeapTuple	tuple = SearchSysCache1(OPEROID, ObjectIdGetDatum(operator));
+	HeapTuple tuple = SearchSysCache1(OPEROID, ObjectIdGetDatum(operator));
 	Form_pg_operator form;
 
 	if (!HeapTupleIsValid(tuple))
 		elog(ERROR, "operator %u isn't there", operator);
 	form = (Form_pg_operator) GETSTRUCT(tuple);
-	appendStringInfo(into, "OPERATOR(%s.%s)", quote_identifier(get_namespace_name(form->oprnamespace)), NameStr(form->oprname));
+	appendStringInfo(into, "OPERATOR(%s.%s)",
+					 quote_identifier(get_namespace_name(form->oprnamespace)),
+					 NameStr(form->oprname));
 	ReleaseSysCache(tuple);
 }
 
 static const char *
 full_name(Relation relation)
 {
-	return quote_qualified_identifier(get_namespace_name(RelationGetNamespace(relation)), RelationGetRelationName(relation));
+	return quote_qualified_identifier(
+		get_namespace_name(RelationGetNamespace(relation)),
+		RelationGetRelationName(relation));
 }
 
-/* A query for columns of the referred rows, one row for each value of the referring column, in the order of these values' codes. */
+/* A query for columns of the referred rows, one row for each value of the
+ * referring column, in the order of these values' codes. */
 static char *
-query_along(const TableCounting *table_count, const Column *along, Relation referred, const ForeignKeyCacheInfo *reference, List *numbers)
+query_along(const TableCounting *table_count, const Column *along,
+			Relation referred, const ForeignKeyCacheInfo *reference,
+			List *numbers)
 {
 	StringInfoData query;
 	const char *name = quote_identifier(NameStr(along->attribute->attname));
-	Oid			collation = along->attribute->attcollation;
-	ListCell   *cell;
+	Oid collation = along->attribute->attcollation;
+	ListCell *cell;
 
 	initStringInfo(&query);
 	appendStringInfoString(&query, "SELECT ");
-	foreach(cell, numbers)
-		appendStringInfo(&query, "%ss.%s", foreach_current_index(cell) ? ", " : "",
-						 quote_identifier(get_attname(RelationGetRelid(referred), lfirst_int(cell), false)));
-	appendStringInfo(&query, " FROM (SELECT DISTINCT %s AS value FROM %s%s WHERE %s IS NOT NULL) r LEFT JOIN ONLY %s s ON s.%s ",
-					 name, table_count->relation->rd_rel->relkind == RELKIND_PARTITIONED_TABLE ? "" : "ONLY ", full_name(table_count->relation), name, full_name(referred),
-					 quote_identifier(get_attname(RelationGetRelid(referred), reference->confkey[0], false)));
+	foreach (cell, numbers)
+		appendStringInfo(
+			&query, "%ss.%s", foreach_current_index(cell) ? ", " : "",
+			quote_identifier(get_attname(RelationGetRelid(referred),
+										 lfirst_int(cell), false)));
+	appendStringInfo(
+		&query,
+		" FROM (SELECT DISTINCT %s AS value FROM %s%s WHERE %s IS NOT NULL) r "
+		"LEFT JOIN ONLY %s s ON s.%s ",
+		name,
+		table_count->relation->rd_rel->relkind == RELKIND_PARTITIONED_TABLE
+			? ""
+			: "ONLY ",
+		full_name(table_count->relation), name, full_name(referred),
+		quote_identifier(get_attname(RelationGetRelid(referred),
+									 reference->confkey[0], false)));
 	put_operator(&query, reference->conpfeqop[0]);
 	appendStringInfoString(&query, " r.value ORDER BY r.value");
-	if (sort_collation(collation) == C_COLLATION_OID && collation != C_COLLATION_OID)
+	if (sort_collation(collation) == C_COLLATION_OID &&
+		collation != C_COLLATION_OID)
 		appendStringInfoString(&query, " COLLATE \"C\"");
 	return query.data;
 }
@@ -330,12 +387,13 @@ query_along(const TableCounting *table_count, const Column *along, Relation refe
 static Portal
 open_own(const char *query)
 {
-	Portal		portal;
+	Portal portal;
 
 	admission_paused = true;
 	PG_TRY();
 	{
-		portal = SPI_cursor_open_with_args(NULL, query, 0, NULL, NULL, NULL, true, 0);
+		portal = SPI_cursor_open_with_args(NULL, query, 0, NULL, NULL, NULL,
+										   true, 0);
 	}
 	PG_FINALLY();
 	{
@@ -345,24 +403,29 @@ open_own(const char *query)
 	return portal;
 }
 
-/* Puts each column of the query's rows into a sort of its own. Row 0 is for NULL, which refers to no row. */
+/* Puts each column of the query's rows into a sort of its own. Row 0 is for
+ * NULL, which refers to no row. */
 static void
-sort_referred(const char *query, int length, Tuplesortstate **sorts, TupleTableSlot **slots, uint32 rows)
+sort_referred(const char *query, int length, Tuplesortstate **sorts,
+			  TupleTableSlot **slots, uint32 rows)
 {
-	Portal		portal = open_own(query);
-	uint32		row = 0;
+	Portal portal = open_own(query);
+	uint32 row = 0;
 
 	for (int i = 0; i < length; i++)
 		put_value(sorts[i], slots[i], (Datum) 0, true, 0);
-	for (SPI_cursor_fetch(portal, true, 10000); SPI_processed > 0; SPI_cursor_fetch(portal, true, 10000))
+	for (SPI_cursor_fetch(portal, true, 10000); SPI_processed > 0;
+		 SPI_cursor_fetch(portal, true, 10000))
 	{
 		for (uint64 at = 0; at < SPI_processed; at++)
 		{
 			row++;
 			for (int i = 0; i < length; i++)
 			{
-				bool		null;
-				Datum		value = SPI_getbinval(SPI_tuptable->vals[at], SPI_tuptable->tupdesc, i + 1, &null);
+				bool null;
+				Datum value =
+					SPI_getbinval(SPI_tuptable->vals[at],
+								  SPI_tuptable->tupdesc, i + 1, &null);
 
 				put_value(sorts[i], slots[i], value, null, row);
 			}
@@ -371,14 +434,17 @@ sort_referred(const char *query, int length, Tuplesortstate **sorts, TupleTableS
 	}
 	SPI_cursor_close(portal);
 	if (row + 1 != rows)
-		elog(ERROR, "%u values are referred to, and %u are referring", row, rows - 1);
+		elog(ERROR, "%u values are referred to, and %u are referring", row,
+			 rows - 1);
 }
 
 /* How many rows have each code. */
 static uint32 *
 weights_of(const TableCounting *table_count, const Column *column)
 {
-	uint32	   *weights = MemoryContextAllocExtended(CurrentMemoryContext, ((Size) column->highest + 1) * sizeof(uint32), MCXT_ALLOC_HUGE | MCXT_ALLOC_ZERO);
+	uint32 *weights = MemoryContextAllocExtended(
+		CurrentMemoryContext, ((Size) column->highest + 1) * sizeof(uint32),
+		MCXT_ALLOC_HUGE | MCXT_ALLOC_ZERO);
 
 	codes_rewind(column->codes);
 	for (uint32 row = 0; row < table_count->rows; row++)
@@ -386,11 +452,14 @@ weights_of(const TableCounting *table_count, const Column *column)
 	return weights;
 }
 
-/* Turns the codes of a column of the referred table into codes of the rows that refer to it. */
+/* Turns the codes of a column of the referred table into codes of the rows
+ * that refer to it. */
 static void
-spread_codes(const TableCounting *table_count, const Column *along, Column *column)
+spread_codes(const TableCounting *table_count, const Column *along,
+			 Column *column)
 {
-	uint32	   *map = MemoryContextAllocHuge(CurrentMemoryContext, ((Size) along->highest + 1) * sizeof(uint32));
+	uint32 *map = MemoryContextAllocHuge(
+		CurrentMemoryContext, ((Size) along->highest + 1) * sizeof(uint32));
 
 	codes_rewind(column->codes);
 	for (uint32 code = 0; code <= along->highest; code++)
@@ -404,33 +473,48 @@ spread_codes(const TableCounting *table_count, const Column *along, Column *colu
 	pfree(map);
 }
 
-/* The columns of the table to which a column refers, as columns of the referring rows. */
+/* The columns of the table to which a column refers, as columns of the
+ * referring rows. */
 Column *
-referred_columns(const TableCounting *table_count, const Column *along, ForeignKeyCacheInfo *reference, int *length)
+referred_columns(const TableCounting *table_count, const Column *along,
+				 ForeignKeyCacheInfo *reference, int *length)
 {
-	Relation	referred = table_open(reference->confrelid, AccessShareLock);
-	List	   *numbers = columns_beside(referred, reference->confkey[0]);
-	Column	   *columns = palloc0((list_length(numbers) + 1) * sizeof(Column));
-	Tuplesortstate **sorts = palloc((list_length(numbers) + 1) * sizeof(Tuplesortstate *));
-	TupleTableSlot **slots = palloc((list_length(numbers) + 1) * sizeof(TupleTableSlot *));
-	TupleDesc  *descs = palloc((list_length(numbers) + 1) * sizeof(TupleDesc));
-	uint32	   *weights;
+	Relation referred = table_open(reference->confrelid, AccessShareLock);
+	List *numbers = columns_beside(referred, reference->confkey[0]);
+	Column *columns = palloc0((list_length(numbers) + 1) * sizeof(Column));
+	Tuplesortstate **sorts =
+		palloc((list_length(numbers) + 1) * sizeof(Tuplesortstate *));
+	TupleTableSlot **slots =
+		palloc((list_length(numbers) + 1) * sizeof(TupleTableSlot *));
+	TupleDesc *descs = palloc((list_length(numbers) + 1) * sizeof(TupleDesc));
+	uint32 *weights;
 
 	*length = list_length(numbers);
 	for (int i = 0; i < *length; i++)
 	{
-		columns[i] = (Column) {.number = list_nth_int(numbers, i),.is_filter = true,.along = along,.referred = reference->confrelid,.key = reference->confkey[0]};
-		columns[i].attribute = memcpy(palloc(ATTRIBUTE_FIXED_PART_SIZE), TupleDescAttr(RelationGetDescr(referred), columns[i].number - 1), ATTRIBUTE_FIXED_PART_SIZE);
+		columns[i] = (Column){.number = list_nth_int(numbers, i),
+							  .is_filter = true,
+							  .along = along,
+							  .referred = reference->confrelid,
+							  .key = reference->confkey[0]};
+		columns[i].attribute = memcpy(
+			palloc(ATTRIBUTE_FIXED_PART_SIZE),
+			TupleDescAttr(RelationGetDescr(referred), columns[i].number - 1),
+			ATTRIBUTE_FIXED_PART_SIZE);
 		descs[i] = numbered_values(columns[i].attribute);
 		slots[i] = MakeSingleTupleTableSlot(descs[i], &TTSOpsVirtual);
-		sorts[i] = begin_sort(descs[i], columns[i].attribute, Max(64, maintenance_work_mem / (*length + 1)));
+		sorts[i] = begin_sort(descs[i], columns[i].attribute,
+							  Max(64, maintenance_work_mem / (*length + 1)));
 	}
 	if (*length > 0)
-		sort_referred(query_along(table_count, along, referred, reference, numbers), *length, sorts, slots, along->highest + 1);
+		sort_referred(
+			query_along(table_count, along, referred, reference, numbers),
+			*length, sorts, slots, along->highest + 1);
 	weights = weights_of(table_count, along);
 	for (int i = 0; i < *length; i++)
 	{
-		code_column(table_count, &columns[i], sorts[i], descs[i], along->highest + 1, weights);
+		code_column(table_count, &columns[i], sorts[i], descs[i],
+					along->highest + 1, weights);
 		spread_codes(table_count, along, &columns[i]);
 		ExecDropSingleTupleTableSlot(slots[i]);
 	}

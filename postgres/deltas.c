@@ -1,7 +1,10 @@
-/* Deltas: the rows that came after a table was counted. Triggers write one delta for each statement, and readers add the deltas to the lists.
+/* Deltas: the rows that came after a table was counted. Triggers write one
+   delta for each statement, and readers add the deltas to the lists.
 
-   Deltas are inserted, and never changed. When the table is counted again, the deltas that its snapshot sees are deleted. Rows are committed
-   together with their delta. So a row that a snapshot sees is counted in lists or deltas that the snapshot sees. */
+   Deltas are inserted, and never changed. When the table is counted again, the
+   deltas that its snapshot sees are deleted. Rows are committed together with
+   their delta. So a row that a snapshot sees is counted in lists or deltas
+   that the snapshot sees. */
 #include "watch.h"
 
 #include "access/genam.h"
@@ -18,29 +21,31 @@
 #include "utils/rel.h"
 #include "utils/snapmgr.h"
 
-/* A sum may have as many runs as all its lists together. If it has more than this number, it is compressed. */
+/* A sum may have as many runs as all its lists together. If it has more than
+ * this number, it is compressed. */
 #define MANY_RUNS 64
 
 static Datum *
 datums_in_array(Datum array, Oid type, int *length)
 {
-	int16		size;
-	bool		by_value;
-	char		align;
-	Datum	   *values;
-	bool	   *nulls;
+	int16 size;
+	bool by_value;
+	char align;
+	Datum *values;
+	bool *nulls;
 
 	get_typlenbyvalalign(type, &size, &by_value, &align);
-	deconstruct_array(DatumGetArrayTypeP(array), type, size, by_value, align, &values, &nulls, length);
+	deconstruct_array(DatumGetArrayTypeP(array), type, size, by_value, align,
+					  &values, &nulls, length);
 	return values;
 }
 
 Bitmapset *
 numbers_in_array(Datum array)
 {
-	Bitmapset  *numbers = NULL;
-	int			length;
-	Datum	   *values = datums_in_array(array, INT2OID, &length);
+	Bitmapset *numbers = NULL;
+	int length;
+	Datum *values = datums_in_array(array, INT2OID, &length);
 
 	for (int i = 0; i < length; i++)
 		numbers = bms_add_member(numbers, DatumGetInt16(values[i]));
@@ -51,15 +56,17 @@ numbers_in_array(Datum array)
 static List *
 referred_in_array(Datum array)
 {
-	List	   *referred = NIL;
-	int			length;
-	Datum	   *values = datums_in_array(array, INT8OID, &length);
+	List *referred = NIL;
+	int length;
+	Datum *values = datums_in_array(array, INT8OID, &length);
 
 	for (int i = 0; i + 2 < length; i += 3)
 	{
 		ReferredTable *table = palloc(sizeof(ReferredTable));
 
-		*table = (ReferredTable) {(Oid) DatumGetInt64(values[i]), DatumGetInt64(values[i + 1]), DatumGetInt64(values[i + 2])};
+		*table = (ReferredTable){(Oid) DatumGetInt64(values[i]),
+								 DatumGetInt64(values[i + 1]),
+								 DatumGetInt64(values[i + 2])};
 		referred = lappend(referred, table);
 	}
 	return referred;
@@ -68,24 +75,25 @@ referred_in_array(Datum array)
 static void
 read_kept_row(Relation tables, HeapTuple tuple, KeptRow *kept_row)
 {
-	Datum		row[TABLE_COLUMNS];
-	bool		nulls[TABLE_COLUMNS];
+	Datum row[TABLE_COLUMNS];
+	bool nulls[TABLE_COLUMNS];
 
 	heap_deform_tuple(tuple, RelationGetDescr(tables), row, nulls);
-	*kept_row = (KeptRow) {
-		.relation = DatumGetObjectId(row[TABLE_RELATION - 1]),
-		.version = DatumGetInt64(row[TABLE_VERSION - 1]),
-		.most_common = DatumGetInt16(row[TABLE_COMMON - 1]),
-		.most_leaves = DatumGetInt16(row[TABLE_RANGES - 1]),
-		.accuracy = DatumGetInt16(row[TABLE_ACCURACY - 1])
-	};
+	*kept_row =
+		(KeptRow){.relation = DatumGetObjectId(row[TABLE_RELATION - 1]),
+				  .version = DatumGetInt64(row[TABLE_VERSION - 1]),
+				  .most_common = DatumGetInt16(row[TABLE_COMMON - 1]),
+				  .most_leaves = DatumGetInt16(row[TABLE_RANGES - 1]),
+				  .accuracy = DatumGetInt16(row[TABLE_ACCURACY - 1])};
 	if (!nulls[TABLE_SOURCES - 1])
 	{
-		int			length;
-		Datum	   *sources = datums_in_array(row[TABLE_SOURCES - 1], OIDOID, &length);
+		int length;
+		Datum *sources =
+			datums_in_array(row[TABLE_SOURCES - 1], OIDOID, &length);
 
 		for (int i = 0; i < length; i++)
-			kept_row->sources = lappend_oid(kept_row->sources, DatumGetObjectId(sources[i]));
+			kept_row->sources =
+				lappend_oid(kept_row->sources, DatumGetObjectId(sources[i]));
 	}
 	if (!nulls[TABLE_JOINED - 1])
 		kept_row->joined = numbers_in_array(row[TABLE_JOINED - 1]);
@@ -95,22 +103,25 @@ read_kept_row(Relation tables, HeapTuple tuple, KeptRow *kept_row)
 		kept_row->referred = referred_in_array(row[TABLE_REFERRED - 1]);
 }
 
-/* Reads the row of a table in kept_table that a snapshot sees; with NULL, the row as it is now. Returns false if the table isn't kept. */
+/* Reads the row of a table in kept_table that a snapshot sees; with NULL, the
+ * row as it is now. Returns false if the table isn't kept. */
 bool
 find_kept_row(Oid relation, Snapshot snapshot, KeptRow *kept_row)
 {
-	Oid			tables_oid = extension_table("kept_table");
-	Relation	tables;
+	Oid tables_oid = extension_table("kept_table");
+	Relation tables;
 	ScanKeyData key;
 	SysScanDesc scan;
-	HeapTuple	tuple;
-	bool		found;
+	HeapTuple tuple;
+	bool found;
 
 	if (!OidIsValid(tables_oid))
 		return false;
 	tables = table_open(tables_oid, AccessShareLock);
-	ScanKeyInit(&key, TABLE_RELATION, BTEqualStrategyNumber, F_OIDEQ, ObjectIdGetDatum(relation));
-	scan = systable_beginscan(tables, extension_table("kept_table_pkey"), true, snapshot, 1, &key);
+	ScanKeyInit(&key, TABLE_RELATION, BTEqualStrategyNumber, F_OIDEQ,
+				ObjectIdGetDatum(relation));
+	scan = systable_beginscan(tables, extension_table("kept_table_pkey"), true,
+							  snapshot, 1, &key);
 	tuple = systable_getnext(scan);
 	found = HeapTupleIsValid(tuple);
 	if (found)
@@ -120,18 +131,21 @@ find_kept_row(Oid relation, Snapshot snapshot, KeptRow *kept_row)
 	return found;
 }
 
-/* The kept tables that may get rows from a statement on `source`, as of now. If `source` is InvalidOid, all kept tables. */
+/* The kept tables that may get rows from a statement on `source`, as of now.
+ * If `source` is InvalidOid, all kept tables. */
 List *
 followers_of(Oid source)
 {
-	Relation	tables = table_open(extension_table("kept_table"), AccessShareLock);
-	SysScanDesc scan = systable_beginscan(tables, InvalidOid, false, NULL, 0, NULL);
-	List	   *followers = NIL;
-	HeapTuple	tuple;
+	Relation tables =
+		table_open(extension_table("kept_table"), AccessShareLock);
+	SysScanDesc scan =
+		systable_beginscan(tables, InvalidOid, false, NULL, 0, NULL);
+	List *followers = NIL;
+	HeapTuple tuple;
 
 	while (HeapTupleIsValid(tuple = systable_getnext(scan)))
 	{
-		KeptRow	   *kept_row = palloc0(sizeof(KeptRow));
+		KeptRow *kept_row = palloc0(sizeof(KeptRow));
 
 		read_kept_row(tables, tuple, kept_row);
 		if (!OidIsValid(source) || list_member_oid(kept_row->sources, source))
@@ -147,26 +161,30 @@ begin_scan(Relation deltas, Oid relation, Snapshot snapshot)
 {
 	ScanKeyData key;
 
-	ScanKeyInit(&key, DELTA_RELATION, BTEqualStrategyNumber, F_OIDEQ, ObjectIdGetDatum(relation));
-	return systable_beginscan(deltas, extension_table("kept_delta_pkey"), true, snapshot, 1, &key);
+	ScanKeyInit(&key, DELTA_RELATION, BTEqualStrategyNumber, F_OIDEQ,
+				ObjectIdGetDatum(relation));
+	return systable_beginscan(deltas, extension_table("kept_delta_pkey"), true,
+							  snapshot, 1, &key);
 }
 
 static int64
 number_of(Relation deltas, HeapTuple tuple, int column)
 {
-	bool		null;
+	bool null;
 
-	return DatumGetInt64(heap_getattr(tuple, column, RelationGetDescr(deltas), &null));
+	return DatumGetInt64(
+		heap_getattr(tuple, column, RelationGetDescr(deltas), &null));
 }
 
 /* Whether the table has a mark of rows that came without being counted. */
 bool
 has_mark(Oid relation, Snapshot snapshot)
 {
-	Relation	deltas = table_open(extension_table("kept_delta"), AccessShareLock);
+	Relation deltas =
+		table_open(extension_table("kept_delta"), AccessShareLock);
 	SysScanDesc scan = begin_scan(deltas, relation, snapshot);
-	bool		found = false;
-	HeapTuple	tuple;
+	bool found = false;
+	HeapTuple tuple;
 
 	while (!found && HeapTupleIsValid(tuple = systable_getnext(scan)))
 		found = number_of(deltas, tuple, DELTA_ROWS) == NOT_COUNTED;
@@ -178,9 +196,10 @@ has_mark(Oid relation, Snapshot snapshot)
 int64
 count_deltas(Oid relation, Snapshot snapshot)
 {
-	Relation	deltas = table_open(extension_table("kept_delta"), AccessShareLock);
+	Relation deltas =
+		table_open(extension_table("kept_delta"), AccessShareLock);
 	SysScanDesc scan = begin_scan(deltas, relation, snapshot);
-	int64		count = 0;
+	int64 count = 0;
 
 	while (HeapTupleIsValid(systable_getnext(scan)))
 		count++;
@@ -189,20 +208,23 @@ count_deltas(Oid relation, Snapshot snapshot)
 	return count;
 }
 
-/* The tables to which a table refers and that haven't changed since it was counted. While a table has one version, deltas are only added. So an
-   equal number of deltas means that they are the same deltas. */
+/* The tables to which a table refers and that haven't changed since it was
+   counted. While a table has one version, deltas are only added. So an equal
+   number of deltas means that they are the same deltas. */
 List *
 unchanged_references(const KeptRow *kept_row, Snapshot snapshot)
 {
-	List	   *unchanged = NIL;
-	ListCell   *cell;
+	List *unchanged = NIL;
+	ListCell *cell;
 
-	foreach(cell, kept_row->referred)
+	foreach (cell, kept_row->referred)
 	{
 		ReferredTable *then = lfirst(cell);
-		KeptRow		now;
+		KeptRow now;
 
-		if (find_kept_row(then->relation, snapshot, &now) && now.version == then->version && now.sources != NIL && !is_being_written(&now) &&
+		if (find_kept_row(then->relation, snapshot, &now) &&
+			now.version == then->version && now.sources != NIL &&
+			!is_being_written(&now) &&
 			count_deltas(then->relation, snapshot) == then->deltas)
 			unchanged = lappend_oid(unchanged, then->relation);
 	}
@@ -218,35 +240,38 @@ list_at(Deltas *deltas, AttrNumber number)
 	return NULL;
 }
 
-/* The list of a column for which a delta has no list. All its rows may have one value. */
+/* The list of a column for which a delta has no list. All its rows may have
+ * one value. */
 static DegreeList
 one_value(uint64 rows)
 {
-	DegreeList	list = {rows, 1, palloc(sizeof(safebound_run))};
+	DegreeList list = {rows, 1, palloc(sizeof(safebound_run))};
 
-	list.runs[0] = (safebound_run) {.degree = rows, .keys = 1};
+	list.runs[0] = (safebound_run){.degree = rows, .keys = 1};
 	return list;
 }
 
 static DegreeList
 short_sum(DegreeList one, DegreeList other, int accuracy)
 {
-	DegreeList	both = summed(one, other);
+	DegreeList both = summed(one, other);
 
 	return both.length > MANY_RUNS ? compressed(both, accuracy) : both;
 }
 
 /* Adds one delta to the sums. */
 static void
-add_delta(Deltas *sums, const KeptRow *kept_row, Relation deltas, HeapTuple tuple)
+add_delta(Deltas *sums, const KeptRow *kept_row, Relation deltas,
+		  HeapTuple tuple)
 {
-	int64		rows = number_of(deltas, tuple, DELTA_ROWS);
-	bool		null;
-	bytea	   *bytes = DatumGetByteaP(heap_getattr(tuple, DELTA_LISTS, RelationGetDescr(deltas), &null));
+	int64 rows = number_of(deltas, tuple, DELTA_ROWS);
+	bool null;
+	bytea *bytes = DatumGetByteaP(
+		heap_getattr(tuple, DELTA_LISTS, RelationGetDescr(deltas), &null));
 	const char *at = VARDATA_ANY(bytes);
 	const char *end = at + VARSIZE_ANY_EXHDR(bytes);
-	Bitmapset  *missing = bms_copy(kept_row->joined);
-	int			number = -1;
+	Bitmapset *missing = bms_copy(kept_row->joined);
+	int number = -1;
 
 	if (rows == NOT_COUNTED)
 		sums->not_counted = true;
@@ -255,8 +280,8 @@ add_delta(Deltas *sums, const KeptRow *kept_row, Relation deltas, HeapTuple tupl
 	sums->rows += rows;
 	while (at < end)
 	{
-		AttrNumber	column = (AttrNumber) get_number(&at, end);
-		DegreeList	list = get_list(&at, end);
+		AttrNumber column = (AttrNumber) get_number(&at, end);
+		DegreeList list = get_list(&at, end);
 		DegreeList *sum = list_at(sums, column);
 
 		if (sum != NULL)
@@ -264,7 +289,8 @@ add_delta(Deltas *sums, const KeptRow *kept_row, Relation deltas, HeapTuple tupl
 		missing = bms_del_member(missing, column);
 	}
 	while ((number = bms_next_member(missing, number)) >= 0)
-		*list_at(sums, number) = short_sum(*list_at(sums, number), one_value(rows), kept_row->accuracy);
+		*list_at(sums, number) = short_sum(
+			*list_at(sums, number), one_value(rows), kept_row->accuracy);
 }
 
 /* The ids of the deltas that a snapshot sees, without their lists. */
@@ -272,9 +298,9 @@ static Deltas *
 read_ids(const KeptRow *kept_row, Relation deltas, Snapshot snapshot)
 {
 	SysScanDesc scan = begin_scan(deltas, kept_row->relation, snapshot);
-	Deltas	   *sums = palloc0(sizeof(Deltas));
-	int			capacity = 16;
-	HeapTuple	tuple;
+	Deltas *sums = palloc0(sizeof(Deltas));
+	int capacity = 16;
+	HeapTuple tuple;
 
 	sums->ids = palloc(capacity * sizeof(int64));
 	while (HeapTupleIsValid(tuple = systable_getnext(scan)))
@@ -288,14 +314,17 @@ read_ids(const KeptRow *kept_row, Relation deltas, Snapshot snapshot)
 }
 
 static void
-sum_deltas(Deltas *sums, const KeptRow *kept_row, Relation deltas, Snapshot snapshot)
+sum_deltas(Deltas *sums, const KeptRow *kept_row, Relation deltas,
+		   Snapshot snapshot)
 {
 	SysScanDesc scan = begin_scan(deltas, kept_row->relation, snapshot);
-	HeapTuple	tuple;
-	int			number = -1;
+	HeapTuple tuple;
+	int number = -1;
 
-	sums->numbers = palloc(sizeof(AttrNumber) * (bms_num_members(kept_row->joined) + 1));
-	sums->lists = palloc0(sizeof(DegreeList) * (bms_num_members(kept_row->joined) + 1));
+	sums->numbers =
+		palloc(sizeof(AttrNumber) * (bms_num_members(kept_row->joined) + 1));
+	sums->lists =
+		palloc0(sizeof(DegreeList) * (bms_num_members(kept_row->joined) + 1));
 	while ((number = bms_next_member(kept_row->joined, number)) >= 0)
 		sums->numbers[sums->lists_length++] = number;
 	while (HeapTupleIsValid(tuple = systable_getnext(scan)))
@@ -306,19 +335,23 @@ sum_deltas(Deltas *sums, const KeptRow *kept_row, Relation deltas, Snapshot snap
 static bool
 same_ids(const Deltas *one, const Deltas *other)
 {
-	return one && one->length == other->length && memcmp(one->ids, other->ids, one->length * sizeof(int64)) == 0;
+	return one && one->length == other->length &&
+		memcmp(one->ids, other->ids, one->length * sizeof(int64)) == 0;
 }
 
-/* The sum of the deltas that a snapshot sees, in a memory context of its own below the current one. If `known` is the sum of the same deltas, it is
+/* The sum of the deltas that a snapshot sees, in a memory context of its own
+   below the current one. If `known` is the sum of the same deltas, it is
    returned. */
 Deltas *
 find_deltas(const KeptRow *kept_row, Snapshot snapshot, Deltas *known)
 {
-	Relation	deltas = table_open(extension_table("kept_delta"), AccessShareLock);
-	MemoryContext context = AllocSetContextCreate(CurrentMemoryContext, "safebound deltas", ALLOCSET_SMALL_SIZES);
+	Relation deltas =
+		table_open(extension_table("kept_delta"), AccessShareLock);
+	MemoryContext context = AllocSetContextCreate(
+		CurrentMemoryContext, "safebound deltas", ALLOCSET_SMALL_SIZES);
 	MemoryContext before = MemoryContextSwitchTo(context);
-	Deltas	   *sums = read_ids(kept_row, deltas, snapshot);
-	bool		same = same_ids(known, sums);
+	Deltas *sums = read_ids(kept_row, deltas, snapshot);
+	bool same = same_ids(known, sums);
 
 	sums->context = context;
 	if (!same)
@@ -336,7 +369,7 @@ DegreeList
 with_deltas(const KeptTable *table, AttrNumber joined, DegreeList list)
 {
 	DegreeList *came = table->deltas ? list_at(table->deltas, joined) : NULL;
-	DegreeList	all = list;
+	DegreeList all = list;
 
 	if (table->deltas == NULL || table->deltas->rows == 0)
 		return list;
@@ -346,32 +379,36 @@ with_deltas(const KeptTable *table, AttrNumber joined, DegreeList list)
 	return all;
 }
 
-/* Inserts into the heap directly, since a user who may write to a table has no rights on the extension's tables. */
+/* Inserts into the heap directly, since a user who may write to a table has no
+ * rights on the extension's tables. */
 void
 write_delta(Oid relation, int64 rows, StringInfo lists)
 {
-	Relation	deltas = table_open(extension_table("kept_delta"), RowExclusiveLock);
-	bytea	   *bytes = palloc(VARHDRSZ + lists->len);
-	bool		nulls[DELTA_LISTS] = {false};
-	Datum		values[DELTA_LISTS] = {
+	Relation deltas =
+		table_open(extension_table("kept_delta"), RowExclusiveLock);
+	bytea *bytes = palloc(VARHDRSZ + lists->len);
+	bool nulls[DELTA_LISTS] = {false};
+	Datum values[DELTA_LISTS] = {
 		ObjectIdGetDatum(relation),
 		Int64GetDatum(nextval_internal(extension_table("versions"), false)),
-		Int64GetDatum(rows),
-		PointerGetDatum(bytes)};
+		Int64GetDatum(rows), PointerGetDatum(bytes)};
 
 	SET_VARSIZE(bytes, VARHDRSZ + lists->len);
 	memcpy(VARDATA(bytes), lists->data, lists->len);
-	CatalogTupleInsert(deltas, heap_form_tuple(RelationGetDescr(deltas), values, nulls));
+	CatalogTupleInsert(
+		deltas, heap_form_tuple(RelationGetDescr(deltas), values, nulls));
 	table_close(deltas, NoLock);
 }
 
-/* Deletes the deltas that a snapshot sees. Their rows are now counted in the lists. */
+/* Deletes the deltas that a snapshot sees. Their rows are now counted in the
+ * lists. */
 void
 delete_deltas(Oid relation, Snapshot snapshot)
 {
-	Relation	deltas = table_open(extension_table("kept_delta"), RowExclusiveLock);
+	Relation deltas =
+		table_open(extension_table("kept_delta"), RowExclusiveLock);
 	SysScanDesc scan = begin_scan(deltas, relation, snapshot);
-	HeapTuple	tuple;
+	HeapTuple tuple;
 
 	while (HeapTupleIsValid(tuple = systable_getnext(scan)))
 		CatalogTupleDelete(deltas, &tuple->t_self);

@@ -1,8 +1,10 @@
 /* The triggers of tables that are watched.
 
-   A statement trigger counts the rows that a statement wrote. From the beginning of the statement until then, the table is unknown to this
-   backend, since a query within the statement may see rows that aren't counted yet. Other backends don't see them before the commit.
-   For rows that a replica applies, only row triggers run. They mark the table as unknown. */
+   A statement trigger counts the rows that a statement wrote. From the
+   beginning of the statement until then, the table is unknown to this backend,
+   since a query within the statement may see rows that aren't counted yet.
+   Other backends don't see them before the commit. For rows that a replica
+   applies, only row triggers run. They mark the table as unknown. */
 #include "watch.h"
 
 #include "access/xact.h"
@@ -22,22 +24,24 @@
 
 PG_FUNCTION_INFO_V1(safebound_follow);
 
-/* A statement that has begun to write to a table and hasn't been counted yet. */
+/* A statement that has begun to write to a table and hasn't been counted yet.
+ */
 typedef struct OpenWrite
 {
-	Oid			source;
+	Oid source;
 	SubTransactionId subtransaction;
 } OpenWrite;
 
-static List *open_writes;			/* of OpenWrite, the latest last, in TopMemoryContext */
+static List
+	*open_writes; /* of OpenWrite, the latest last, in TopMemoryContext */
 
 static void
 begin_writing(Oid source)
 {
 	MemoryContext before = MemoryContextSwitchTo(TopMemoryContext);
-	OpenWrite    *open_write = palloc(sizeof(OpenWrite));
+	OpenWrite *open_write = palloc(sizeof(OpenWrite));
 
-	*open_write = (OpenWrite) {source, GetCurrentSubTransactionId()};
+	*open_write = (OpenWrite){source, GetCurrentSubTransactionId()};
 	open_writes = lappend(open_writes, open_write);
 	MemoryContextSwitchTo(before);
 }
@@ -47,7 +51,7 @@ end_writing(Oid source)
 {
 	for (int i = list_length(open_writes) - 1; i >= 0; i--)
 	{
-		OpenWrite    *open_write = list_nth(open_writes, i);
+		OpenWrite *open_write = list_nth(open_writes, i);
 
 		if (open_write->source != source)
 			continue;
@@ -61,10 +65,11 @@ end_writing(Oid source)
 bool
 is_being_written(const KeptRow *kept_row)
 {
-	ListCell   *cell;
+	ListCell *cell;
 
-	foreach(cell, open_writes)
-		if (list_member_oid(kept_row->sources, ((OpenWrite *) lfirst(cell))->source))
+	foreach (cell, open_writes)
+		if (list_member_oid(kept_row->sources,
+							((OpenWrite *) lfirst(cell))->source))
 			return true;
 	return false;
 }
@@ -72,24 +77,27 @@ is_being_written(const KeptRow *kept_row)
 static void
 on_transaction_end(XactEvent event, void *argument)
 {
-	if (event == XACT_EVENT_COMMIT || event == XACT_EVENT_ABORT || event == XACT_EVENT_PREPARE)
+	if (event == XACT_EVENT_COMMIT || event == XACT_EVENT_ABORT ||
+		event == XACT_EVENT_PREPARE)
 	{
 		list_free_deep(open_writes);
 		open_writes = NIL;
 	}
 }
 
-/* Statements of a subtransaction that was rolled back aren't writing any more. */
+/* Statements of a subtransaction that was rolled back aren't writing any more.
+ */
 static void
-on_subtransaction_end(SubXactEvent event, SubTransactionId mine, SubTransactionId parent, void *argument)
+on_subtransaction_end(SubXactEvent event, SubTransactionId mine,
+					  SubTransactionId parent, void *argument)
 {
-	ListCell   *cell;
+	ListCell *cell;
 
 	if (event != SUBXACT_EVENT_ABORT_SUB)
 		return;
-	foreach(cell, open_writes)
+	foreach (cell, open_writes)
 	{
-		OpenWrite    *open_write = lfirst(cell);
+		OpenWrite *open_write = lfirst(cell);
 
 		if (open_write->subtransaction != mine)
 			continue;
@@ -102,7 +110,8 @@ on_subtransaction_end(SubXactEvent event, SubTransactionId mine, SubTransactionI
 bool
 is_part_of(Oid relation, Oid whole)
 {
-	return get_rel_relispartition(relation) && list_member_oid(get_partition_ancestors(relation), whole);
+	return get_rel_relispartition(relation) &&
+		list_member_oid(get_partition_ancestors(relation), whole);
 }
 
 /* Marks that a table got rows which aren't counted. */
@@ -115,47 +124,54 @@ mark_not_counted(Oid relation)
 	write_delta(relation, NOT_COUNTED, &none);
 }
 
-/* The table to which a replica last applied rows. It was marked then, so its next row needs no mark. */
-static Oid	applied_relation;
+/* The table to which a replica last applied rows. It was marked then, so its
+ * next row needs no mark. */
+static Oid applied_relation;
 static TransactionId applying_transaction;
 
-/* Marks that a table got rows, and so did the tables of which it is a part. One mark in a (sub)transaction is enough. */
+/* Marks that a table got rows, and so did the tables of which it is a part.
+ * One mark in a (sub)transaction is enough. */
 static void
 mark_applied(Oid relation)
 {
-	ListCell   *cell;
+	ListCell *cell;
 
-	if (applied_relation == relation && applying_transaction == GetCurrentTransactionId())
+	if (applied_relation == relation &&
+		applying_transaction == GetCurrentTransactionId())
 		return;
-	foreach(cell, followers_of(relation))
+	foreach (cell, followers_of(relation))
 	{
-		KeptRow	   *kept_row = lfirst(cell);
+		KeptRow *kept_row = lfirst(cell);
 
-		if (kept_row->relation == relation || is_part_of(relation, kept_row->relation))
+		if (kept_row->relation == relation ||
+			is_part_of(relation, kept_row->relation))
 			mark_not_counted(kept_row->relation);
 	}
 	applied_relation = relation;
 	applying_transaction = GetCurrentTransactionId();
 }
 
-/* Counting a table deletes its marks. So rows that are applied later have to mark it again. */
+/* Counting a table deletes its marks. So rows that are applied later have to
+ * mark it again. */
 void
 forget_marks(void)
 {
 	applied_relation = InvalidOid;
 }
 
-/* The rows that a statement wrote to the table, to a table from which it inherits, or to a part of it. */
+/* The rows that a statement wrote to the table, to a table from which it
+ * inherits, or to a part of it. */
 typedef struct NewRows
 {
-	const KeptRow *kept_row;			/* the table */
-	Oid			written;		/* the table that the statement names */
-	TupleDesc	desc;
+	const KeptRow *kept_row; /* the table */
+	Oid written;             /* the table that the statement names */
+	TupleDesc desc;
 	Tuplestorestate *rows;
 	TupleTableSlot *slot;
-	uint64		length;
-	bool	   *is_counted;			/* by row: whether the row counts; NULL: all rows count */
-	uint64		counted_rows;
+	uint64 length;
+	bool
+		*is_counted; /* by row: whether the row counts; NULL: all rows count */
+	uint64 counted_rows;
 } NewRows;
 
 static void
@@ -165,13 +181,19 @@ rewind_rows(Tuplestorestate *rows)
 	tuplestore_rescan(rows);
 }
 
-/* The column of the new rows that is column `number` of the table, or NULL. A part may have its columns in another order. */
+/* The column of the new rows that is column `number` of the table, or NULL. A
+ * part may have its columns in another order. */
 static Form_pg_attribute
 column_of(const NewRows *new, AttrNumber number)
 {
-	const char *name = number > 0 ? get_attname(new->kept_row->relation, number, true) : NULL;
-	AttrNumber	there = new->written == new->kept_row->relation ? number : name ? get_attnum(new->written, name) : 0;
-	Form_pg_attribute attribute = there > 0 && there <= new->desc->natts ? TupleDescAttr(new->desc, there - 1) : NULL;
+	const char *name =
+		number > 0 ? get_attname(new->kept_row->relation, number, true) : NULL;
+	AttrNumber there = new->written == new->kept_row->relation ? number
+		: name ? get_attnum(new->written, name)
+			   : 0;
+	Form_pg_attribute attribute = there > 0 && there <= new->desc->natts
+		? TupleDescAttr(new->desc, there - 1)
+		: NULL;
 
 	return attribute && !attribute->attisdropped ? attribute : NULL;
 }
@@ -180,45 +202,51 @@ column_of(const NewRows *new, AttrNumber number)
 static bool
 same_values(const NewRows *new, TupleTableSlot *one, TupleTableSlot *other)
 {
-	Bitmapset  *columns = bms_union(new->kept_row->joined, new->kept_row->filters);
-	bool		same = true;
-	int			number = -1;
+	Bitmapset *columns =
+		bms_union(new->kept_row->joined, new->kept_row->filters);
+	bool same = true;
+	int number = -1;
 
 	while (same && (number = bms_next_member(columns, number)) >= 0)
 	{
 		Form_pg_attribute attribute = column_of(new, number);
-		bool		one_null,
-					other_null;
-		Datum		value,
-					before;
+		bool one_null, other_null;
+		Datum value, before;
 
 		if (attribute == NULL)
 			continue;
 		value = slot_getattr(one, attribute->attnum, &one_null);
 		before = slot_getattr(other, attribute->attnum, &other_null);
-		same = one_null == other_null && (one_null || datum_image_eq(value, before, attribute->attbyval, attribute->attlen));
+		same = one_null == other_null &&
+			(one_null ||
+			 datum_image_eq(value, before, attribute->attbyval,
+							attribute->attlen));
 	}
 	bms_free(columns);
 	return same;
 }
 
-/* An update that changes no counted column adds nothing. Old and new rows have the same order, unless some rows moved to another partition; then
-   all new rows count. */
+/* An update that changes no counted column adds nothing. Old and new rows have
+   the same order, unless some rows moved to another partition; then all new
+   rows count. */
 static void
 leave_unchanged(NewRows *new, Tuplestorestate *old_rows)
 {
-	TupleTableSlot *old = MakeSingleTupleTableSlot(new->desc, &TTSOpsMinimalTuple);
+	TupleTableSlot *old =
+		MakeSingleTupleTableSlot(new->desc, &TTSOpsMinimalTuple);
 
 	if (tuplestore_tuple_count(old_rows) != (int64) new->length)
 		return;
-	new->is_counted = MemoryContextAllocHuge(CurrentMemoryContext, new->length + 1);
+	new->is_counted =
+		MemoryContextAllocHuge(CurrentMemoryContext, new->length + 1);
 	new->counted_rows = 0;
 	rewind_rows(new->rows);
 	rewind_rows(old_rows);
 	for (uint64 row = 0; row < new->length; row++)
 	{
 		CHECK_FOR_INTERRUPTS();
-		if (!tuplestore_gettupleslot(new->rows, true, false, new->slot) || !tuplestore_gettupleslot(old_rows, true, false, old))
+		if (!tuplestore_gettupleslot(new->rows, true, false, new->slot) ||
+			!tuplestore_gettupleslot(old_rows, true, false, old))
 			elog(ERROR, "a transition table ends too early");
 		new->is_counted[row] = !same_values(new, new->slot, old);
 		new->counted_rows += new->is_counted[row];
@@ -226,18 +254,19 @@ leave_unchanged(NewRows *new, Tuplestorestate *old_rows)
 	ExecDropSingleTupleTableSlot(old);
 }
 
-/* Puts the column's values in the rows that count into a sort. Returns their number. */
+/* Puts the column's values in the rows that count into a sort. Returns their
+ * number. */
 static uint64
 sort_values(NewRows *new, AttrNumber number, Tuplesortstate *sort)
 {
-	uint64		row = 0;
-	uint64		length = 0;
+	uint64 row = 0;
+	uint64 length = 0;
 
 	rewind_rows(new->rows);
 	for (; tuplestore_gettupleslot(new->rows, true, false, new->slot); row++)
 	{
-		bool		null;
-		Datum		value = slot_getattr(new->slot, number, &null);
+		bool null;
+		Datum value = slot_getattr(new->slot, number, &null);
 
 		CHECK_FOR_INTERRUPTS();
 		if (null || (new->is_counted && !new->is_counted[row]))
@@ -253,15 +282,17 @@ sort_values(NewRows *new, AttrNumber number, Tuplesortstate *sort)
 static void
 code_values(Tuplesortstate *sort, Form_pg_attribute attribute, uint64 *codes)
 {
-	TypeCacheEntry *type = lookup_type_cache(attribute->atttypid, TYPECACHE_EQ_OPR_FINFO);
-	uint64		at = 0;
-	Datum		value,
-				last = (Datum) 0;
-	bool		null;
+	TypeCacheEntry *type =
+		lookup_type_cache(attribute->atttypid, TYPECACHE_EQ_OPR_FINFO);
+	uint64 at = 0;
+	Datum value, last = (Datum) 0;
+	bool null;
 
 	while (tuplesort_getdatum(sort, true, &value, &null, NULL))
 	{
-		bool		begins = at == 0 || !DatumGetBool(FunctionCall2Coll(&type->eq_opr_finfo, attribute->attcollation, last, value));
+		bool begins = at == 0 ||
+			!DatumGetBool(FunctionCall2Coll(
+				&type->eq_opr_finfo, attribute->attcollation, last, value));
 
 		codes[at] = at == 0 ? 0 : codes[at - 1] + begins;
 		at++;
@@ -277,12 +308,16 @@ code_values(Tuplesortstate *sort, Form_pg_attribute attribute, uint64 *codes)
 static DegreeList
 list_of_column(NewRows *new, Form_pg_attribute attribute)
 {
-	TypeCacheEntry *type = lookup_type_cache(attribute->atttypid, TYPECACHE_LT_OPR);
-	Tuplesortstate *sort = tuplesort_begin_datum(attribute->atttypid, type->lt_opr, sort_collation(attribute->attcollation), false,
-												 work_mem, NULL, TUPLESORT_NONE);
-	uint64		length = sort_values(new, attribute->attnum, sort);
-	uint64	   *codes = MemoryContextAllocHuge(CurrentMemoryContext, (length + 1) * sizeof(uint64));
-	DegreeList	list = {new->counted_rows, 0, NULL};
+	TypeCacheEntry *type =
+		lookup_type_cache(attribute->atttypid, TYPECACHE_LT_OPR);
+	Tuplesortstate *sort =
+		tuplesort_begin_datum(attribute->atttypid, type->lt_opr,
+							  sort_collation(attribute->attcollation), false,
+							  work_mem, NULL, TUPLESORT_NONE);
+	uint64 length = sort_values(new, attribute->attnum, sort);
+	uint64 *codes = MemoryContextAllocHuge(CurrentMemoryContext,
+										   (length + 1) * sizeof(uint64));
+	DegreeList list = {new->counted_rows, 0, NULL};
 
 	code_values(sort, attribute, codes);
 	tuplesort_end(sort);
@@ -292,51 +327,60 @@ list_of_column(NewRows *new, Form_pg_attribute attribute)
 	return list;
 }
 
-/* The list for a single row, the most frequent case: its value occurs once, or it has no value. */
+/* The list for a single row, the most frequent case: its value occurs once, or
+ * it has no value. */
 static DegreeList
 list_of_one(NewRows *new, AttrNumber number)
 {
 	static safebound_run single = {1, 1};
-	bool		null;
+	bool null;
 
 	rewind_rows(new->rows);
 	if (!tuplestore_gettupleslot(new->rows, true, false, new->slot))
 		elog(ERROR, "a transition table ends too early");
 	slot_getattr(new->slot, number, &null);
-	return (DegreeList) {1, null ? 0 : 1, &single};
+	return (DegreeList){1, null ? 0 : 1, &single};
 }
 
 static void
 put_column(StringInfo into, NewRows *new, AttrNumber number)
 {
 	Form_pg_attribute attribute = column_of(new, number);
-	DegreeList	list;
+	DegreeList list;
 
 	if (attribute == NULL)
 		return;
-	list = new->length == 1 ? list_of_one(new, attribute->attnum) : compressed(list_of_column(new, attribute), new->kept_row->accuracy);
+	list = new->length == 1
+		? list_of_one(new, attribute->attnum)
+		: compressed(list_of_column(new, attribute), new->kept_row->accuracy);
 	put_number(into, number);
 	put_list(into, &list);
 }
 
-/* Writes the delta of a table for a statement's rows. The statement is on the table itself, on a table from which it inherits, or on a part
-   of it. */
+/* Writes the delta of a table for a statement's rows. The statement is on the
+   table itself, on a table from which it inherits, or on a part of it. */
 static void
 count_rows(const KeptRow *kept_row, TriggerData *trigger)
 {
-	Oid			written = RelationGetRelid(trigger->tg_relation);
-	NewRows		new = {.kept_row = kept_row,.written = written,.desc = RelationGetDescr(trigger->tg_relation),.rows = trigger->tg_newtable};
-	bool		own = written == kept_row->relation || is_part_of(written, kept_row->relation);
+	Oid written = RelationGetRelid(trigger->tg_relation);
+	NewRows new = {.kept_row = kept_row,
+				   .written = written,
+				   .desc = RelationGetDescr(trigger->tg_relation),
+				   .rows = trigger->tg_newtable};
+	bool own = written == kept_row->relation ||
+		is_part_of(written, kept_row->relation);
 	StringInfoData lists;
-	int			number = -1;
+	int number = -1;
 
 	new.length = new.counted_rows = tuplestore_tuple_count(new.rows);
 	new.slot = MakeSingleTupleTableSlot(new.desc, &TTSOpsMinimalTuple);
 	if (own && new.length > 0 && trigger->tg_oldtable)
 		leave_unchanged(&new, trigger->tg_oldtable);
 	initStringInfo(&lists);
-	/* It isn't known which rows of the inherited-from table belong to this table, so their delta has no lists. */
-	while (own && new.counted_rows > 0 && (number = bms_next_member(kept_row->joined, number)) >= 0)
+	/* It isn't known which rows of the inherited-from table belong to this
+	 * table, so their delta has no lists. */
+	while (own && new.counted_rows > 0 &&
+		   (number = bms_next_member(kept_row->joined, number)) >= 0)
 		put_column(&lists, &new, number);
 	if (new.counted_rows > 0)
 		write_delta(kept_row->relation, new.counted_rows, &lists);
@@ -346,11 +390,12 @@ count_rows(const KeptRow *kept_row, TriggerData *trigger)
 static void
 end_statement(TriggerData *trigger)
 {
-	MemoryContext own = AllocSetContextCreate(CurrentMemoryContext, "safebound delta", ALLOCSET_DEFAULT_SIZES);
+	MemoryContext own = AllocSetContextCreate(
+		CurrentMemoryContext, "safebound delta", ALLOCSET_DEFAULT_SIZES);
 	MemoryContext before = MemoryContextSwitchTo(own);
-	ListCell   *cell;
+	ListCell *cell;
 
-	foreach(cell, followers_of(RelationGetRelid(trigger->tg_relation)))
+	foreach (cell, followers_of(RelationGetRelid(trigger->tg_relation)))
 		count_rows(lfirst(cell), trigger);
 	MemoryContextSwitchTo(before);
 	MemoryContextDelete(own);
@@ -363,7 +408,9 @@ safebound_follow(PG_FUNCTION_ARGS)
 	TriggerData *trigger = (TriggerData *) fcinfo->context;
 
 	if (!CALLED_AS_TRIGGER(fcinfo))
-		ereport(ERROR, (errcode(ERRCODE_E_R_I_E_TRIGGER_PROTOCOL_VIOLATED), errmsg("safebound.follow is called by triggers alone")));
+		ereport(ERROR,
+				(errcode(ERRCODE_E_R_I_E_TRIGGER_PROTOCOL_VIOLATED),
+				 errmsg("safebound.follow is called by triggers alone")));
 	if (!OidIsValid(extension_table("kept_delta")))
 		return PointerGetDatum(NULL);
 	if (TRIGGER_FIRED_FOR_ROW(trigger->tg_event))

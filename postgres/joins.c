@@ -1,4 +1,5 @@
-/* Bounds of the rows of sets of relations and of joins, by the library. A join may include outer, semi- and anti-joins. */
+/* Bounds of the rows of sets of relations and of joins, by the library. A join
+ * may include outer, semi- and anti-joins. */
 #include "planning.h"
 
 #include "catalog/pg_class.h"
@@ -8,20 +9,25 @@
 #include "port/pg_bitutils.h"
 #include "utils/lsyscache.h"
 
-/* A list with more runs is compressed before it is joined, since planning waits for the bounds. */
+/* A list with more runs is compressed before it is joined, since planning
+ * waits for the bounds. */
 #define MOST_RUNS 48
 #define PLANNING_ACCURACY 6
 
-/* A query can have at most this many known relations, since a set of them is a number of 64 bits. */
+/* A query can have at most this many known relations, since a set of them is a
+ * number of 64 bits. */
 #define MOST_KNOWN 64
 
-/* The column of this query that an expression is, apart from mere changes of type. NULL if it isn't a column. */
+/* The column of this query that an expression is, apart from mere changes of
+ * type. NULL if it isn't a column. */
 Var *
 var_of(Expr *expression)
 {
 	while (expression && IsA(expression, RelabelType))
 		expression = ((RelabelType *) expression)->arg;
-	if (expression && IsA(expression, Var) && ((Var *) expression)->varlevelsup == 0 && ((Var *) expression)->varattno > 0)
+	if (expression && IsA(expression, Var) &&
+		((Var *) expression)->varlevelsup == 0 &&
+		((Var *) expression)->varattno > 0)
 		return (Var *) expression;
 	return NULL;
 }
@@ -30,53 +36,69 @@ var_of(Expr *expression)
 Entry *
 entry_of(BoundedQuery *query, int relid)
 {
-	return relid > 0 && relid < query->root->simple_rel_array_size && query->entries[relid].table ? &query->entries[relid] : NULL;
+	return relid > 0 && relid < query->root->simple_rel_array_size &&
+			query->entries[relid].table
+		? &query->entries[relid]
+		: NULL;
 }
 
 /* A list gets longer with each condition. */
 static DegreeList
 compressed_if_long(DegreeList list)
 {
-	return list.length > MOST_RUNS ? compressed(list, PLANNING_ACCURACY) : list;
+	return list.length > MOST_RUNS ? compressed(list, PLANNING_ACCURACY)
+								   : list;
 }
 
-/* The place of a joined column in `columns`; a new column is added. -1 if no list of it is kept. */
+/* The place of a joined column in `columns`; a new column is added. -1 if no
+ * list of it is kept. */
 static int
 joined_column(BoundedQuery *query, Var *var)
 {
-	Entry	   *entry = entry_of(query, var->varno);
+	Entry *entry = entry_of(query, var->varno);
 
 	if (entry == NULL || kept_pair(entry->table, var->varattno, 0) == NULL)
 		return -1;
 	for (int i = 0; i < query->columns_length; i++)
-		if (query->columns[i].relid == (Index) var->varno && query->columns[i].number == var->varattno)
+		if (query->columns[i].relid == (Index) var->varno &&
+			query->columns[i].number == var->varattno)
 			return i;
 	if (query->columns_length == query->columns_capacity)
-		query->columns = repalloc(query->columns, (query->columns_capacity *= 2) * sizeof(JoinedColumn));
-	query->columns[query->columns_length] = (JoinedColumn) {
+		query->columns =
+			repalloc(query->columns,
+					 (query->columns_capacity *= 2) * sizeof(JoinedColumn));
+	query->columns[query->columns_length] = (JoinedColumn){
 		.relid = var->varno,
 		.number = var->varattno,
-		.list = compressed_if_long(list_under(entry->table, entry->rel, var->varattno, &entry->used))
-	};
+		.list = compressed_if_long(list_under(entry->table, entry->rel,
+											  var->varattno, &entry->used))};
 	return query->columns_length++;
 }
 
-/* Adds the columns of one of PostgreSQL's equivalence classes as equal columns. */
+/* Adds the columns of one of PostgreSQL's equivalence classes as equal
+ * columns. */
 static void
 add_class(BoundedQuery *query, EquivalenceClass *class)
 {
 	EqualColumns *equal = palloc0(sizeof(EqualColumns));
-	ListCell   *cell;
+	ListCell *cell;
 
-	equal->columns = palloc((list_length(class->ec_members) + 1) * sizeof(int));
-	foreach(cell, class->ec_members)
+	equal->columns =
+		palloc((list_length(class->ec_members) + 1) * sizeof(int));
+	foreach (cell, class->ec_members)
 	{
 		EquivalenceMember *member = lfirst(cell);
-		Var		   *var = member->em_is_child || member->em_is_const ? NULL : var_of(member->em_expr);
-		Entry	   *entry = var ? entry_of(query, var->varno) : NULL;
-		int			column;
+		Var *var = member->em_is_child || member->em_is_const
+			? NULL
+			: var_of(member->em_expr);
+		Entry *entry = var ? entry_of(query, var->varno) : NULL;
+		int column;
 
-		if (entry == NULL || !list_member_oid(class->ec_opfamilies, equality_family(entry->table->relation, var->varattno, class->ec_collation)))
+		if (entry == NULL ||
+			!list_member_oid(class->ec_opfamilies,
+							 equality_family(entry->table->relation,
+											 var->varattno,
+											 class->ec_collation)))
 			continue;
 		column = joined_column(query, var);
 		if (column >= 0)
@@ -86,20 +108,26 @@ add_class(BoundedQuery *query, EquivalenceClass *class)
 		query->equalities = lappend(query->equalities, equal);
 }
 
-/* Adds an equality that is in no equivalence class, such as one in an outer join's ON. */
+/* Adds an equality that is in no equivalence class, such as one in an outer
+ * join's ON. */
 static void
 add_clause(BoundedQuery *query, RestrictInfo *info)
 {
-	OpExpr	   *clause = (OpExpr *) info->clause;
-	Var		   *left = info->can_join && IsA(clause, OpExpr) ? var_of(linitial(clause->args)) : NULL;
-	Var		   *right = left ? var_of(lsecond(clause->args)) : NULL;
-	Entry	   *left_entry = left ? entry_of(query, left->varno) : NULL;
-	Entry	   *right_entry = right ? entry_of(query, right->varno) : NULL;
+	OpExpr *clause = (OpExpr *) info->clause;
+	Var *left = info->can_join && IsA(clause, OpExpr)
+		? var_of(linitial(clause->args))
+		: NULL;
+	Var *right = left ? var_of(lsecond(clause->args)) : NULL;
+	Entry *left_entry = left ? entry_of(query, left->varno) : NULL;
+	Entry *right_entry = right ? entry_of(query, right->varno) : NULL;
 	EqualColumns *equal = palloc0(sizeof(EqualColumns));
 
-	if (left_entry == NULL || right_entry == NULL || left->varno == right->varno ||
-		!is_equality(left_entry->table->relation, left->varattno, clause->opno, clause->inputcollid) ||
-		!is_equality(right_entry->table->relation, right->varattno, clause->opno, clause->inputcollid))
+	if (left_entry == NULL || right_entry == NULL ||
+		left->varno == right->varno ||
+		!is_equality(left_entry->table->relation, left->varattno, clause->opno,
+					 clause->inputcollid) ||
+		!is_equality(right_entry->table->relation, right->varattno,
+					 clause->opno, clause->inputcollid))
 		return;
 	equal->required = info->required_relids;
 	equal->length = 2;
@@ -110,34 +138,43 @@ add_clause(BoundedQuery *query, RestrictInfo *info)
 		query->equalities = lappend(query->equalities, equal);
 }
 
-/* PostgreSQL lists a clause at both of its relations. It is added only at the relation with the lower number. */
+/* PostgreSQL lists a clause at both of its relations. It is added only at the
+ * relation with the lower number. */
 static void
 add_clauses(BoundedQuery *query, RelOptInfo *rel)
 {
-	ListCell   *cell;
+	ListCell *cell;
 
-	foreach(cell, rel->joininfo)
+	foreach (cell, rel->joininfo)
 	{
 		RestrictInfo *info = lfirst_node(RestrictInfo, cell);
 
-		if (bms_num_members(info->clause_relids) == 2 && bms_next_member(info->clause_relids, -1) == (int) rel->relid)
+		if (bms_num_members(info->clause_relids) == 2 &&
+			bms_next_member(info->clause_relids, -1) == (int) rel->relid)
 			add_clause(query, info);
 	}
 }
 
-/* Adds a reference of one relation to another along an equality, if the referred relation has conditions and lists are kept for the reference. */
+/* Adds a reference of one relation to another along an equality, if the
+ * referred relation has conditions and lists are kept for the reference. */
 static void
-add_carried(BoundedQuery *query, const EqualColumns *equal, const JoinedColumn *along, const JoinedColumn *key)
+add_carried(BoundedQuery *query, const EqualColumns *equal,
+			const JoinedColumn *along, const JoinedColumn *key)
 {
-	Entry	   *referring = &query->entries[along->relid];
-	Entry	   *referred = &query->entries[key->relid];
-	Reference	reference = {along->number, referred->table->relation, key->number};
+	Entry *referring = &query->entries[along->relid];
+	Entry *referred = &query->entries[key->relid];
+	Reference reference = {along->number, referred->table->relation,
+						   key->number};
 	CarrierReference *carried;
 
-	if (along->relid == key->relid || referred->rel->baserestrictinfo == NIL || !has_pairs_along(referring->table, &reference))
+	if (along->relid == key->relid || referred->rel->baserestrictinfo == NIL ||
+		!has_pairs_along(referring->table, &reference))
 		return;
 	carried = palloc0(sizeof(CarrierReference));
-	*carried = (CarrierReference) {.referring = along->relid,.referred = key->relid,.required = equal->required,.reference = reference};
+	*carried = (CarrierReference){.referring = along->relid,
+								  .referred = key->relid,
+								  .required = equal->required,
+								  .reference = reference};
 	query->carried = lappend(query->carried, carried);
 }
 
@@ -147,33 +184,40 @@ find_carried(BoundedQuery *query, const EqualColumns *equal)
 {
 	for (int i = 0; i < equal->length; i++)
 		for (int j = 0; j < equal->length; j++)
-			add_carried(query, equal, &query->columns[equal->columns[i]], &query->columns[equal->columns[j]]);
+			add_carried(query, equal, &query->columns[equal->columns[i]],
+						&query->columns[equal->columns[j]]);
 }
 
 static void
 make_room_for_carried(BoundedQuery *query)
 {
-	ListCell   *cell;
+	ListCell *cell;
 
-	foreach(cell, query->carried)
+	foreach (cell, query->carried)
 	{
 		CarrierReference *carried = lfirst(cell);
 
-		carried->looked_up = palloc0((query->columns_length + 1) * sizeof(bool));
-		carried->lists = palloc0((query->columns_length + 1) * sizeof(DegreeList *));
+		carried->looked_up =
+			palloc0((query->columns_length + 1) * sizeof(bool));
+		carried->lists =
+			palloc0((query->columns_length + 1) * sizeof(DegreeList *));
 	}
 }
 
-/* The list of a referring relation's column under the conditions of the referred relation, or NULL. `column` is a place in `columns`. The place
+/* The list of a referring relation's column under the conditions of the
+   referred relation, or NULL. `column` is a place in `columns`. The place
    after the last one stands for the number of rows. */
 const DegreeList *
 carried_list(BoundedQuery *query, CarrierReference *carried, int column)
 {
-	AttrNumber	joined = column < query->columns_length ? query->columns[column].number : 0;
-	DegreeList	list;
+	AttrNumber joined =
+		column < query->columns_length ? query->columns[column].number : 0;
+	DegreeList list;
 
 	if (!carried->looked_up[column] &&
-		list_along(query->entries[carried->referring].table, &carried->reference, query->entries[carried->referred].rel, joined, &list, &carried->used, &carried->may_overcount))
+		list_along(query->entries[carried->referring].table,
+				   &carried->reference, query->entries[carried->referred].rel,
+				   joined, &list, &carried->used, &carried->may_overcount))
 	{
 		carried->lists[column] = palloc(sizeof(DegreeList));
 		*carried->lists[column] = compressed_if_long(list);
@@ -182,35 +226,42 @@ carried_list(BoundedQuery *query, CarrierReference *carried, int column)
 	return carried->lists[column];
 }
 
-/* Whether a join of these relations joins along the reference. If so, the referred relation's conditions apply to the referring rows. */
+/* Whether a join of these relations joins along the reference. If so, the
+ * referred relation's conditions apply to the referring rows. */
 bool
 is_carried(const CarrierReference *carried, Relids relids)
 {
-	return bms_is_member(carried->referring, relids) && bms_is_member(carried->referred, relids) && bms_is_subset(carried->required, relids);
+	return bms_is_member(carried->referring, relids) &&
+		bms_is_member(carried->referred, relids) &&
+		bms_is_subset(carried->required, relids);
 }
 
-/* The relation's references that are also equalities within the set, as indexes into `carried`. */
+/* The relation's references that are also equalities within the set, as
+ * indexes into `carried`. */
 static Bitmapset *
 held_in_set(BoundedQuery *query, Relids relids, Index relid)
 {
-	Bitmapset  *held = NULL;
-	ListCell   *cell;
+	Bitmapset *held = NULL;
+	ListCell *cell;
 
-	foreach(cell, query->carried)
-		if (((CarrierReference *) lfirst(cell))->referring == relid && is_carried(lfirst(cell), relids))
+	foreach (cell, query->carried)
+		if (((CarrierReference *) lfirst(cell))->referring == relid &&
+			is_carried(lfirst(cell), relids))
 			held = bms_add_member(held, foreach_current_index(cell));
 	return held;
 }
 
 /* The lesser of a column's list and its lists along these references. */
 static DegreeList
-narrowed_list(BoundedQuery *query, const Bitmapset *held, int column, DegreeList list)
+narrowed_list(BoundedQuery *query, const Bitmapset *held, int column,
+			  DegreeList list)
 {
-	int			place = -1;
+	int place = -1;
 
 	while ((place = bms_next_member(held, place)) >= 0)
 	{
-		const DegreeList *other = carried_list(query, list_nth(query->carried, place), column);
+		const DegreeList *other =
+			carried_list(query, list_nth(query->carried, place), column);
 
 		if (other != NULL)
 			list = lesser(list, *other);
@@ -218,32 +269,37 @@ narrowed_list(BoundedQuery *query, const Bitmapset *held, int column, DegreeList
 	return list;
 }
 
-/* A column's list within a set, lowered by its relation's references to other relations of the set. Many sets give the same list, so it is
-   cached. */
+/* A column's list within a set, lowered by its relation's references to other
+   relations of the set. Many sets give the same list, so it is cached. */
 static DegreeList
 list_in_set(BoundedQuery *query, Relids relids, int column)
 {
 	JoinedColumn *joined = &query->columns[column];
-	Bitmapset  *held = held_in_set(query, relids, joined->relid);
-	NarrowedList   *made;
-	ListCell   *cell;
+	Bitmapset *held = held_in_set(query, relids, joined->relid);
+	NarrowedList *made;
+	ListCell *cell;
 
 	if (held == NULL)
 		return joined->list;
-	foreach(cell, joined->narrowed_lists)
+	foreach (cell, joined->narrowed_lists)
 		if (bms_equal(((NarrowedList *) lfirst(cell))->held, held))
 			return ((NarrowedList *) lfirst(cell))->list;
 	made = palloc(sizeof(NarrowedList));
-	*made = (NarrowedList) {held, narrowed_list(query, held, column, joined->list)};
+	*made =
+		(NarrowedList){held, narrowed_list(query, held, column, joined->list)};
 	joined->narrowed_lists = lappend(joined->narrowed_lists, made);
 	return made->list;
 }
 
-/* A relation's row bound within a set, lowered by its references to other relations of the set. */
+/* A relation's row bound within a set, lowered by its references to other
+ * relations of the set. */
 static uint64
 rows_in_set(BoundedQuery *query, Relids relids, Index relid)
 {
-	return narrowed_list(query, held_in_set(query, relids, relid), query->columns_length, (DegreeList) {query->entries[relid].rows, 0, NULL}).rows;
+	return narrowed_list(query, held_in_set(query, relids, relid),
+						 query->columns_length,
+						 (DegreeList){query->entries[relid].rows, 0, NULL})
+		.rows;
 }
 
 static bool
@@ -251,37 +307,45 @@ can_be_known(PlannerInfo *root, RelOptInfo *rel)
 {
 	RangeTblEntry *entry;
 
-	if (rel == NULL || rel->reloptkind != RELOPT_BASEREL || rel->rtekind != RTE_RELATION || IS_DUMMY_REL(rel))
+	if (rel == NULL || rel->reloptkind != RELOPT_BASEREL ||
+		rel->rtekind != RTE_RELATION || IS_DUMMY_REL(rel))
 		return false;
 	entry = root->simple_rte_array[rel->relid];
 	if (entry->tablesample != NULL)
 		return false;
-	/* A query also reads the rows of a table's children, which its statistics don't count. The statistics of a partitioned table count its parts.
+	/* A query also reads the rows of a table's children, which its statistics
+	 * don't count. The statistics of a partitioned table count its parts.
 	 */
-	return entry->inh ? entry->relkind == RELKIND_PARTITIONED_TABLE : entry->relkind == RELKIND_RELATION || entry->relkind == RELKIND_MATVIEW;
+	return entry->inh ? entry->relkind == RELKIND_PARTITIONED_TABLE
+					  : entry->relkind == RELKIND_RELATION ||
+			entry->relkind == RELKIND_MATVIEW;
 }
 
-/* The bound of a set of relations. Bit i of the set is the relation with number i. */
+/* The bound of a set of relations. Bit i of the set is the relation with
+ * number i. */
 typedef struct KnownBound
 {
-	uint64		set;
-	uint64		bound;
+	uint64 set;
+	uint64 bound;
 } KnownBound;
 
 static HTAB *
 known_bounds(void)
 {
-	HASHCTL		control = {.keysize = sizeof(uint64),.entrysize = sizeof(KnownBound),.hcxt = CurrentMemoryContext};
+	HASHCTL control = {.keysize = sizeof(uint64),
+					   .entrysize = sizeof(KnownBound),
+					   .hcxt = CurrentMemoryContext};
 
-	return hash_create("safebound bounds", 64, &control, HASH_ELEM | HASH_BLOBS | HASH_CONTEXT);
+	return hash_create("safebound bounds", 64, &control,
+					   HASH_ELEM | HASH_BLOBS | HASH_CONTEXT);
 }
 
 BoundedQuery *
 bounded_query(PlannerInfo *root)
 {
 	BoundedQuery *query = palloc0(sizeof(BoundedQuery));
-	int			number = 0;
-	ListCell   *cell;
+	int number = 0;
+	ListCell *cell;
 
 	query->root = root;
 	query->bounds = known_bounds();
@@ -291,15 +355,19 @@ bounded_query(PlannerInfo *root)
 	for (int i = 1; i < root->simple_rel_array_size; i++)
 	{
 		RelOptInfo *rel = root->simple_rel_array[i];
-		const KeptTable *table = can_be_known(root, rel) ? kept_table(root->simple_rte_array[i]->relid) : NULL;
+		const KeptTable *table = can_be_known(root, rel)
+			? kept_table(root->simple_rte_array[i]->relid)
+			: NULL;
 
 		if (table != NULL && number < MOST_KNOWN)
 		{
-			query->entries[i] = (Entry) {.table = table,.rel = rel,.number = number++};
-			query->entries[i].rows = list_under(table, rel, 0, &query->entries[i].used).rows;
+			query->entries[i] =
+				(Entry){.table = table, .rel = rel, .number = number++};
+			query->entries[i].rows =
+				list_under(table, rel, 0, &query->entries[i].used).rows;
 		}
 	}
-	foreach(cell, root->eq_classes)
+	foreach (cell, root->eq_classes)
 	{
 		EquivalenceClass *class = lfirst(cell);
 
@@ -309,7 +377,7 @@ bounded_query(PlannerInfo *root)
 	for (int i = 1; i < root->simple_rel_array_size; i++)
 		if (query->entries[i].table)
 			add_clauses(query, query->entries[i].rel);
-	foreach(cell, query->equalities)
+	foreach (cell, query->equalities)
 		find_carried(query, lfirst(cell));
 	make_room_for_carried(query);
 	return query;
@@ -318,15 +386,17 @@ bounded_query(PlannerInfo *root)
 /* The arguments of a call of the library for one set. */
 typedef struct SetCall
 {
-	uint64		rows[SAFEBOUND_MOST_ENTRIES];
-	int			entries;
-	int		   *number;			/* by relid: the entry's number in the call, -1 if the relation isn't in the set */
+	uint64 rows[SAFEBOUND_MOST_ENTRIES];
+	int entries;
+	int *number; /* by relid: the entry's number in the call, -1 if the
+					relation isn't in the set */
 	safebound_equality equalities[SAFEBOUND_MOST_EQUALITIES];
-	int			equalities_length;
-	bool	   *named;			/* by column: whether an equality names it */
+	int equalities_length;
+	bool *named; /* by column: whether an equality names it */
 } SetCall;
 
-/* Adds an equality if there is room. Without it the bound may be higher, but is still valid. */
+/* Adds an equality if there is room. Without it the bound may be higher, but
+ * is still valid. */
 static bool
 add_equality(SetCall *call, BoundedQuery *query, int left, int right)
 {
@@ -335,26 +405,30 @@ add_equality(SetCall *call, BoundedQuery *query, int left, int right)
 
 	if (call->equalities_length == SAFEBOUND_MOST_EQUALITIES)
 		return false;
-	call->equalities[call->equalities_length++] = (safebound_equality) {
-		.left_entry = call->number[one->relid],.left_column = left,
-		.right_entry = call->number[other->relid],.right_column = right
-	};
+	call->equalities[call->equalities_length++] =
+		(safebound_equality){.left_entry = call->number[one->relid],
+							 .left_column = left,
+							 .right_entry = call->number[other->relid],
+							 .right_column = right};
 	call->named[left] = call->named[right] = true;
 	return true;
 }
 
-/* Adds the equalities of columns within the set, as a chain. A column is skipped if the column before it in the chain belongs to the same entry. */
+/* Adds the equalities of columns within the set, as a chain. A column is
+ * skipped if the column before it in the chain belongs to the same entry. */
 static void
-add_equal_columns(SetCall *call, BoundedQuery *query, const EqualColumns *equal)
+add_equal_columns(SetCall *call, BoundedQuery *query,
+				  const EqualColumns *equal)
 {
-	int			last = -1;
+	int last = -1;
 
 	for (int i = 0; i < equal->length; i++)
 	{
-		int			column = equal->columns[i];
-		Index		relid = query->columns[column].relid;
+		int column = equal->columns[i];
+		Index relid = query->columns[column].relid;
 
-		if (call->number[relid] < 0 || (last >= 0 && query->columns[last].relid == relid))
+		if (call->number[relid] < 0 ||
+			(last >= 0 && query->columns[last].relid == relid))
 			continue;
 		if (last >= 0)
 			add_equality(call, query, last, column);
@@ -362,16 +436,19 @@ add_equal_columns(SetCall *call, BoundedQuery *query, const EqualColumns *equal)
 	}
 }
 
-/* Calls the library, with the lists of the columns that the equalities name. */
+/* Calls the library, with the lists of the columns that the equalities name.
+ */
 static uint64
 call_library(SetCall *call, BoundedQuery *query, Relids relids)
 {
-	safebound_list *lists = palloc((query->columns_length + 1) * sizeof(safebound_list));
-	DegreeList *taken = palloc((query->columns_length + 1) * sizeof(DegreeList));
+	safebound_list *lists =
+		palloc((query->columns_length + 1) * sizeof(safebound_list));
+	DegreeList *taken =
+		palloc((query->columns_length + 1) * sizeof(DegreeList));
 	safebound_run *runs;
-	size_t		lists_length = 0;
-	size_t		runs_length = 0;
-	uint64		bound = 0;
+	size_t lists_length = 0;
+	size_t runs_length = 0;
+	uint64 bound = 0;
 
 	for (int i = 0; i < query->columns_length; i++)
 	{
@@ -388,27 +465,33 @@ call_library(SetCall *call, BoundedQuery *query, Relids relids)
 
 		if (!call->named[i])
 			continue;
-		lists[lists_length++] = (safebound_list) {
-			.entry = call->number[query->columns[i].relid],.column = i,
-			.first = list->length ? runs_length : SAFEBOUND_NO_VALUES,.length = list->length
-		};
-		memcpy(runs + runs_length, list->runs, list->length * sizeof(safebound_run));
+		lists[lists_length++] = (safebound_list){
+			.entry = call->number[query->columns[i].relid],
+			.column = i,
+			.first = list->length ? runs_length : SAFEBOUND_NO_VALUES,
+			.length = list->length};
+		memcpy(runs + runs_length, list->runs,
+			   list->length * sizeof(safebound_run));
 		runs_length += list->length;
 	}
-	library_check(safebound_set_bound(call->rows, call->entries, call->equalities, call->equalities_length, lists, lists_length,
-									  runs, runs_length, (UINT64_C(1) << call->entries) - 1, &bound), bound, "safebound_set_bound");
+	library_check(safebound_set_bound(
+					  call->rows, call->entries, call->equalities,
+					  call->equalities_length, lists, lists_length, runs,
+					  runs_length, (UINT64_C(1) << call->entries) - 1, &bound),
+				  bound, "safebound_set_bound");
 	pfree(lists);
 	pfree(runs);
 	return bound;
 }
 
-/* Asks the library for the bound of a set of relations. UNKNOWN if the set has more relations than the library accepts. */
+/* Asks the library for the bound of a set of relations. UNKNOWN if the set has
+ * more relations than the library accepts. */
 static uint64
 new_bound(BoundedQuery *query, Relids relids, int entries)
 {
-	SetCall		call = {0};
-	int			relid = -1;
-	ListCell   *cell;
+	SetCall call = {0};
+	int relid = -1;
+	ListCell *cell;
 
 	if (entries > SAFEBOUND_MOST_ENTRIES)
 		return UNKNOWN;
@@ -423,7 +506,7 @@ new_bound(BoundedQuery *query, Relids relids, int entries)
 	if (call.entries <= 1)
 		return call.entries ? call.rows[0] : 1;
 	call.named = palloc0((query->columns_length + 1) * sizeof(bool));
-	foreach(cell, query->equalities)
+	foreach (cell, query->equalities)
 	{
 		EqualColumns *equal = lfirst(cell);
 
@@ -433,18 +516,19 @@ new_bound(BoundedQuery *query, Relids relids, int entries)
 	return call_library(&call, query, relids);
 }
 
-/* The bound of the inner join of a set of relations. UNKNOWN if one of them has no statistics. The library is called once for each set. */
+/* The bound of the inner join of a set of relations. UNKNOWN if one of them
+ * has no statistics. The library is called once for each set. */
 uint64
 bound_of_set(BoundedQuery *query, Relids relids)
 {
-	uint64		set = 0;
-	int			relid = -1;
+	uint64 set = 0;
+	int relid = -1;
 	KnownBound *known;
-	bool		found;
+	bool found;
 
 	while ((relid = bms_next_member(relids, relid)) >= 0)
 	{
-		Entry	   *entry = entry_of(query, relid);
+		Entry *entry = entry_of(query, relid);
 
 		if (entry == NULL)
 			return UNKNOWN;
@@ -456,34 +540,41 @@ bound_of_set(BoundedQuery *query, Relids relids)
 	return known->bound;
 }
 
-/* The bound of an outer, semi- or anti-join, from the bounds of its inner join and of its sides. */
+/* The bound of an outer, semi- or anti-join, from the bounds of its inner join
+ * and of its sides. */
 static uint64
 joined_rows(uint64 kind, uint64 inner, uint64 left, uint64 right)
 {
-	uint64		rows = kind;
+	uint64 rows = kind;
 
-	library_check(safebound_joined_rows(kind, inner, left, right, &rows), rows, "safebound_joined_rows");
+	library_check(safebound_joined_rows(kind, inner, left, right, &rows), rows,
+				  "safebound_joined_rows");
 	return rows;
 }
 
-/* Whether an outer, semi- or anti-join belongs to the join of these relations. */
+/* Whether an outer, semi- or anti-join belongs to the join of these relations.
+ */
 static bool
 is_within(SpecialJoinInfo *join, Relids relids)
 {
-	return bms_is_subset(join->min_lefthand, relids) && bms_is_subset(join->min_righthand, relids);
+	return bms_is_subset(join->min_lefthand, relids) &&
+		bms_is_subset(join->min_righthand, relids);
 }
 
-/* The bound of a join with outer, semi- and anti-joins. A row of it has one row of each relation, but a side of an outer join may be missing. For
-   each way in which sides may be missing, the rows are at most those of the inner join of the other relations. The bound is the sum over all these
-   ways. `joins` has the joins that aren't handled yet; the last one is the outermost, and is handled next. `present` has the relations that aren't
+/* The bound of a join with outer, semi- and anti-joins. A row of it has one
+   row of each relation, but a side of an outer join may be missing. For each
+   way in which sides may be missing, the rows are at most those of the inner
+   join of the other relations. The bound is the sum over all these ways.
+   `joins` has the joins that aren't handled yet; the last one is the
+   outermost, and is handled next. `present` has the relations that aren't
    missing so far. */
 static uint64
 bound_of_ways(BoundedQuery *query, Relids present, List *joins)
 {
 	SpecialJoinInfo *join;
-	List	   *rest;
-	Relids		without_right;
-	uint64		less;
+	List *rest;
+	Relids without_right;
+	uint64 less;
 
 	if (joins == NIL)
 		return bound_of_set(query, present);
@@ -498,38 +589,49 @@ bound_of_ways(BoundedQuery *query, Relids present, List *joins)
 		case JOIN_ANTI:
 			return joined_rows(SAFEBOUND_ANTI_JOIN, UNKNOWN, less, UNKNOWN);
 		case JOIN_SEMI:
-			return joined_rows(SAFEBOUND_SEMI_JOIN, bound_of_ways(query, present, rest), less, UNKNOWN);
+			return joined_rows(SAFEBOUND_SEMI_JOIN,
+							   bound_of_ways(query, present, rest), less,
+							   UNKNOWN);
 		case JOIN_LEFT:
-			/* If the left side is missing, a strict condition on it isn't true. So no right side is joined. */
+			/* If the left side is missing, a strict condition on it isn't
+			 * true. So no right side is joined. */
 			if (join->lhs_strict && !bms_overlap(join->min_lefthand, present))
 				return less;
-			return joined_rows(SAFEBOUND_LEFT_JOIN, bound_of_ways(query, present, rest), less, UNKNOWN);
+			return joined_rows(SAFEBOUND_LEFT_JOIN,
+							   bound_of_ways(query, present, rest), less,
+							   UNKNOWN);
 		case JOIN_FULL:
-			return joined_rows(SAFEBOUND_FULL_JOIN, bound_of_ways(query, present, rest), less,
-							   bound_of_ways(query, bms_difference(present, join->syn_lefthand), rest));
+			return joined_rows(
+				SAFEBOUND_FULL_JOIN, bound_of_ways(query, present, rest), less,
+				bound_of_ways(
+					query, bms_difference(present, join->syn_lefthand), rest));
 		default:
 			return UNKNOWN;
 	}
 }
 
-/* The outer, semi- and anti-joins that belong to the join of these relations, the outermost last. */
+/* The outer, semi- and anti-joins that belong to the join of these relations,
+ * the outermost last. */
 List *
 special_joins_within(BoundedQuery *query, Relids relids)
 {
-	List	   *joins = NIL;
-	ListCell   *cell;
+	List *joins = NIL;
+	ListCell *cell;
 
-	foreach(cell, query->root->join_info_list)
+	foreach (cell, query->root->join_info_list)
 		if (is_within(lfirst(cell), relids))
 			joins = lappend(joins, lfirst(cell));
 	return joins;
 }
 
-/* The bound of the join of these relations. UNKNOWN if it has more outer, semi- and anti-joins than MOST_SPECIAL_JOINS. */
+/* The bound of the join of these relations. UNKNOWN if it has more outer,
+ * semi- and anti-joins than MOST_SPECIAL_JOINS. */
 uint64
 bound_of_join(BoundedQuery *query, Relids relids)
 {
-	List	   *joins = special_joins_within(query, relids);
+	List *joins = special_joins_within(query, relids);
 
-	return list_length(joins) > MOST_SPECIAL_JOINS ? UNKNOWN : bound_of_ways(query, relids, joins);
+	return list_length(joins) > MOST_SPECIAL_JOINS
+		? UNKNOWN
+		: bound_of_ways(query, relids, joins);
 }

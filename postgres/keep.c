@@ -1,4 +1,5 @@
-/* safebound.keep and safebound.forget: which columns of a table are counted, and where the lists are written. */
+/* safebound.keep and safebound.forget: which columns of a table are counted,
+ * and where the lists are written. */
 #include "counting.h"
 #include "watch.h"
 
@@ -35,76 +36,102 @@ PG_FUNCTION_INFO_V1(safebound_forget);
 static Oid
 owner_of(Oid relation)
 {
-	Relation	opened = relation_open(relation, AccessShareLock);
-	Oid			owner = opened->rd_rel->relowner;
+	Relation opened = relation_open(relation, AccessShareLock);
+	Oid owner = opened->rd_rel->relowner;
 
 	relation_close(opened, AccessShareLock);
 	return owner;
 }
 
-/* Changes the extension's own tables as their owner, since a user who keeps a table has no rights on them. */
+/* Changes the extension's own tables as their owner, since a user who keeps a
+ * table has no rights on them. */
 uint64
 write_own(const char *statement, int length, Oid *types, Datum *values)
 {
-	Oid			user;
-	int			context;
+	Oid user;
+	int context;
 
 	GetUserIdAndSecContext(&user, &context);
-	SetUserIdAndSecContext(owner_of(extension_table("kept_lists")), context | SECURITY_LOCAL_USERID_CHANGE);
-	if (SPI_execute_with_args(statement, length, types, values, NULL, false, 0) < 0)
+	SetUserIdAndSecContext(owner_of(extension_table("kept_lists")),
+						   context | SECURITY_LOCAL_USERID_CHANGE);
+	if (SPI_execute_with_args(statement, length, types, values, NULL, false,
+							  0) < 0)
 		elog(ERROR, "can't be executed: %s", statement);
 	SetUserIdAndSecContext(user, context);
 	return SPI_processed;
 }
 
 void
-save_pair(const TableCounting *table_count, const Column *joined, const Column *filter, StringInfo bytes)
+save_pair(const TableCounting *table_count, const Column *joined,
+		  const Column *filter, StringInfo bytes)
 {
-	Oid			types[] = {REGCLASSOID, INT2OID, INT2OID, INT2OID, OIDOID, INT2OID, REGTYPEOID, REGTYPEOID, OIDOID, OIDOID, BYTEAOID};
-	bytea	   *lists = palloc(VARHDRSZ + bytes->len);
-	Datum		values[] = {
+	Oid types[] = {REGCLASSOID, INT2OID,    INT2OID, INT2OID, OIDOID,  INT2OID,
+				   REGTYPEOID,  REGTYPEOID, OIDOID,  OIDOID,  BYTEAOID};
+	bytea *lists = palloc(VARHDRSZ + bytes->len);
+	Datum values[] = {
 		ObjectIdGetDatum(RelationGetRelid(table_count->relation)),
-		Int16GetDatum(joined ? joined->number : 0), Int16GetDatum(filter ? filter->number : 0),
-		Int16GetDatum(filter && filter->along ? filter->along->number : 0), ObjectIdGetDatum(filter ? filter->referred : InvalidOid),
+		Int16GetDatum(joined ? joined->number : 0),
+		Int16GetDatum(filter ? filter->number : 0),
+		Int16GetDatum(filter && filter->along ? filter->along->number : 0),
+		ObjectIdGetDatum(filter ? filter->referred : InvalidOid),
 		Int16GetDatum(filter ? filter->key : 0),
 		ObjectIdGetDatum(joined ? joined->attribute->atttypid : InvalidOid),
 		ObjectIdGetDatum(filter ? filter->attribute->atttypid : InvalidOid),
-		ObjectIdGetDatum(joined ? joined->attribute->attcollation : InvalidOid),
-		ObjectIdGetDatum(filter ? filter->attribute->attcollation : InvalidOid),
+		ObjectIdGetDatum(joined ? joined->attribute->attcollation
+								: InvalidOid),
+		ObjectIdGetDatum(filter ? filter->attribute->attcollation
+								: InvalidOid),
 		PointerGetDatum(lists)};
 
 	SET_VARSIZE(lists, VARHDRSZ + bytes->len);
 	memcpy(VARDATA(lists), bytes->data, bytes->len);
-	write_own("INSERT INTO safebound.kept_lists VALUES ($1, $2, $3, $4, $5, $6, $7, $8, $9, $10, $11)", 11, types, values);
+	write_own("INSERT INTO safebound.kept_lists VALUES ($1, $2, $3, $4, $5, "
+			  "$6, $7, $8, $9, $10, $11)",
+			  11, types, values);
 }
 
 /* Whether a column's type has an order, so that equal values can be found. */
 bool
 has_order(Form_pg_attribute attribute)
 {
-	TypeCacheEntry *type = lookup_type_cache(attribute->atttypid, TYPECACHE_LT_OPR | TYPECACHE_EQ_OPR);
+	TypeCacheEntry *type = lookup_type_cache(
+		attribute->atttypid, TYPECACHE_LT_OPR | TYPECACHE_EQ_OPR);
 
 	return OidIsValid(type->lt_opr) && OidIsValid(type->eq_opr);
 }
 
-/* The numbers of the named columns. Each column has to exist and to have an order. */
+/* The numbers of the named columns. Each column has to exist and to have an
+ * order. */
 static Bitmapset *
 named_columns(Relation relation, ArrayType *names)
 {
-	Bitmapset  *numbers = bms_make_singleton(0);	/* with 0, which is no column: an empty set would be NULL, which means all columns */
-	Datum	   *values;
-	bool	   *nulls;
-	int			length;
+	Bitmapset *numbers =
+		bms_make_singleton(0); /* with 0, which is no column: an empty set
+								  would be NULL, which means all columns */
+	Datum *values;
+	bool *nulls;
+	int length;
 
-	deconstruct_array(names, NAMEOID, NAMEDATALEN, false, TYPALIGN_CHAR, &values, &nulls, &length);
+	deconstruct_array(names, NAMEOID, NAMEDATALEN, false, TYPALIGN_CHAR,
+					  &values, &nulls, &length);
 	for (int i = 0; i < length; i++)
 	{
-		AttrNumber	number = nulls[i] ? InvalidAttrNumber : get_attnum(RelationGetRelid(relation), NameStr(*DatumGetName(values[i])));
+		AttrNumber number = nulls[i]
+			? InvalidAttrNumber
+			: get_attnum(RelationGetRelid(relation),
+						 NameStr(*DatumGetName(values[i])));
 
 		if (number <= 0)
-			ereport(ERROR, (errcode(ERRCODE_UNDEFINED_COLUMN), errmsg("column \"%s\" of relation \"%s\" does not exist", nulls[i] ? "" : NameStr(*DatumGetName(values[i])), RelationGetRelationName(relation))));
+			ereport(ERROR,
+					(errcode(ERRCODE_UNDEFINED_COLUMN),
+					 errmsg("column \"%s\" of relation \"%s\" does not exist",
+							nulls[i] ? "" : NameStr(*DatumGetName(values[i])),
+							RelationGetRelationName(relation))));
 		if (!has_order(TupleDescAttr(RelationGetDescr(relation), number - 1)))
-			ereport(ERROR, (errcode(ERRCODE_FEATURE_NOT_SUPPORTED), errmsg("column \"%s\" has a type without an order", NameStr(*DatumGetName(values[i])))));
+			ereport(ERROR,
+					(errcode(ERRCODE_FEATURE_NOT_SUPPORTED),
+					 errmsg("column \"%s\" has a type without an order",
+							NameStr(*DatumGetName(values[i])))));
 		numbers = bms_add_member(numbers, number);
 	}
 	return numbers;
@@ -114,60 +141,81 @@ named_columns(Relation relation, ArrayType *names)
 static Bitmapset *
 all_columns(Relation relation)
 {
-	TupleDesc	desc = RelationGetDescr(relation);
-	Bitmapset  *numbers = NULL;
+	TupleDesc desc = RelationGetDescr(relation);
+	Bitmapset *numbers = NULL;
 
 	for (int i = 0; i < desc->natts; i++)
-		if (!TupleDescAttr(desc, i)->attisdropped && has_order(TupleDescAttr(desc, i)))
+		if (!TupleDescAttr(desc, i)->attisdropped &&
+			has_order(TupleDescAttr(desc, i)))
 			numbers = bms_add_member(numbers, i + 1);
 	return numbers;
 }
 
 static void
-choose_columns(TableCounting *table_count, Bitmapset *joined, Bitmapset *filters)
+choose_columns(TableCounting *table_count, Bitmapset *joined,
+			   Bitmapset *filters)
 {
-	Bitmapset  *all = all_columns(table_count->relation);
-	Bitmapset  *joins = joined ? joined : all;
-	Bitmapset  *conditions = filters ? filters : all;
-	int			number = -1;
+	Bitmapset *all = all_columns(table_count->relation);
+	Bitmapset *joins = joined ? joined : all;
+	Bitmapset *conditions = filters ? filters : all;
+	int number = -1;
 
-	table_count->columns = palloc0(sizeof(Column) * (bms_num_members(all) + 1));
+	table_count->columns =
+		palloc0(sizeof(Column) * (bms_num_members(all) + 1));
 	while ((number = bms_next_member(all, number)) >= 0)
 	{
-		Column		column = {.number = number, .is_joined = bms_is_member(number, joins), .is_filter = bms_is_member(number, conditions)};
+		Column column = {.number = number,
+						 .is_joined = bms_is_member(number, joins),
+						 .is_filter = bms_is_member(number, conditions)};
 
-		column.attribute = TupleDescAttr(RelationGetDescr(table_count->relation), number - 1);
+		column.attribute =
+			TupleDescAttr(RelationGetDescr(table_count->relation), number - 1);
 		if (column.is_joined || column.is_filter)
 			table_count->columns[table_count->length++] = column;
 	}
 }
 
-/* Whether there can be lists along a reference. The user must be allowed to read the whole referred table, and numbers for the columns' values must
-   fit in memory. Both columns must have the same =, which is also the = of the reference. */
+/* Whether there can be lists along a reference. The user must be allowed to
+   read the whole referred table, and numbers for the columns' values must fit
+   in memory. Both columns must have the same =, which is also the = of the
+   reference. */
 static bool
-may_follow(const TableCounting *table_count, const Column *along, const ForeignKeyCacheInfo *reference)
+may_follow(const TableCounting *table_count, const Column *along,
+		   const ForeignKeyCacheInfo *reference)
 {
-	Relation	referred = table_open(reference->confrelid, AccessShareLock);
-	Form_pg_attribute key = TupleDescAttr(RelationGetDescr(referred), reference->confkey[0] - 1);
-	bool		may = referred->rd_rel->relkind == RELKIND_RELATION && !referred->rd_rel->relrowsecurity &&
-		!table_count->relation->rd_rel->relrowsecurity && reference->nkeys == 1 &&
-		pg_class_aclcheck(reference->confrelid, GetUserId(), ACL_SELECT) == ACLCHECK_OK &&
-		key->atttypid == along->attribute->atttypid && key->attcollation == along->attribute->attcollation &&
-		get_op_opfamily_strategy(reference->conpfeqop[0], lookup_type_cache(key->atttypid, TYPECACHE_BTREE_OPFAMILY)->btree_opf) == BTEqualStrategyNumber &&
-		((Size) along->highest + 1) * 2 * sizeof(uint32) <= (Size) maintenance_work_mem * 1024;
+	Relation referred = table_open(reference->confrelid, AccessShareLock);
+	Form_pg_attribute key =
+		TupleDescAttr(RelationGetDescr(referred), reference->confkey[0] - 1);
+	bool may = referred->rd_rel->relkind == RELKIND_RELATION &&
+		!referred->rd_rel->relrowsecurity &&
+		!table_count->relation->rd_rel->relrowsecurity &&
+		reference->nkeys == 1 &&
+		pg_class_aclcheck(reference->confrelid, GetUserId(), ACL_SELECT) ==
+			ACLCHECK_OK &&
+		key->atttypid == along->attribute->atttypid &&
+		key->attcollation == along->attribute->attcollation &&
+		get_op_opfamily_strategy(
+			reference->conpfeqop[0],
+			lookup_type_cache(key->atttypid, TYPECACHE_BTREE_OPFAMILY)
+				->btree_opf) == BTEqualStrategyNumber &&
+		((Size) along->highest + 1) * 2 * sizeof(uint32) <=
+			(Size) maintenance_work_mem * 1024;
 
 	table_close(referred, NoLock);
 	return may;
 }
 
-/* Makes lists of this table's rows under conditions on a table to which they refer. */
+/* Makes lists of this table's rows under conditions on a table to which they
+ * refer. */
 static void
-keep_along(TableCounting *table_count, const Column *along, ForeignKeyCacheInfo *reference)
+keep_along(TableCounting *table_count, const Column *along,
+		   ForeignKeyCacheInfo *reference)
 {
-	MemoryContext own = AllocSetContextCreate(CurrentMemoryContext, "safebound reference", ALLOCSET_DEFAULT_SIZES);
+	MemoryContext own = AllocSetContextCreate(
+		CurrentMemoryContext, "safebound reference", ALLOCSET_DEFAULT_SIZES);
 	MemoryContext before = MemoryContextSwitchTo(own);
-	int			length;
-	Column	   *columns = referred_columns(table_count, along, reference, &length);
+	int length;
+	Column *columns = referred_columns(table_count, along, reference, &length);
 
 	keep_filters(table_count, columns, length);
 	end_columns(columns, length);
@@ -178,67 +226,91 @@ keep_along(TableCounting *table_count, const Column *along, ForeignKeyCacheInfo 
 static void
 keep_references(TableCounting *table_count)
 {
-	List	   *references = copyObject(RelationGetFKeyList(table_count->relation));
-	ListCell   *cell;
+	List *references = copyObject(RelationGetFKeyList(table_count->relation));
+	ListCell *cell;
 
-	foreach(cell, references)
+	foreach (cell, references)
 	{
 		ForeignKeyCacheInfo *reference = lfirst(cell);
 
 		for (int i = 0; i < table_count->length; i++)
-			if (table_count->columns[i].is_joined && table_count->columns[i].number == reference->conkey[0] && may_follow(table_count, &table_count->columns[i], reference))
+			if (table_count->columns[i].is_joined &&
+				table_count->columns[i].number == reference->conkey[0] &&
+				may_follow(table_count, &table_count->columns[i], reference))
 				keep_along(table_count, &table_count->columns[i], reference);
 	}
 }
 
-/* Opens a table for its owner. Other users may not keep its statistics, and get an error. */
+/* Opens a table for its owner. Other users may not keep its statistics, and
+ * get an error. */
 Relation
 open_owned(Oid relation)
 {
-	Relation	opened = relation_open(relation, AccessShareLock);
+	Relation opened = relation_open(relation, AccessShareLock);
 
 	if (!pg_class_ownercheck(relation, GetUserId()))
-		aclcheck_error(ACLCHECK_NOT_OWNER, OBJECT_TABLE, RelationGetRelationName(opened));
-	if (opened->rd_rel->relkind != RELKIND_RELATION && opened->rd_rel->relkind != RELKIND_PARTITIONED_TABLE && opened->rd_rel->relkind != RELKIND_MATVIEW)
-		ereport(ERROR, (errcode(ERRCODE_WRONG_OBJECT_TYPE), errmsg("\"%s\" is not a table or materialized view", RelationGetRelationName(opened))));
+		aclcheck_error(ACLCHECK_NOT_OWNER, OBJECT_TABLE,
+					   RelationGetRelationName(opened));
+	if (opened->rd_rel->relkind != RELKIND_RELATION &&
+		opened->rd_rel->relkind != RELKIND_PARTITIONED_TABLE &&
+		opened->rd_rel->relkind != RELKIND_MATVIEW)
+		ereport(ERROR,
+				(errcode(ERRCODE_WRONG_OBJECT_TYPE),
+				 errmsg("\"%s\" is not a table or materialized view",
+						RelationGetRelationName(opened))));
 	return opened;
 }
 
 static bool
 forget_table(Oid relation)
 {
-	Oid			types[] = {REGCLASSOID};
-	Datum		values[] = {ObjectIdGetDatum(relation)};
+	Oid types[] = {REGCLASSOID};
+	Datum values[] = {ObjectIdGetDatum(relation)};
 
-	write_own("DELETE FROM safebound.kept_lists WHERE relation = $1", 1, types, values);
+	write_own("DELETE FROM safebound.kept_lists WHERE relation = $1", 1, types,
+			  values);
 	CacheInvalidateRelcacheByRelid(relation);
-	return write_own("DELETE FROM safebound.kept_table WHERE relation = $1", 1, types, values) > 0;
+	return write_own("DELETE FROM safebound.kept_table WHERE relation = $1", 1,
+					 types, values) > 0;
 }
 
 static void
 save_table(const TableCounting *table_count)
 {
-	Oid			types[] = {REGCLASSOID, INT8OID, INT2OID, INT2OID, INT2OID};
-	Datum		values[] = {ObjectIdGetDatum(RelationGetRelid(table_count->relation)), Int64GetDatum(table_count->rows), Int16GetDatum(table_count->accuracy), Int16GetDatum(table_count->most_common), Int16GetDatum(table_count->most_leaves)};
+	Oid types[] = {REGCLASSOID, INT8OID, INT2OID, INT2OID, INT2OID};
+	Datum values[] = {
+		ObjectIdGetDatum(RelationGetRelid(table_count->relation)),
+		Int64GetDatum(table_count->rows), Int16GetDatum(table_count->accuracy),
+		Int16GetDatum(table_count->most_common),
+		Int16GetDatum(table_count->most_leaves)};
 
-	write_own("INSERT INTO safebound.kept_table VALUES ($1, $2, $3, $4, $5, now())", 5, types, values);
+	write_own(
+		"INSERT INTO safebound.kept_table VALUES ($1, $2, $3, $4, $5, now())",
+		5, types, values);
 }
 
 static int
 within(int value, int least, int most, const char *name)
 {
 	if (value < least || value > most)
-		ereport(ERROR, (errcode(ERRCODE_INVALID_PARAMETER_VALUE), errmsg("%s has to be from %d to %d", name, least, most)));
+		ereport(ERROR,
+				(errcode(ERRCODE_INVALID_PARAMETER_VALUE),
+				 errmsg("%s has to be from %d to %d", name, least, most)));
 	return value;
 }
 
-/* Counts a table in a new snapshot. If `joined` or `filters` is NULL, it means all columns that have an order. */
+/* Counts a table in a new snapshot. If `joined` or `filters` is NULL, it means
+ * all columns that have an order. */
 int64
-keep_table(Oid relation, Bitmapset *joined, Bitmapset *filters, int most_common, int most_leaves, int accuracy, bool folding)
+keep_table(Oid relation, Bitmapset *joined, Bitmapset *filters,
+		   int most_common, int most_leaves, int accuracy, bool folding)
 {
-	TableCounting	table_count = {.most_common = most_common,.most_leaves = most_leaves,.accuracy = accuracy,.relation = open_owned(relation)};
-	bool		followed;
-	KeptRow		before;
+	TableCounting table_count = {.most_common = most_common,
+								 .most_leaves = most_leaves,
+								 .accuracy = accuracy,
+								 .relation = open_owned(relation)};
+	bool followed;
+	KeptRow before;
 
 	SPI_connect();
 	choose_columns(&table_count, joined, filters);
@@ -259,8 +331,8 @@ keep_table(Oid relation, Bitmapset *joined, Bitmapset *filters, int most_common,
 static Bitmapset *
 named_or_all(Oid relation, FunctionCallInfo fcinfo, int argument)
 {
-	Relation	opened;
-	Bitmapset  *numbers;
+	Relation opened;
+	Bitmapset *numbers;
 
 	if (PG_ARGISNULL(argument))
 		return NULL;
@@ -273,21 +345,25 @@ named_or_all(Oid relation, FunctionCallInfo fcinfo, int argument)
 Datum
 safebound_keep(PG_FUNCTION_ARGS)
 {
-	Oid			relation = PG_GETARG_OID(0);
+	Oid relation = PG_GETARG_OID(0);
 
-	if (PG_ARGISNULL(0) || PG_ARGISNULL(3) || PG_ARGISNULL(4) || PG_ARGISNULL(5))
+	if (PG_ARGISNULL(0) || PG_ARGISNULL(3) || PG_ARGISNULL(4) ||
+		PG_ARGISNULL(5))
 		PG_RETURN_NULL();
-	PG_RETURN_INT64(keep_table(relation, named_or_all(relation, fcinfo, 1), named_or_all(relation, fcinfo, 2),
-							   within(PG_GETARG_INT32(3), 0, 1000, "common"),
-							   within(PG_GETARG_INT32(4), 0, 1000, "ranges"),
-							   within(PG_GETARG_INT32(5), 1, SAFEBOUND_MOST_ACCURACY, "accuracy"), false));
+	PG_RETURN_INT64(keep_table(
+		relation, named_or_all(relation, fcinfo, 1),
+		named_or_all(relation, fcinfo, 2),
+		within(PG_GETARG_INT32(3), 0, 1000, "common"),
+		within(PG_GETARG_INT32(4), 0, 1000, "ranges"),
+		within(PG_GETARG_INT32(5), 1, SAFEBOUND_MOST_ACCURACY, "accuracy"),
+		false));
 }
 
 Datum
 safebound_forget(PG_FUNCTION_ARGS)
 {
-	Relation	opened = open_owned(PG_GETARG_OID(0));
-	bool		were;
+	Relation opened = open_owned(PG_GETARG_OID(0));
+	bool were;
 
 	LockRelationOid(PG_GETARG_OID(0), ShareUpdateExclusiveLock);
 	SPI_connect();

@@ -1,5 +1,6 @@
-/* The backend's cache of statistics. They are read when a table is first used in a plan. They are dropped when the table's definition changes, or
-   when it is counted again. */
+/* The backend's cache of statistics. They are read when a table is first used
+   in a plan. They are dropped when the table's definition changes, or when it
+   is counted again. */
 #include "watch.h"
 
 #include "access/genam.h"
@@ -38,32 +39,37 @@ enum
 
 static HTAB *tables;
 
-/* Statistics that are out of date, but that a plan being made may still point to. */
+/* Statistics that are out of date, but that a plan being made may still point
+ * to. */
 static KeptTable *dropped;
 static List *dropped_deltas;
 
-/* A table of the extension, or InvalidOid if this database doesn't have the extension. */
+/* A table of the extension, or InvalidOid if this database doesn't have the
+ * extension. */
 Oid
 extension_table(const char *name)
 {
-	Oid			schema = get_namespace_oid("safebound", true);
+	Oid schema = get_namespace_oid("safebound", true);
 
 	return OidIsValid(schema) ? get_relname_relid(name, schema) : InvalidOid;
 }
 
-/* Whether a column still has the type and the collation with which it was counted. If not, its values may have changed. */
+/* Whether a column still has the type and the collation with which it was
+ * counted. If not, its values may have changed. */
 static bool
 same_column(Oid relation, AttrNumber number, Oid type, Oid collation)
 {
-	HeapTuple	tuple;
-	bool		same;
+	HeapTuple tuple;
+	bool same;
 
 	if (number == 0)
 		return true;
-	tuple = SearchSysCache2(ATTNUM, ObjectIdGetDatum(relation), Int16GetDatum(number));
+	tuple = SearchSysCache2(ATTNUM, ObjectIdGetDatum(relation),
+							Int16GetDatum(number));
 	if (!HeapTupleIsValid(tuple))
 		return false;
-	same = ((Form_pg_attribute) GETSTRUCT(tuple))->atttypid == type && ((Form_pg_attribute) GETSTRUCT(tuple))->attcollation == collation;
+	same = ((Form_pg_attribute) GETSTRUCT(tuple))->atttypid == type &&
+		((Form_pg_attribute) GETSTRUCT(tuple))->attcollation == collation;
 	ReleaseSysCache(tuple);
 	return same;
 }
@@ -71,16 +77,18 @@ same_column(Oid relation, AttrNumber number, Oid type, Oid collation)
 static Datum
 get_value(const char **at, const char *end, Oid type)
 {
-	uint64		size = get_number(at, end);
-	int16		length;
-	bool		by_value;
-	Datum		value;
+	uint64 size = get_number(at, end);
+	int16 length;
+	bool by_value;
+	Datum value;
 
 	get_typlenbyval(type, &length, &by_value);
 	if (by_value)
 		size = sizeof(Datum);
 	if (size > (uint64) (end - *at))
-		ereport(ERROR, (errcode(ERRCODE_DATA_CORRUPTED), errmsg("a kept list ends too early")));
+		ereport(ERROR,
+				(errcode(ERRCODE_DATA_CORRUPTED),
+				 errmsg("a kept list ends too early")));
 	if (by_value)
 		memcpy(&value, *at, sizeof(Datum));
 	else
@@ -92,26 +100,28 @@ get_value(const char **at, const char *end, Oid type)
 static KeptPair
 read_pair(Datum *row)
 {
-	KeptPair	pair = {
-		.joined = DatumGetInt16(row[LISTS_JOINED - 1]),.filter = DatumGetInt16(row[LISTS_FILTER - 1]),
-		.along = DatumGetInt16(row[LISTS_ALONG - 1]),.referred = DatumGetObjectId(row[LISTS_REFERRED - 1]),
-		.key = DatumGetInt16(row[LISTS_KEY - 1])
-	};
-	bytea	   *bytes = DatumGetByteaP(row[LISTS_BYTES - 1]);
+	KeptPair pair = {.joined = DatumGetInt16(row[LISTS_JOINED - 1]),
+					 .filter = DatumGetInt16(row[LISTS_FILTER - 1]),
+					 .along = DatumGetInt16(row[LISTS_ALONG - 1]),
+					 .referred = DatumGetObjectId(row[LISTS_REFERRED - 1]),
+					 .key = DatumGetInt16(row[LISTS_KEY - 1])};
+	bytea *bytes = DatumGetByteaP(row[LISTS_BYTES - 1]);
 	const char *at = VARDATA_ANY(bytes);
 	const char *end = at + VARSIZE_ANY_EXHDR(bytes);
-	int			capacity = 4;
+	int capacity = 4;
 
 	pair.lists = palloc(capacity * sizeof(KeptList));
 	while (at < end)
 	{
-		KeptList	list = {.kind = (ListKind) *at++};
+		KeptList list = {.kind = (ListKind) *at++};
 
 		if (list.kind == LIST_VALUE || list.kind == LIST_LEAF)
-			list.value = get_value(&at, end, DatumGetObjectId(row[LISTS_FILTER_TYPE - 1]));
+			list.value = get_value(
+				&at, end, DatumGetObjectId(row[LISTS_FILTER_TYPE - 1]));
 		list.list = get_list(&at, end);
 		if (pair.length == capacity)
-			pair.lists = repalloc(pair.lists, (capacity *= 2) * sizeof(KeptList));
+			pair.lists =
+				repalloc(pair.lists, (capacity *= 2) * sizeof(KeptList));
 		if (list.kind == LIST_LEAF && pair.leaves++ == 0)
 			pair.first_leaf = pair.length;
 		pair.lists[pair.length++] = list;
@@ -130,11 +140,17 @@ by_columns(const void *left, const void *right)
 {
 	const KeptPair *one = left;
 	const KeptPair *other = right;
-	int			order = compare(one->referred, other->referred);
+	int order = compare(one->referred, other->referred);
 
 	if (order == 0)
-		order = compare(((uint64) (uint16) one->along << 48) | ((uint64) (uint16) one->key << 32) | ((uint64) (uint16) one->joined << 16) | (uint16) one->filter,
-						 ((uint64) (uint16) other->along << 48) | ((uint64) (uint16) other->key << 32) | ((uint64) (uint16) other->joined << 16) | (uint16) other->filter);
+		order = compare(((uint64) (uint16) one->along << 48) |
+							((uint64) (uint16) one->key << 32) |
+							((uint64) (uint16) one->joined << 16) |
+							(uint16) one->filter,
+						((uint64) (uint16) other->along << 48) |
+							((uint64) (uint16) other->key << 32) |
+							((uint64) (uint16) other->joined << 16) |
+							(uint16) other->filter);
 	return order;
 }
 
@@ -143,23 +159,33 @@ read_table(KeptTable *table, Relation lists, Snapshot snapshot)
 {
 	ScanKeyData key;
 	SysScanDesc scan;
-	HeapTuple	tuple;
-	int			capacity = 16;
+	HeapTuple tuple;
+	int capacity = 16;
 
 	table->pairs = palloc(capacity * sizeof(KeptPair));
-	ScanKeyInit(&key, LISTS_RELATION, BTEqualStrategyNumber, F_OIDEQ, ObjectIdGetDatum(table->relation));
-	scan = systable_beginscan(lists, extension_table("kept_lists_pkey"), true, snapshot, 1, &key);
+	ScanKeyInit(&key, LISTS_RELATION, BTEqualStrategyNumber, F_OIDEQ,
+				ObjectIdGetDatum(table->relation));
+	scan = systable_beginscan(lists, extension_table("kept_lists_pkey"), true,
+							  snapshot, 1, &key);
 	while (HeapTupleIsValid(tuple = systable_getnext(scan)))
 	{
-		Datum		row[LISTS_COLUMNS];
-		bool		nulls[LISTS_COLUMNS];
+		Datum row[LISTS_COLUMNS];
+		bool nulls[LISTS_COLUMNS];
 
 		heap_deform_tuple(tuple, RelationGetDescr(lists), row, nulls);
-		if (!same_column(table->relation, DatumGetInt16(row[LISTS_JOINED - 1]), DatumGetObjectId(row[LISTS_JOINED_TYPE - 1]), DatumGetObjectId(row[LISTS_JOINED_COLLATION - 1])) ||
-			!same_column(OidIsValid(DatumGetObjectId(row[LISTS_REFERRED - 1])) ? DatumGetObjectId(row[LISTS_REFERRED - 1]) : table->relation, DatumGetInt16(row[LISTS_FILTER - 1]), DatumGetObjectId(row[LISTS_FILTER_TYPE - 1]), DatumGetObjectId(row[LISTS_FILTER_COLLATION - 1])))
+		if (!same_column(table->relation, DatumGetInt16(row[LISTS_JOINED - 1]),
+						 DatumGetObjectId(row[LISTS_JOINED_TYPE - 1]),
+						 DatumGetObjectId(row[LISTS_JOINED_COLLATION - 1])) ||
+			!same_column(OidIsValid(DatumGetObjectId(row[LISTS_REFERRED - 1]))
+							 ? DatumGetObjectId(row[LISTS_REFERRED - 1])
+							 : table->relation,
+						 DatumGetInt16(row[LISTS_FILTER - 1]),
+						 DatumGetObjectId(row[LISTS_FILTER_TYPE - 1]),
+						 DatumGetObjectId(row[LISTS_FILTER_COLLATION - 1])))
 			continue;
 		if (table->length == capacity)
-			table->pairs = repalloc(table->pairs, (capacity *= 2) * sizeof(KeptPair));
+			table->pairs =
+				repalloc(table->pairs, (capacity *= 2) * sizeof(KeptPair));
 		table->pairs[table->length++] = read_pair(row);
 	}
 	systable_endscan(scan);
@@ -167,21 +193,23 @@ read_table(KeptTable *table, Relation lists, Snapshot snapshot)
 	table->valid = kept_pair(table, 0, 0) != NULL;
 }
 
-/* Reads the statistics into a memory context below the current one, so that an error leaves nothing of them in memory. */
+/* Reads the statistics into a memory context below the current one, so that an
+ * error leaves nothing of them in memory. */
 static KeptTable *
 load_table(const KeptRow *kept_row, Snapshot snapshot)
 {
-	Oid			lists_oid = extension_table("kept_lists");
-	MemoryContext context = AllocSetContextCreate(CurrentMemoryContext, "safebound statistics", ALLOCSET_SMALL_SIZES);
+	Oid lists_oid = extension_table("kept_lists");
+	MemoryContext context = AllocSetContextCreate(
+		CurrentMemoryContext, "safebound statistics", ALLOCSET_SMALL_SIZES);
 	MemoryContext before = MemoryContextSwitchTo(context);
-	KeptTable  *table = palloc0(sizeof(KeptTable));
+	KeptTable *table = palloc0(sizeof(KeptTable));
 
 	table->relation = kept_row->relation;
 	table->version = kept_row->version;
 	table->context = context;
 	if (OidIsValid(lists_oid))
 	{
-		Relation	lists = table_open(lists_oid, AccessShareLock);
+		Relation lists = table_open(lists_oid, AccessShareLock);
 
 		read_table(table, lists, snapshot);
 		table_close(lists, AccessShareLock);
@@ -192,8 +220,8 @@ load_table(const KeptRow *kept_row, Snapshot snapshot)
 
 typedef struct TableEntry
 {
-	Oid			relation;
-	KeptTable  *table;
+	Oid relation;
+	KeptTable *table;
 } TableEntry;
 
 static void
@@ -211,7 +239,7 @@ drop_table(KeptTable *table)
 }
 
 /* How many plans are being made or admitted. */
-static int	holders;
+static int holders;
 
 void
 kept_hold(void)
@@ -231,7 +259,7 @@ kept_free_dropped(void)
 {
 	while (dropped != NULL && holders == 0)
 	{
-		KeptTable  *next = dropped->next;
+		KeptTable *next = dropped->next;
 
 		if (dropped->deltas)
 			MemoryContextDelete(dropped->deltas->context);
@@ -248,9 +276,10 @@ kept_free_dropped(void)
 static KeptTable *
 table_of_version(const KeptRow *kept_row, Snapshot snapshot)
 {
-	bool		found;
-	TableEntry *entry = hash_search(tables, &kept_row->relation, HASH_FIND, &found);
-	KeptTable  *table;
+	bool found;
+	TableEntry *entry =
+		hash_search(tables, &kept_row->relation, HASH_FIND, &found);
+	KeptTable *table;
 
 	if (found && entry->table->version == kept_row->version)
 		return entry->table;
@@ -266,7 +295,7 @@ table_of_version(const KeptRow *kept_row, Snapshot snapshot)
 static void
 take_deltas(KeptTable *table, const KeptRow *kept_row, Snapshot snapshot)
 {
-	Deltas	   *deltas = find_deltas(kept_row, snapshot, table->deltas);
+	Deltas *deltas = find_deltas(kept_row, snapshot, table->deltas);
 	MemoryContext before = MemoryContextSwitchTo(CacheMemoryContext);
 
 	if (deltas != table->deltas)
@@ -276,27 +305,34 @@ take_deltas(KeptTable *table, const KeptRow *kept_row, Snapshot snapshot)
 	MemoryContextSwitchTo(before);
 }
 
-bool		kept_fresh_only = false;
+bool kept_fresh_only = false;
 
-/* Whether a partitioned table still has the parts with which it was counted. A part is attached without waiting for readers. So an older snapshot
-   sees the part's rows, but not the mark that a part was attached. */
+/* Whether a partitioned table still has the parts with which it was counted. A
+   part is attached without waiting for readers. So an older snapshot sees the
+   part's rows, but not the mark that a part was attached. */
 static bool
 same_parts(const KeptRow *kept_row)
 {
-	return kept_row->sources == NIL || get_rel_relkind(kept_row->relation) != RELKIND_PARTITIONED_TABLE || equal(tables_writing_to(kept_row->relation), kept_row->sources);
+	return kept_row->sources == NIL ||
+		get_rel_relkind(kept_row->relation) != RELKIND_PARTITIONED_TABLE ||
+		equal(tables_writing_to(kept_row->relation), kept_row->sources);
 }
 
-/* The statistics of a table as the active snapshot sees them, or NULL. Statistics dropped meanwhile stay in memory until no plan is being made.
-   This backend caches one version of them, but a snapshot may see another version. */
+/* The statistics of a table as the active snapshot sees them, or NULL.
+   Statistics dropped meanwhile stay in memory until no plan is being made.
+   This backend caches one version of them, but a snapshot may see another
+   version. */
 const KeptTable *
 kept_table(Oid relation)
 {
-	Snapshot	snapshot = ActiveSnapshotSet() ? GetActiveSnapshot() : GetTransactionSnapshot();
-	KeptTable  *table,
-			   *view;
-	KeptRow		kept_row;
+	Snapshot snapshot =
+		ActiveSnapshotSet() ? GetActiveSnapshot() : GetTransactionSnapshot();
+	KeptTable *table, *view;
+	KeptRow kept_row;
 
-	if (!find_kept_row(relation, snapshot, &kept_row) || (kept_fresh_only && kept_row.sources == NIL) || is_being_written(&kept_row) || !same_parts(&kept_row))
+	if (!find_kept_row(relation, snapshot, &kept_row) ||
+		(kept_fresh_only && kept_row.sources == NIL) ||
+		is_being_written(&kept_row) || !same_parts(&kept_row))
 		return NULL;
 	table = table_of_version(&kept_row, snapshot);
 	if (!table->valid)
@@ -311,18 +347,27 @@ kept_table(Oid relation)
 	return view;
 }
 
-/* Why a table counts as unknown when only watched tables are known, and what to do about it. */
+/* Why a table counts as unknown when only watched tables are known, and what
+ * to do about it. */
 char *
 why_not_known(Oid relation)
 {
-	char	   *name = DatumGetCString(DirectFunctionCall1(regclassout, ObjectIdGetDatum(relation)));
-	KeptRow		kept_row;
+	char *name = DatumGetCString(
+		DirectFunctionCall1(regclassout, ObjectIdGetDatum(relation)));
+	KeptRow kept_row;
 
-	if (!find_kept_row(relation, GetActiveSnapshot(), &kept_row) || kept_row.sources == NIL)
-		return psprintf("%s isn't watched: SELECT safebound.watch(%s) counts and follows it.", name, quote_literal_cstr(name));
+	if (!find_kept_row(relation, GetActiveSnapshot(), &kept_row) ||
+		kept_row.sources == NIL)
+		return psprintf("%s isn't watched: SELECT safebound.watch(%s) counts "
+						"and follows it.",
+						name, quote_literal_cstr(name));
 	if (is_being_written(&kept_row))
-		return psprintf("%s is being written to: its rows are counted once that statement ends.", name);
-	return psprintf("%s is unknown, since something changed it that isn't followed: SELECT safebound.watch(%s) counts it anew.", name, quote_literal_cstr(name));
+		return psprintf("%s is being written to: its rows are counted once "
+						"that statement ends.",
+						name);
+	return psprintf("%s is unknown, since something changed it that isn't "
+					"followed: SELECT safebound.watch(%s) counts it anew.",
+					name, quote_literal_cstr(name));
 }
 
 const KeptPair *
@@ -331,11 +376,13 @@ kept_pair(const KeptTable *table, AttrNumber joined, AttrNumber filter)
 	return kept_pair_along(table, joined, filter, NULL);
 }
 
-/* The pair of a joined column and a filter column along a reference. Without a reference (NULL), the filter column belongs to the table itself. */
+/* The pair of a joined column and a filter column along a reference. Without a
+ * reference (NULL), the filter column belongs to the table itself. */
 const KeptPair *
-kept_pair_along(const KeptTable *table, AttrNumber joined, AttrNumber filter, const Reference *reference)
+kept_pair_along(const KeptTable *table, AttrNumber joined, AttrNumber filter,
+				const Reference *reference)
 {
-	KeptPair	wanted = {.joined = joined,.filter = filter};
+	KeptPair wanted = {.joined = joined, .filter = filter};
 
 	if (reference)
 	{
@@ -343,14 +390,17 @@ kept_pair_along(const KeptTable *table, AttrNumber joined, AttrNumber filter, co
 		wanted.referred = reference->referred;
 		wanted.key = reference->key;
 	}
-	return bsearch(&wanted, table->pairs, table->length, sizeof(KeptPair), by_columns);
+	return bsearch(&wanted, table->pairs, table->length, sizeof(KeptPair),
+				   by_columns);
 }
 
 bool
 has_pairs_along(const KeptTable *table, const Reference *reference)
 {
 	for (int i = 0; i < table->length; i++)
-		if (table->pairs[i].along == reference->along && table->pairs[i].referred == reference->referred && table->pairs[i].key == reference->key)
+		if (table->pairs[i].along == reference->along &&
+			table->pairs[i].referred == reference->referred &&
+			table->pairs[i].key == reference->key)
 			return true;
 	return false;
 }
@@ -378,8 +428,10 @@ on_invalidation(Datum argument, Oid relation)
 void
 kept_init(void)
 {
-	HASHCTL		control = {.keysize = sizeof(Oid), .entrysize = sizeof(TableEntry)};
+	HASHCTL control = {.keysize = sizeof(Oid),
+					   .entrysize = sizeof(TableEntry)};
 
-	tables = hash_create("safebound tables", 64, &control, HASH_ELEM | HASH_BLOBS);
+	tables =
+		hash_create("safebound tables", 64, &control, HASH_ELEM | HASH_BLOBS);
 	CacheRegisterRelcacheCallback(on_invalidation, (Datum) 0);
 }

@@ -1,8 +1,11 @@
-/* The joins of a finished plan, each with the relations of the planner that it joins.
+/* The joins of a finished plan, each with the relations of the planner that it
+   joins.
 
-   A plan's scans name entries of the plan's own range table, which has the entries of all subqueries one behind the other. The planner
-   copies an entry into it together with the pointer to its names, so the entry can be found again by that pointer. A scan below a join may
-   belong to a subquery whose own scan node the planner removed. It is then taken for that subquery. */
+   A plan's scans name entries of the plan's own range table, which has the
+   entries of all subqueries one behind the other. The planner copies an entry
+   into it together with the pointer to its names, so the entry can be found
+   again by that pointer. A scan below a join may belong to a subquery whose
+   own scan node the planner removed. It is then taken for that subquery. */
 #include "admit.h"
 
 #include "miscadmin.h"
@@ -12,32 +15,36 @@
 /* The scans below a node, as numbers in the plan's range table. */
 typedef struct Scans
 {
-	Bitmapset  *numbers;
-	bool		complete;			/* false: some rows may come from no scan */
+	Bitmapset *numbers;
+	bool complete; /* false: some rows may come from no scan */
 } Scans;
 
 /* The origin of an entry of the range table. */
 typedef struct Origin
 {
-	Alias	   *names;
+	Alias *names;
 	PlannerInfo *root;
-	Index		relid;
+	Index relid;
 } Origin;
 
 typedef struct JoinSearch
 {
 	PlannedStmt *plan;
-	HTAB	   *origins;
-	List	   *joins;			/* of PlanJoin */
+	HTAB *origins;
+	List *joins; /* of PlanJoin */
 } JoinSearch;
 
 static Scans scans_below(JoinSearch *search, Plan *plan);
 
-/* The entries that a single scan joins, for example on a foreign server or by another extension. */
+/* The entries that a single scan joins, for example on a foreign server or by
+ * another extension. */
 static Bitmapset *
 joined_elsewhere(Plan *plan)
 {
-	Bitmapset  *numbers = IsA(plan, ForeignScan) ? ((ForeignScan *) plan)->fs_relids : IsA(plan, CustomScan) ? ((CustomScan *) plan)->custom_relids : NULL;
+	Bitmapset *numbers = IsA(plan, ForeignScan)
+		? ((ForeignScan *) plan)->fs_relids
+		: IsA(plan, CustomScan) ? ((CustomScan *) plan)->custom_relids
+								: NULL;
 
 	return bms_membership(numbers) == BMS_MULTIPLE ? numbers : NULL;
 }
@@ -52,7 +59,7 @@ is_join(Plan *plan)
 static List *
 children_of(Plan *plan)
 {
-	List	   *children = NIL;
+	List *children = NIL;
 
 	if (outerPlan(plan))
 		children = lappend(children, outerPlan(plan));
@@ -76,14 +83,14 @@ children_of(Plan *plan)
 static bool
 any_join(Plan *plan)
 {
-	ListCell   *cell;
+	ListCell *cell;
 
 	check_stack_depth();
 	if (plan == NULL)
 		return false;
 	if (is_join(plan) || joined_elsewhere(plan))
 		return true;
-	foreach(cell, children_of(plan))
+	foreach (cell, children_of(plan))
 		if (any_join(lfirst(cell)))
 			return true;
 	return false;
@@ -92,9 +99,9 @@ any_join(Plan *plan)
 bool
 has_joins(PlannedStmt *plan)
 {
-	ListCell   *cell;
+	ListCell *cell;
 
-	foreach(cell, plan->subplans)
+	foreach (cell, plan->subplans)
 		if (any_join(lfirst(cell)))
 			return true;
 	return any_join(plan->planTree);
@@ -104,14 +111,19 @@ has_joins(PlannedStmt *plan)
 static bool
 is_empty(Plan *plan)
 {
-	Node	   *condition = IsA(plan, Result) ? ((Result *) plan)->resconstantqual : NULL;
+	Node *condition =
+		IsA(plan, Result) ? ((Result *) plan)->resconstantqual : NULL;
 
-	if (condition && IsA(condition, List) && list_length((List *) condition) == 1)
+	if (condition && IsA(condition, List) &&
+		list_length((List *) condition) == 1)
 		condition = linitial((List *) condition);
-	return condition && IsA(condition, Const) && (((Const *) condition)->constisnull || !DatumGetBool(((Const *) condition)->constvalue));
+	return condition && IsA(condition, Const) &&
+		(((Const *) condition)->constisnull ||
+		 !DatumGetBool(((Const *) condition)->constvalue));
 }
 
-/* The entry that a scan reads; 0 if the node isn't a scan of a single entry. */
+/* The entry that a scan reads; 0 if the node isn't a scan of a single entry.
+ */
 static Index
 scanned_entry(Plan *plan)
 {
@@ -143,38 +155,43 @@ static Scans
 leaf_scans(Plan *plan)
 {
 	if (scanned_entry(plan))
-		return (Scans) {bms_make_singleton(scanned_entry(plan)), true};
+		return (Scans){bms_make_singleton(scanned_entry(plan)), true};
 	if (IsA(plan, ForeignScan))
-		return (Scans) {((ForeignScan *) plan)->fs_relids, true};
+		return (Scans){((ForeignScan *) plan)->fs_relids, true};
 	if (IsA(plan, CustomScan))
-		return (Scans) {((CustomScan *) plan)->custom_relids, !bms_is_empty(((CustomScan *) plan)->custom_relids)};
-	return (Scans) {NULL, is_empty(plan)};
+		return (Scans){((CustomScan *) plan)->custom_relids,
+					   !bms_is_empty(((CustomScan *) plan)->custom_relids)};
+	return (Scans){NULL, is_empty(plan)};
 }
 
-/* The parent of a child in its own PlannerInfo, or 0 if it isn't a child. In a finished plan both numbers are shifted by one amount; the array is
-   still indexed by the child's old number. */
+/* The parent of a child in its own PlannerInfo, or 0 if it isn't a child. In a
+   finished plan both numbers are shifted by one amount; the array is still
+   indexed by the child's old number. */
 static Index
 parent_of(PlannerInfo *root, Index child)
 {
-	AppendRelInfo *info = root->append_rel_array ? root->append_rel_array[child] : NULL;
+	AppendRelInfo *info =
+		root->append_rel_array ? root->append_rel_array[child] : NULL;
 
 	return info ? info->parent_relid - (info->child_relid - child) : 0;
 }
 
-/* The number in `root` of an entry, or of the subquery that has the entry. 0 if the entry isn't below `root`. */
+/* The number in `root` of an entry, or of the subquery that has the entry. 0
+ * if the entry isn't below `root`. */
 static Index
 relid_in(PlannerInfo *root, const Origin *origin)
 {
 	PlannerInfo *at = origin->root;
-	Index		relid = origin->relid;
+	Index relid = origin->relid;
 
 	while (at != root)
 	{
 		PlannerInfo *parent = at->parent_root;
-		Index		below = 0;
+		Index below = 0;
 
 		for (int i = 1; parent && i < parent->simple_rel_array_size; i++)
-			if (parent->simple_rel_array[i] && parent->simple_rel_array[i]->subroot == at)
+			if (parent->simple_rel_array[i] &&
+				parent->simple_rel_array[i]->subroot == at)
 				below = i;
 		if (below == 0)
 			return 0;
@@ -189,22 +206,24 @@ relid_in(PlannerInfo *root, const Origin *origin)
 static const Origin *
 origin_of(JoinSearch *search, int number)
 {
-	Alias	   *names = list_nth_node(RangeTblEntry, search->plan->rtable, number - 1)->eref;
+	Alias *names =
+		list_nth_node(RangeTblEntry, search->plan->rtable, number - 1)->eref;
 
 	return hash_search(search->origins, &names, HASH_FIND, NULL);
 }
 
-/* The numbers in `root` of all these scans; NULL if one of them isn't below `root`. */
+/* The numbers in `root` of all these scans; NULL if one of them isn't below
+ * `root`. */
 static Relids
 relids_in(JoinSearch *search, PlannerInfo *root, Bitmapset *numbers)
 {
-	Relids		relids = NULL;
-	int			number = -1;
+	Relids relids = NULL;
+	int number = -1;
 
 	while ((number = bms_next_member(numbers, number)) >= 0)
 	{
 		const Origin *origin = origin_of(search, number);
-		Index		relid = origin ? relid_in(root, origin) : 0;
+		Index relid = origin ? relid_in(root, origin) : 0;
 
 		if (relid == 0)
 			return NULL;
@@ -213,19 +232,22 @@ relids_in(JoinSearch *search, PlannerInfo *root, Bitmapset *numbers)
 	return relids;
 }
 
-/* Finds the PlannerInfo that made a join: the innermost one in which all scans of both sides have numbers. */
+/* Finds the PlannerInfo that made a join: the innermost one in which all scans
+ * of both sides have numbers. */
 static void
-note_join(JoinSearch *search, Bitmapset *outer, Bitmapset *inner, bool complete)
+note_join(JoinSearch *search, Bitmapset *outer, Bitmapset *inner,
+		  bool complete)
 {
-	PlanJoin   *join = palloc0(sizeof(PlanJoin));
-	int			first = bms_next_member(outer ? outer : inner, -1);
+	PlanJoin *join = palloc0(sizeof(PlanJoin));
+	int first = bms_next_member(outer ? outer : inner, -1);
 	const Origin *origin = first > 0 ? origin_of(search, first) : NULL;
 
 	search->joins = lappend(search->joins, join);
-	for (PlannerInfo *root = complete && origin ? origin->root : NULL; root != NULL; root = root->parent_root)
+	for (PlannerInfo *root = complete && origin ? origin->root : NULL;
+		 root != NULL; root = root->parent_root)
 	{
-		Relids		left = relids_in(search, root, outer);
-		Relids		right = relids_in(search, root, inner);
+		Relids left = relids_in(search, root, outer);
+		Relids right = relids_in(search, root, inner);
 
 		if ((outer && !left) || (inner && !right))
 			continue;
@@ -240,19 +262,21 @@ note_join(JoinSearch *search, Bitmapset *outer, Bitmapset *inner, bool complete)
 static Scans
 scans_of_join(JoinSearch *search, Plan *plan)
 {
-	Scans		outer = scans_below(search, outerPlan(plan));
-	Scans		inner = scans_below(search, innerPlan(plan));
+	Scans outer = scans_below(search, outerPlan(plan));
+	Scans inner = scans_below(search, innerPlan(plan));
 
-	note_join(search, outer.numbers, inner.numbers, outer.complete && inner.complete);
-	return (Scans) {bms_union(outer.numbers, inner.numbers), outer.complete && inner.complete};
+	note_join(search, outer.numbers, inner.numbers,
+			  outer.complete && inner.complete);
+	return (Scans){bms_union(outer.numbers, inner.numbers),
+				   outer.complete && inner.complete};
 }
 
 static Scans
 scans_below(JoinSearch *search, Plan *plan)
 {
-	Scans		all = {NULL, true};
-	List	   *children;
-	ListCell   *cell;
+	Scans all = {NULL, true};
+	List *children;
+	ListCell *cell;
 
 	check_stack_depth();
 	if (is_join(plan))
@@ -260,30 +284,35 @@ scans_below(JoinSearch *search, Plan *plan)
 	if (joined_elsewhere(plan))
 		note_join(search, joined_elsewhere(plan), NULL, true);
 	children = children_of(plan);
-	foreach(cell, children)
+	foreach (cell, children)
 	{
-		Scans		some = scans_below(search, lfirst(cell));
+		Scans some = scans_below(search, lfirst(cell));
 
 		all.numbers = bms_union(all.numbers, some.numbers);
 		all.complete = all.complete && some.complete;
 	}
 	/* A scan stands for all nodes below it. */
-	return children == NIL || scanned_entry(plan) || IsA(plan, CustomScan) ? leaf_scans(plan) : all;
+	return children == NIL || scanned_entry(plan) || IsA(plan, CustomScan)
+		? leaf_scans(plan)
+		: all;
 }
 
 static void
 note_origins(JoinSearch *search, PlannerInfo *root)
 {
-	for (int i = 1; root->simple_rte_array && i < root->simple_rel_array_size; i++)
+	for (int i = 1; root->simple_rte_array && i < root->simple_rel_array_size;
+		 i++)
 	{
-		Origin	   *origin;
-		bool		found;
+		Origin *origin;
+		bool found;
 
-		if (root->simple_rte_array[i] == NULL || root->simple_rte_array[i]->eref == NULL)
+		if (root->simple_rte_array[i] == NULL ||
+			root->simple_rte_array[i]->eref == NULL)
 			continue;
-		origin = hash_search(search->origins, &root->simple_rte_array[i]->eref, HASH_ENTER, &found);
+		origin = hash_search(search->origins, &root->simple_rte_array[i]->eref,
+							 HASH_ENTER, &found);
 		if (!found)
-			*origin = (Origin) {root->simple_rte_array[i]->eref, root, i};
+			*origin = (Origin){root->simple_rte_array[i]->eref, root, i};
 	}
 }
 
@@ -291,14 +320,20 @@ note_origins(JoinSearch *search, PlannerInfo *root)
 List *
 joins_of_plan(PlannedStmt *plan, List *roots)
 {
-	HASHCTL		control = {.keysize = sizeof(Alias *),.entrysize = sizeof(Origin),.hcxt = CurrentMemoryContext};
-	JoinSearch		search = {plan, hash_create("safebound origins", 64, &control, HASH_ELEM | HASH_BLOBS | HASH_CONTEXT), NIL};
-	ListCell   *cell;
+	HASHCTL control = {.keysize = sizeof(Alias *),
+					   .entrysize = sizeof(Origin),
+					   .hcxt = CurrentMemoryContext};
+	JoinSearch search = {plan,
+						 hash_create("safebound origins", 64, &control,
+									 HASH_ELEM | HASH_BLOBS | HASH_CONTEXT),
+						 NIL};
+	ListCell *cell;
 
-	foreach(cell, roots)
-		for (PlannerInfo *root = lfirst(cell); root != NULL; root = root->parent_root)
+	foreach (cell, roots)
+		for (PlannerInfo *root = lfirst(cell); root != NULL;
+			 root = root->parent_root)
 			note_origins(&search, root);
-	foreach(cell, plan->subplans)
+	foreach (cell, plan->subplans)
 		if (lfirst(cell) != NULL)
 			scans_below(&search, lfirst(cell));
 	if (plan->planTree != NULL)

@@ -1,4 +1,5 @@
-/* safebound.watch, unwatch and fold; and changes of a table that its triggers don't see. */
+/* safebound.watch, unwatch and fold; and changes of a table that its triggers
+ * don't see. */
 #include "watch.h"
 
 #include "access/genam.h"
@@ -42,24 +43,30 @@ PG_FUNCTION_INFO_V1(safebound_on_change);
 
 static ProcessUtility_hook_type utility_before;
 
-/* A table, all tables from which it inherits, and the parts of a partitioned table. A statement on any of these may write to the table. */
+/* A table, all tables from which it inherits, and the parts of a partitioned
+ * table. A statement on any of these may write to the table. */
 List *
 tables_writing_to(Oid relation)
 {
-	Relation	inherits = table_open(InheritsRelationId, AccessShareLock);
-	List	   *sources = list_make1_oid(relation);
-	List	   *parts = get_rel_relkind(relation) == RELKIND_PARTITIONED_TABLE ? find_all_inheritors(relation, NoLock, NULL) : NIL;
+	Relation inherits = table_open(InheritsRelationId, AccessShareLock);
+	List *sources = list_make1_oid(relation);
+	List *parts = get_rel_relkind(relation) == RELKIND_PARTITIONED_TABLE
+		? find_all_inheritors(relation, NoLock, NULL)
+		: NIL;
 
 	for (int i = 0; i < list_length(sources); i++)
 	{
 		ScanKeyData key;
 		SysScanDesc scan;
-		HeapTuple	tuple;
+		HeapTuple tuple;
 
-		ScanKeyInit(&key, Anum_pg_inherits_inhrelid, BTEqualStrategyNumber, F_OIDEQ, ObjectIdGetDatum(list_nth_oid(sources, i)));
-		scan = systable_beginscan(inherits, InheritsRelidSeqnoIndexId, true, NULL, 1, &key);
+		ScanKeyInit(&key, Anum_pg_inherits_inhrelid, BTEqualStrategyNumber,
+					F_OIDEQ, ObjectIdGetDatum(list_nth_oid(sources, i)));
+		scan = systable_beginscan(inherits, InheritsRelidSeqnoIndexId, true,
+								  NULL, 1, &key);
 		while (HeapTupleIsValid(tuple = systable_getnext(scan)))
-			sources = list_append_unique_oid(sources, ((Form_pg_inherits) GETSTRUCT(tuple))->inhparent);
+			sources = list_append_unique_oid(
+				sources, ((Form_pg_inherits) GETSTRUCT(tuple))->inhparent);
 		systable_endscan(scan);
 	}
 	table_close(inherits, AccessShareLock);
@@ -68,25 +75,30 @@ tables_writing_to(Oid relation)
 	return sources;
 }
 
-/* Whether a replica that applies rows may write rows of `relation` directly to `source`. */
+/* Whether a replica that applies rows may write rows of `relation` directly to
+ * `source`. */
 static bool
 applies_rows(Oid source, Oid relation)
 {
-	return get_rel_relkind(source) == RELKIND_RELATION && (source == relation || is_part_of(source, relation));
+	return get_rel_relkind(source) == RELKIND_RELATION &&
+		(source == relation || is_part_of(source, relation));
 }
 
-/* Counts our triggers on a source: statement triggers that always fire, and row triggers that fire on replicas. */
+/* Counts our triggers on a source: statement triggers that always fire, and
+ * row triggers that fire on replicas. */
 static void
 count_triggers(Oid source, int *statements, int *rows)
 {
-	Relation	opened = try_relation_open(source, AccessShareLock);
+	Relation opened = try_relation_open(source, AccessShareLock);
 	TriggerDesc *triggers = opened ? opened->trigdesc : NULL;
-	Oid			follow = LookupFuncName(list_make2(makeString("safebound"), makeString("follow")), 0, NULL, true);
+	Oid follow = LookupFuncName(
+		list_make2(makeString("safebound"), makeString("follow")), 0, NULL,
+		true);
 
 	*statements = *rows = 0;
 	for (int i = 0; triggers && i < triggers->numtriggers; i++)
 	{
-		Trigger    *trigger = &triggers->triggers[i];
+		Trigger *trigger = &triggers->triggers[i];
 
 		if (trigger->tgfoid != follow)
 			continue;
@@ -99,30 +111,32 @@ count_triggers(Oid source, int *statements, int *rows)
 		relation_close(opened, AccessShareLock);
 }
 
-/* Whether a source has all its triggers: three for statements, and one for rows if a replica may apply them. */
+/* Whether a source has all its triggers: three for statements, and one for
+ * rows if a replica may apply them. */
 static bool
 has_triggers(Oid source, bool applies)
 {
-	int			statements,
-				rows;
+	int statements, rows;
 
 	count_triggers(source, &statements, &rows);
 	return statements == 3 && (rows == 1 || !applies);
 }
 
-/* Whether `followed` has all tables on which a statement may write rows of this one, and each of them has its triggers. */
+/* Whether `followed` has all tables on which a statement may write rows of
+ * this one, and each of them has its triggers. */
 static bool
 is_intact(Oid relation, List *followed)
 {
-	List	   *sources = tables_writing_to(relation);
-	ListCell   *cell;
+	List *sources = tables_writing_to(relation);
+	ListCell *cell;
 
 	if (!equal(sources, followed))
 		return false;
 	if (get_rel_relkind(relation) == RELKIND_MATVIEW)
 		return true;
-	foreach(cell, sources)
-		if (!has_triggers(lfirst_oid(cell), applies_rows(lfirst_oid(cell), relation)))
+	foreach (cell, sources)
+		if (!has_triggers(lfirst_oid(cell),
+						  applies_rows(lfirst_oid(cell), relation)))
 			return false;
 	return true;
 }
@@ -131,9 +145,13 @@ static void
 refuse_old_snapshot(void)
 {
 	if (IsolationUsesXactSnapshot())
-		ereport(ERROR, (errcode(ERRCODE_ACTIVE_SQL_TRANSACTION),
-						errmsg("a table that is watched can be counted in READ COMMITTED only"),
-						errdetail("In the snapshot of a transaction rows may be missing that came since and that other transactions see.")));
+		ereport(
+			ERROR,
+			(errcode(ERRCODE_ACTIVE_SQL_TRANSACTION),
+			 errmsg("a table that is watched can be counted in READ COMMITTED "
+					"only"),
+			 errdetail("In the snapshot of a transaction rows may be missing "
+					   "that came since and that other transactions see.")));
 }
 
 /* Locks a table and its parts. */
@@ -145,15 +163,18 @@ lock_whole(Oid relation, LOCKMODE mode)
 		find_all_inheritors(relation, mode, NULL);
 }
 
-/* Locks a table against others that count it, and takes a new snapshot. If the columns may differ from those counted before, this waits for all
-   writers too, since their triggers read the columns. The deltas that the snapshot sees are deleted, since their rows are now counted. */
+/* Locks a table against others that count it, and takes a new snapshot. If the
+   columns may differ from those counted before, this waits for all writers
+   too, since their triggers read the columns. The deltas that the snapshot
+   sees are deleted, since their rows are now counted. */
 void
-begin_counting(Relation relation, bool folding, KeptRow *before, bool *was_followed)
+begin_counting(Relation relation, bool folding, KeptRow *before,
+			   bool *was_followed)
 {
-	Oid			id = RelationGetRelid(relation);
+	Oid id = RelationGetRelid(relation);
 
 	lock_whole(id, ShareUpdateExclusiveLock);
-	*before = (KeptRow) {.relation = id};
+	*before = (KeptRow){.relation = id};
 	*was_followed = find_kept_row(id, NULL, before) && before->sources != NIL;
 	if (*was_followed && !folding)
 		lock_whole(id, ShareRowExclusiveLock);
@@ -174,54 +195,69 @@ begin_counting(Relation relation, bool folding, KeptRow *before, bool *was_follo
 static Datum
 oid_array(List *oids)
 {
-	Datum	   *values = palloc(sizeof(Datum) * (list_length(oids) + 1));
-	ListCell   *cell;
+	Datum *values = palloc(sizeof(Datum) * (list_length(oids) + 1));
+	ListCell *cell;
 
-	foreach(cell, oids)
-		values[foreach_current_index(cell)] = ObjectIdGetDatum(lfirst_oid(cell));
-	return PointerGetDatum(construct_array(values, list_length(oids), OIDOID, 4, true, TYPALIGN_INT));
+	foreach (cell, oids)
+		values[foreach_current_index(cell)] =
+			ObjectIdGetDatum(lfirst_oid(cell));
+	return PointerGetDatum(construct_array(values, list_length(oids), OIDOID,
+										   4, true, TYPALIGN_INT));
 }
 
-/* Stores with the new statistics which columns they count, and the tables on which a statement may write rows. */
+/* Stores with the new statistics which columns they count, and the tables on
+ * which a statement may write rows. */
 static void
 note_sources(Oid relation, List *sources)
 {
-	Oid			types[] = {REGCLASSOID, OIDARRAYOID};
-	Datum		values[] = {ObjectIdGetDatum(relation), oid_array(sources)};
+	Oid types[] = {REGCLASSOID, OIDARRAYOID};
+	Datum values[] = {ObjectIdGetDatum(relation), oid_array(sources)};
 
-	write_own("UPDATE safebound.kept_table SET sources = nullif($2, '{}'::oid[]),"
-			  " joined = ARRAY(SELECT joined FROM safebound.kept_lists WHERE relation = $1 AND along = 0 AND filter = 0 AND joined > 0),"
-			  " filters = ARRAY(SELECT filter FROM safebound.kept_lists WHERE relation = $1 AND along = 0 AND joined = 0 AND filter > 0)"
-			  " WHERE relation = $1", 2, types, values);
+	write_own(
+		"UPDATE safebound.kept_table SET sources = nullif($2, '{}'::oid[]),"
+		" joined = ARRAY(SELECT joined FROM safebound.kept_lists WHERE "
+		"relation = $1 AND along = 0 AND filter = 0 AND joined > 0),"
+		" filters = ARRAY(SELECT filter FROM safebound.kept_lists WHERE "
+		"relation = $1 AND along = 0 AND joined = 0 AND filter > 0)"
+		" WHERE relation = $1",
+		2, types, values);
 }
 
-/* The columns of a table whose changes are followed. NULL unless the table is watched and known. */
+/* The columns of a table whose changes are followed. NULL unless the table is
+ * watched and known. */
 static Bitmapset *
 followed_columns(Oid relation, KeptRow *kept_row)
 {
-	if (!find_kept_row(relation, GetActiveSnapshot(), kept_row) || kept_row->sources == NIL || has_mark(relation, GetActiveSnapshot()))
+	if (!find_kept_row(relation, GetActiveSnapshot(), kept_row) ||
+		kept_row->sources == NIL || has_mark(relation, GetActiveSnapshot()))
 		return NULL;
 	return bms_union(kept_row->joined, kept_row->filters);
 }
 
-/* The referred tables that have lists along a reference, as the active snapshot sees them. A table is left out if changes of a column that was used
+/* The referred tables that have lists along a reference, as the active
+   snapshot sees them. A table is left out if changes of a column that was used
    aren't followed. */
 static List *
 followed_references(Oid relation, uint64 rows, SPITupleTable *lists)
 {
-	List	   *followed = NIL;
+	List *followed = NIL;
 
 	for (uint64 at = 0; at < rows; at++)
 	{
-		bool		null;
-		Oid			referred = DatumGetObjectId(SPI_getbinval(lists->vals[at], lists->tupdesc, 1, &null));
-		KeptRow		kept_row;
-		Bitmapset  *columns = followed_columns(referred, &kept_row);
+		bool null;
+		Oid referred = DatumGetObjectId(
+			SPI_getbinval(lists->vals[at], lists->tupdesc, 1, &null));
+		KeptRow kept_row;
+		Bitmapset *columns = followed_columns(referred, &kept_row);
 		ReferredTable *table = palloc(sizeof(ReferredTable));
 
-		if (columns == NULL || !bms_is_subset(numbers_in_array(SPI_getbinval(lists->vals[at], lists->tupdesc, 2, &null)), columns))
+		if (columns == NULL ||
+			!bms_is_subset(numbers_in_array(SPI_getbinval(
+							   lists->vals[at], lists->tupdesc, 2, &null)),
+						   columns))
 			continue;
-		*table = (ReferredTable) {referred, kept_row.version, count_deltas(referred, GetActiveSnapshot())};
+		*table = (ReferredTable){referred, kept_row.version,
+								 count_deltas(referred, GetActiveSnapshot())};
 		followed = lappend(followed, table);
 	}
 	return followed;
@@ -230,18 +266,20 @@ followed_references(Oid relation, uint64 rows, SPITupleTable *lists)
 static void
 note_references(Oid relation)
 {
-	Oid			types[] = {REGCLASSOID, INT8ARRAYOID};
-	Datum		values[2] = {ObjectIdGetDatum(relation)};
-	List	   *followed;
-	Datum	   *numbers;
-	ListCell   *cell;
-	int			length = 0;
+	Oid types[] = {REGCLASSOID, INT8ARRAYOID};
+	Datum values[2] = {ObjectIdGetDatum(relation)};
+	List *followed;
+	Datum *numbers;
+	ListCell *cell;
+	int length = 0;
 
-	write_own("SELECT referred, array_agg(DISTINCT filter) || array_agg(DISTINCT key) FROM safebound.kept_lists"
-			  " WHERE relation = $1 AND along > 0 GROUP BY referred", 1, types, values);
+	write_own("SELECT referred, array_agg(DISTINCT filter) || "
+			  "array_agg(DISTINCT key) FROM safebound.kept_lists"
+			  " WHERE relation = $1 AND along > 0 GROUP BY referred",
+			  1, types, values);
 	followed = followed_references(relation, SPI_processed, SPI_tuptable);
 	numbers = palloc(sizeof(Datum) * 3 * (list_length(followed) + 1));
-	foreach(cell, followed)
+	foreach (cell, followed)
 	{
 		ReferredTable *table = lfirst(cell);
 
@@ -249,8 +287,11 @@ note_references(Oid relation)
 		numbers[length++] = Int64GetDatum(table->version);
 		numbers[length++] = Int64GetDatum(table->deltas);
 	}
-	values[1] = PointerGetDatum(construct_array(numbers, length, INT8OID, 8, FLOAT8PASSBYVAL, TYPALIGN_DOUBLE));
-	write_own("UPDATE safebound.kept_table SET referred = $2 WHERE relation = $1", 2, types, values);
+	values[1] = PointerGetDatum(construct_array(
+		numbers, length, INT8OID, 8, FLOAT8PASSBYVAL, TYPALIGN_DOUBLE));
+	write_own(
+		"UPDATE safebound.kept_table SET referred = $2 WHERE relation = $1", 2,
+		types, values);
 }
 
 void
@@ -258,13 +299,16 @@ end_counting(const KeptRow *before, bool was_followed)
 {
 	note_references(before->relation);
 	PopActiveSnapshot();
-	note_sources(before->relation, was_followed && is_intact(before->relation, before->sources) ? before->sources : NIL);
+	note_sources(before->relation,
+				 was_followed && is_intact(before->relation, before->sources)
+					 ? before->sources
+					 : NIL);
 }
 
 static void
 execute(const char *format, const char *table)
 {
-	char	   *statement = psprintf(format, table);
+	char *statement = psprintf(format, table);
 
 	if (SPI_execute(statement, false, 0) < 0)
 		elog(ERROR, "can't be executed: %s", statement);
@@ -273,26 +317,40 @@ execute(const char *format, const char *table)
 static char *
 quoted_name(Oid relation)
 {
-	return quote_qualified_identifier(get_namespace_name(get_rel_namespace(relation)), get_rel_name(relation));
+	return quote_qualified_identifier(
+		get_namespace_name(get_rel_namespace(relation)),
+		get_rel_name(relation));
 }
 
 static void
 make_statement_triggers(const char *name)
 {
-	execute("CREATE OR REPLACE TRIGGER safebound_begin BEFORE INSERT OR UPDATE ON %s FOR EACH STATEMENT EXECUTE FUNCTION safebound.follow()", name);
-	execute("CREATE OR REPLACE TRIGGER safebound_insert AFTER INSERT ON %s REFERENCING NEW TABLE AS new_rows FOR EACH STATEMENT EXECUTE FUNCTION safebound.follow()", name);
-	execute("CREATE OR REPLACE TRIGGER safebound_update AFTER UPDATE ON %s REFERENCING OLD TABLE AS old_rows NEW TABLE AS new_rows FOR EACH STATEMENT EXECUTE FUNCTION safebound.follow()", name);
-	execute("ALTER TABLE %s ENABLE ALWAYS TRIGGER safebound_begin, ENABLE ALWAYS TRIGGER safebound_insert, ENABLE ALWAYS TRIGGER safebound_update", name);
+	execute(
+		"CREATE OR REPLACE TRIGGER safebound_begin BEFORE INSERT OR UPDATE ON "
+		"%s FOR EACH STATEMENT EXECUTE FUNCTION safebound.follow()",
+		name);
+	execute("CREATE OR REPLACE TRIGGER safebound_insert AFTER INSERT ON %s "
+			"REFERENCING NEW TABLE AS new_rows FOR EACH STATEMENT EXECUTE "
+			"FUNCTION safebound.follow()",
+			name);
+	execute("CREATE OR REPLACE TRIGGER safebound_update AFTER UPDATE ON %s "
+			"REFERENCING OLD TABLE AS old_rows NEW TABLE AS new_rows FOR EACH "
+			"STATEMENT EXECUTE FUNCTION safebound.follow()",
+			name);
+	execute(
+		"ALTER TABLE %s ENABLE ALWAYS TRIGGER safebound_begin, ENABLE ALWAYS "
+		"TRIGGER safebound_insert, ENABLE ALWAYS TRIGGER safebound_update",
+		name);
 }
 
-/* Makes the triggers of a source, and waits for all who are writing to it. Existing triggers stay: tables below need them, and would count as
-   unknown if the triggers were made again. */
+/* Makes the triggers of a source, and waits for all who are writing to it.
+   Existing triggers stay: tables below need them, and would count as unknown
+   if the triggers were made again. */
 static void
 make_triggers(Oid source, bool applies)
 {
-	char	   *name = quoted_name(source);
-	int			statements,
-				rows;
+	char *name = quoted_name(source);
+	int statements, rows;
 
 	LockRelationOid(source, ShareRowExclusiveLock);
 	count_triggers(source, &statements, &rows);
@@ -300,20 +358,24 @@ make_triggers(Oid source, bool applies)
 		make_statement_triggers(name);
 	if (!applies || rows == 1)
 		return;
-	execute("CREATE OR REPLACE TRIGGER safebound_applied AFTER INSERT OR UPDATE ON %s FOR EACH ROW EXECUTE FUNCTION safebound.follow()", name);
+	execute("CREATE OR REPLACE TRIGGER safebound_applied AFTER INSERT OR "
+			"UPDATE ON %s FOR EACH ROW EXECUTE FUNCTION safebound.follow()",
+			name);
 	execute("ALTER TABLE %s ENABLE REPLICA TRIGGER safebound_applied", name);
 }
 
-/* Drops the triggers on a source of a table that isn't watched any more, unless another table needs them. */
+/* Drops the triggers on a source of a table that isn't watched any more,
+ * unless another table needs them. */
 static void
 drop_triggers(Oid source)
 {
-	char	   *name = quoted_name(source);
-	bool		applies = false;
-	ListCell   *cell;
+	char *name = quoted_name(source);
+	bool applies = false;
+	ListCell *cell;
 
-	foreach(cell, followers_of(source))
-		applies = applies || applies_rows(source, ((KeptRow *) lfirst(cell))->relation);
+	foreach (cell, followers_of(source))
+		applies = applies ||
+			applies_rows(source, ((KeptRow *) lfirst(cell))->relation);
 	if (!applies && get_rel_relkind(source) == RELKIND_RELATION)
 		execute("DROP TRIGGER IF EXISTS safebound_applied ON %s", name);
 	if (followers_of(source) != NIL)
@@ -327,25 +389,36 @@ drop_triggers(Oid source)
 static int64
 keep_again(Oid relation, bool folding)
 {
-	KeptRow		kept_row;
+	KeptRow kept_row;
 
 	if (!find_kept_row(relation, NULL, &kept_row))
-		return keep_table(relation, NULL, NULL, COMMON, RANGES, ACCURACY, folding);
-	/* With 0 as a member, a set without columns isn't NULL. NULL would mean all columns. */
-	return keep_table(relation, bms_add_member(kept_row.joined, 0), bms_add_member(kept_row.filters, 0), kept_row.most_common, kept_row.most_leaves, kept_row.accuracy, folding);
+		return keep_table(relation, NULL, NULL, COMMON, RANGES, ACCURACY,
+						  folding);
+	/* With 0 as a member, a set without columns isn't NULL. NULL would mean
+	 * all columns. */
+	return keep_table(relation, bms_add_member(kept_row.joined, 0),
+					  bms_add_member(kept_row.filters, 0),
+					  kept_row.most_common, kept_row.most_leaves,
+					  kept_row.accuracy, folding);
 }
 
-/* Checks that the caller may count a table. Returns whether the table can have triggers: a materialized view can't. */
+/* Checks that the caller may count a table. Returns whether the table can have
+ * triggers: a materialized view can't. */
 static bool
 may_have_triggers(Oid relation)
 {
-	Relation	opened = open_owned(relation);
-	bool		may = opened->rd_rel->relkind != RELKIND_MATVIEW;
+	Relation opened = open_owned(relation);
+	bool may = opened->rd_rel->relkind != RELKIND_MATVIEW;
 
-	/* A temporary table is dropped at the end of the session without an event that the extension could see. */
+	/* A temporary table is dropped at the end of the session without an event
+	 * that the extension could see. */
 	if (opened->rd_rel->relpersistence == RELPERSISTENCE_TEMP)
-		ereport(ERROR, (errcode(ERRCODE_FEATURE_NOT_SUPPORTED), errmsg("\"%s\" is a temporary table, and can't be watched", get_rel_name(relation))));
-	/* The table is closed here, since its triggers can't be changed while this backend has it open. */
+		ereport(ERROR,
+				(errcode(ERRCODE_FEATURE_NOT_SUPPORTED),
+				 errmsg("\"%s\" is a temporary table, and can't be watched",
+						get_rel_name(relation))));
+	/* The table is closed here, since its triggers can't be changed while this
+	 * backend has it open. */
 	relation_close(opened, NoLock);
 	return may;
 }
@@ -353,41 +426,48 @@ may_have_triggers(Oid relation)
 Datum
 safebound_watch(PG_FUNCTION_ARGS)
 {
-	Oid			relation = PG_GETARG_OID(0);
-	bool		triggers = may_have_triggers(relation);
-	List	   *sources = tables_writing_to(relation);
-	int64		lists;
-	ListCell   *cell;
+	Oid relation = PG_GETARG_OID(0);
+	bool triggers = may_have_triggers(relation);
+	List *sources = tables_writing_to(relation);
+	int64 lists;
+	ListCell *cell;
 
 	refuse_old_snapshot();
 	SPI_connect();
-	foreach(cell, triggers ? sources : NIL)
-		make_triggers(lfirst_oid(cell), applies_rows(lfirst_oid(cell), relation));
+	foreach (cell, triggers ? sources : NIL)
+		make_triggers(lfirst_oid(cell),
+					  applies_rows(lfirst_oid(cell), relation));
 	LockRelationOid(relation, ShareRowExclusiveLock);
 	CommandCounterIncrement();
 	lists = keep_again(relation, false);
 	if (!is_intact(relation, sources))
-		ereport(ERROR, (errcode(ERRCODE_OBJECT_IN_USE), errmsg("what \"%s\" inherits from changed meanwhile", get_rel_name(relation))));
+		ereport(ERROR,
+				(errcode(ERRCODE_OBJECT_IN_USE),
+				 errmsg("what \"%s\" inherits from changed meanwhile",
+						get_rel_name(relation))));
 	note_sources(relation, sources);
 	SPI_finish();
 	PG_RETURN_INT64(lists);
 }
 
-/* Triggers on tables above are kept, since other tables may need them. Without followers they count nothing. */
+/* Triggers on tables above are kept, since other tables may need them. Without
+ * followers they count nothing. */
 Datum
 safebound_unwatch(PG_FUNCTION_ARGS)
 {
-	Oid			relation = PG_GETARG_OID(0);
-	bool		triggers = may_have_triggers(relation);
-	KeptRow		kept_row = {0};
-	bool		were = find_kept_row(relation, NULL, &kept_row) && kept_row.sources != NIL;
-	ListCell   *cell;
+	Oid relation = PG_GETARG_OID(0);
+	bool triggers = may_have_triggers(relation);
+	KeptRow kept_row = {0};
+	bool were =
+		find_kept_row(relation, NULL, &kept_row) && kept_row.sources != NIL;
+	ListCell *cell;
 
 	SPI_connect();
 	if (were)
 		note_sources(relation, NIL);
-	foreach(cell, triggers ? tables_writing_to(relation) : NIL)
-		if (lfirst_oid(cell) == relation || is_part_of(lfirst_oid(cell), relation))
+	foreach (cell, triggers ? tables_writing_to(relation) : NIL)
+		if (lfirst_oid(cell) == relation ||
+			is_part_of(lfirst_oid(cell), relation))
 			drop_triggers(lfirst_oid(cell));
 	SPI_finish();
 	PG_RETURN_BOOL(were);
@@ -396,27 +476,34 @@ safebound_unwatch(PG_FUNCTION_ARGS)
 Datum
 safebound_fold(PG_FUNCTION_ARGS)
 {
-	Oid			relation = PG_GETARG_OID(0);
-	KeptRow		kept_row;
+	Oid relation = PG_GETARG_OID(0);
+	KeptRow kept_row;
 
 	if (!find_kept_row(relation, NULL, &kept_row))
-		ereport(ERROR, (errcode(ERRCODE_OBJECT_NOT_IN_PREREQUISITE_STATE), errmsg("no statistics of \"%s\" are kept", get_rel_name(relation))));
+		ereport(ERROR,
+				(errcode(ERRCODE_OBJECT_NOT_IN_PREREQUISITE_STATE),
+				 errmsg("no statistics of \"%s\" are kept",
+						get_rel_name(relation))));
 	PG_RETURN_INT64(keep_again(relation, true));
 }
 
-/* Folds after ANALYZE: the tables that it names, or without names all tables that the user owns. */
+/* Folds after ANALYZE: the tables that it names, or without names all tables
+ * that the user owns. */
 static void
 fold_full(List *named)
 {
-	ListCell   *cell;
+	ListCell *cell;
 
-	foreach(cell, followers_of(InvalidOid))
+	foreach (cell, followers_of(InvalidOid))
 	{
-		KeptRow	   *kept_row = lfirst(cell);
+		KeptRow *kept_row = lfirst(cell);
 
-		if (kept_row->sources != NIL && (named == NIL || list_member_oid(named, kept_row->relation)) &&
-			SearchSysCacheExists1(RELOID, ObjectIdGetDatum(kept_row->relation)) &&
-			pg_class_ownercheck(kept_row->relation, GetUserId()) && count_deltas(kept_row->relation, NULL) >= MANY_DELTAS)
+		if (kept_row->sources != NIL &&
+			(named == NIL || list_member_oid(named, kept_row->relation)) &&
+			SearchSysCacheExists1(RELOID,
+								  ObjectIdGetDatum(kept_row->relation)) &&
+			pg_class_ownercheck(kept_row->relation, GetUserId()) &&
+			count_deltas(kept_row->relation, NULL) >= MANY_DELTAS)
 			keep_again(kept_row->relation, true);
 	}
 }
@@ -425,14 +512,15 @@ static bool
 analyzes(Node *statement)
 {
 	VacuumStmt *vacuum = (VacuumStmt *) statement;
-	ListCell   *cell;
+	ListCell *cell;
 
 	if (!IsA(statement, VacuumStmt))
 		return false;
 	if (!vacuum->is_vacuumcmd)
 		return true;
-	foreach(cell, vacuum->options)
-		if (strcmp(lfirst_node(DefElem, cell)->defname, "analyze") == 0 && defGetBoolean(lfirst_node(DefElem, cell)))
+	foreach (cell, vacuum->options)
+		if (strcmp(lfirst_node(DefElem, cell)->defname, "analyze") == 0 &&
+			defGetBoolean(lfirst_node(DefElem, cell)))
 			return true;
 	return false;
 }
@@ -440,26 +528,36 @@ analyzes(Node *statement)
 static List *
 named_tables(VacuumStmt *vacuum)
 {
-	List	   *named = NIL;
-	ListCell   *cell;
+	List *named = NIL;
+	ListCell *cell;
 
-	foreach(cell, vacuum->rels)
+	foreach (cell, vacuum->rels)
 		if (lfirst_node(VacuumRelation, cell)->relation)
-			named = lappend_oid(named, RangeVarGetRelid(lfirst_node(VacuumRelation, cell)->relation, NoLock, true));
+			named = lappend_oid(
+				named,
+				RangeVarGetRelid(lfirst_node(VacuumRelation, cell)->relation,
+								 NoLock, true));
 	return named;
 }
 
 static void
-on_utility(PlannedStmt *statement, const char *text, bool read_only, ProcessUtilityContext context, ParamListInfo parameters,
-		   QueryEnvironment *environment, DestReceiver *destination, QueryCompletion *completion)
+on_utility(PlannedStmt *statement, const char *text, bool read_only,
+		   ProcessUtilityContext context, ParamListInfo parameters,
+		   QueryEnvironment *environment, DestReceiver *destination,
+		   QueryCompletion *completion)
 {
-	bool		folds = analyzes(statement->utilityStmt) && !IsolationUsesXactSnapshot();
-	List	   *named = folds ? named_tables((VacuumStmt *) statement->utilityStmt) : NIL;
+	bool folds =
+		analyzes(statement->utilityStmt) && !IsolationUsesXactSnapshot();
+	List *named =
+		folds ? named_tables((VacuumStmt *) statement->utilityStmt) : NIL;
 
 	if (utility_before)
-		utility_before(statement, text, read_only, context, parameters, environment, destination, completion);
+		utility_before(statement, text, read_only, context, parameters,
+					   environment, destination, completion);
 	else
-		standard_ProcessUtility(statement, text, read_only, context, parameters, environment, destination, completion);
+		standard_ProcessUtility(statement, text, read_only, context,
+								parameters, environment, destination,
+								completion);
 	if (folds && OidIsValid(extension_table("kept_delta")))
 	{
 		PushActiveSnapshot(GetTransactionSnapshot());
@@ -468,37 +566,44 @@ on_utility(PlannedStmt *statement, const char *text, bool read_only, ProcessUtil
 	}
 }
 
-/* Marks a table that isn't followed completely any more. An existing mark is enough, unless somebody is about to delete it. */
+/* Marks a table that isn't followed completely any more. An existing mark is
+ * enough, unless somebody is about to delete it. */
 static void
 mark_broken(Oid relation)
 {
-	if (!has_mark(relation, NULL) || !ConditionalLockRelationOid(relation, ShareUpdateExclusiveLock))
+	if (!has_mark(relation, NULL) ||
+		!ConditionalLockRelationOid(relation, ShareUpdateExclusiveLock))
 		mark_not_counted(relation);
 }
 
 static void
 forget_dropped(Oid relation)
 {
-	Oid			types[] = {REGCLASSOID};
-	Datum		values[] = {ObjectIdGetDatum(relation)};
+	Oid types[] = {REGCLASSOID};
+	Datum values[] = {ObjectIdGetDatum(relation)};
 
-	write_own("DELETE FROM safebound.kept_lists WHERE relation = $1", 1, types, values);
-	write_own("DELETE FROM safebound.kept_delta WHERE relation = $1", 1, types, values);
-	write_own("DELETE FROM safebound.kept_table WHERE relation = $1", 1, types, values);
+	write_own("DELETE FROM safebound.kept_lists WHERE relation = $1", 1, types,
+			  values);
+	write_own("DELETE FROM safebound.kept_delta WHERE relation = $1", 1, types,
+			  values);
+	write_own("DELETE FROM safebound.kept_table WHERE relation = $1", 1, types,
+			  values);
 }
 
 static void
 check_all(void)
 {
-	ListCell   *cell;
+	ListCell *cell;
 
-	foreach(cell, followers_of(InvalidOid))
+	foreach (cell, followers_of(InvalidOid))
 	{
-		KeptRow	   *kept_row = lfirst(cell);
+		KeptRow *kept_row = lfirst(cell);
 
-		if (!SearchSysCacheExists1(RELOID, ObjectIdGetDatum(kept_row->relation)))
+		if (!SearchSysCacheExists1(RELOID,
+								   ObjectIdGetDatum(kept_row->relation)))
 			forget_dropped(kept_row->relation);
-		else if (kept_row->sources != NIL && !is_intact(kept_row->relation, kept_row->sources))
+		else if (kept_row->sources != NIL &&
+				 !is_intact(kept_row->relation, kept_row->sources))
 			mark_broken(kept_row->relation);
 	}
 }
@@ -507,30 +612,35 @@ check_all(void)
 static void
 mark_refreshed(void)
 {
-	if (SPI_execute("SELECT objid FROM pg_catalog.pg_event_trigger_ddl_commands()", false, 0) < 0)
+	if (SPI_execute(
+			"SELECT objid FROM pg_catalog.pg_event_trigger_ddl_commands()",
+			false, 0) < 0)
 		elog(ERROR, "can't read what was refreshed");
 	for (uint64 i = 0; i < SPI_processed; i++)
 	{
-		bool		null;
-		Oid			relation = DatumGetObjectId(SPI_getbinval(SPI_tuptable->vals[i], SPI_tuptable->tupdesc, 1, &null));
-		KeptRow		kept_row;
+		bool null;
+		Oid relation = DatumGetObjectId(SPI_getbinval(
+			SPI_tuptable->vals[i], SPI_tuptable->tupdesc, 1, &null));
+		KeptRow kept_row;
 
 		if (find_kept_row(relation, NULL, &kept_row))
 			mark_not_counted(relation);
 	}
 }
 
-/* Marks the table whose rows ALTER TABLE rewrites, perhaps with other values. */
+/* Marks the table whose rows ALTER TABLE rewrites, perhaps with other values.
+ */
 static void
 mark_rewritten(void)
 {
-	Oid			relation = DatumGetObjectId(OidFunctionCall0(F_PG_EVENT_TRIGGER_TABLE_REWRITE_OID));
-	KeptRow		kept_row;
-	ListCell   *cell;
+	Oid relation = DatumGetObjectId(
+		OidFunctionCall0(F_PG_EVENT_TRIGGER_TABLE_REWRITE_OID));
+	KeptRow kept_row;
+	ListCell *cell;
 
 	if (find_kept_row(relation, NULL, &kept_row))
 		mark_not_counted(relation);
-	foreach(cell, followers_of(relation))
+	foreach (cell, followers_of(relation))
 		if (is_part_of(relation, ((KeptRow *) lfirst(cell))->relation))
 			mark_not_counted(((KeptRow *) lfirst(cell))->relation);
 }
@@ -541,7 +651,10 @@ safebound_on_change(PG_FUNCTION_ARGS)
 	EventTriggerData *event = (EventTriggerData *) fcinfo->context;
 
 	if (!CALLED_AS_EVENT_TRIGGER(fcinfo))
-		ereport(ERROR, (errcode(ERRCODE_E_R_I_E_EVENT_TRIGGER_PROTOCOL_VIOLATED), errmsg("safebound.on_change is called by event triggers alone")));
+		ereport(
+			ERROR,
+			(errcode(ERRCODE_E_R_I_E_EVENT_TRIGGER_PROTOCOL_VIOLATED),
+			 errmsg("safebound.on_change is called by event triggers alone")));
 	if (!OidIsValid(extension_table("kept_delta")))
 		return PointerGetDatum(NULL);
 	SPI_connect();

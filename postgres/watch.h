@@ -35,45 +35,48 @@ enum
 /* The value of DELTA_ROWS if rows came or changed without being counted. */
 #define NOT_COUNTED (-1)
 
-/* A table that a counted table refers to, as it was at the time of the count. */
+/* A table that a counted table refers to, as it was at the time of the count.
+ */
 typedef struct ReferredTable
 {
-	Oid			relation;
-	int64		version;
-	int64		deltas;
+	Oid relation;
+	int64 version;
+	int64 deltas;
 } ReferredTable;
 
 /* The row of a table in safebound.kept_table, as a snapshot sees it. */
 typedef struct KeptRow
 {
-	Oid			relation;
-	int64		version;
-	int			most_common;
-	int			most_leaves;
-	int			accuracy;
-	List	   *sources;		/* all tables on which a statement may write rows of this one; NIL if new rows aren't followed */
-	Bitmapset  *joined;			/* the columns with lists */
-	Bitmapset  *filters;		/* the columns for whose conditions lists are kept */
-	List	   *referred;		/* of ReferredTable */
+	Oid relation;
+	int64 version;
+	int most_common;
+	int most_leaves;
+	int accuracy;
+	List *sources; /* all tables on which a statement may write rows of this
+					  one; NIL if new rows aren't followed */
+	Bitmapset *joined;  /* the columns with lists */
+	Bitmapset *filters; /* the columns for whose conditions lists are kept */
+	List *referred;     /* of ReferredTable */
 } KeptRow;
 
 /* The rows that came later, as far as a snapshot sees them. */
 struct Deltas
 {
 	MemoryContext context;
-	bool		not_counted;
-	int			length;
-	int64	   *ids;
-	uint64		rows;
-	int			lists_length;
-	AttrNumber *numbers;		/* the columns that have lists */
-	DegreeList *lists;			/* of these columns, in the same order */
+	bool not_counted;
+	int length;
+	int64 *ids;
+	uint64 rows;
+	int lists_length;
+	AttrNumber *numbers; /* the columns that have lists */
+	DegreeList *lists;   /* of these columns, in the same order */
 };
 
 /* deltas.c */
 extern Bitmapset *numbers_in_array(Datum array);
 extern bool find_kept_row(Oid relation, Snapshot snapshot, KeptRow *kept_row);
-extern Deltas *find_deltas(const KeptRow *kept_row, Snapshot snapshot, Deltas *known);
+extern Deltas *
+find_deltas(const KeptRow *kept_row, Snapshot snapshot, Deltas *known);
 extern void write_delta(Oid relation, int64 rows, StringInfo lists);
 extern void delete_deltas(Oid relation, Snapshot snapshot);
 extern List *followers_of(Oid source);
@@ -83,7 +86,8 @@ extern int64 count_deltas(Oid relation, Snapshot snapshot);
 extern List *unchanged_references(const KeptRow *kept_row, Snapshot snapshot);
 
 /* watch.c */
-extern void begin_counting(Relation relation, bool folding, KeptRow *before, bool *was_followed);
+extern void begin_counting(Relation relation, bool folding, KeptRow *before,
+						   bool *was_followed);
 extern void end_counting(const KeptRow *before, bool was_followed);
 extern void watch_init(void);
 

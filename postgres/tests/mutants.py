@@ -10,6 +10,7 @@ and the exit status is 1. Without WORD each of these tests is first run without 
 from __future__ import annotations
 
 import os
+import re
 import shutil
 import subprocess
 import sys
@@ -90,8 +91,8 @@ EDITS = [
          [("\tadd_degree(&degrees, (last & joined_mask) == 0 ? 0 : degree);\n\tend_group", "\tend_group")],
          "estimates"),
     Edit("NULLs join", "counts.c",
-         [("\t\t\tadd_degree(&degrees, (last & joined_mask) == 0 ? 0 : degree);",
-           "\t\t\tadd_degree(&degrees, degree);")], "estimates"),
+         [("if (pair != last)\n\t\t\tadd_degree(&degrees, (last & joined_mask) == 0 ? 0 : degree);",
+           "if (pair != last)\n\t\t\tadd_degree(&degrees, degree);")], "estimates"),
     Edit("parts of one count count as different values", "counts.c",
          [("(pair == last ? degree : 0) + (number & count_mask)", "number & count_mask")], "estimates"),
     Edit("rows that don't fit into the memory are sorted by the other column", "counts.c",
@@ -182,13 +183,18 @@ EDITS = [
 ]
 
 
+def as_laid_out(text: str) -> str:
+    """A pattern of this text of C, wherever its lines are broken."""
+    return r"\s*".join(re.escape(letter) for letter in text if not letter.isspace())
+
+
 def apply(edit: Edit, folder: Path) -> None:
     file = folder / edit.file
     text = file.read_text()
     for old, new in edit.edits:
-        if text.count(old) != 1:
-            raise SystemExit(f"{edit.name}: found {text.count(old)} times in {edit.file}: {old}")
-        text = text.replace(old, new)
+        text, found = re.subn(as_laid_out(old), lambda _: new, text)
+        if found != 1:
+            raise SystemExit(f"{edit.name}: found {found} times in {edit.file}: {old}")
     file.write_text(text)
 
 
