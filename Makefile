@@ -117,6 +117,7 @@ check-process:
 	cases/process "$(PROGRAM)"
 check-differential:
 	cases/differential --features $(FEATURES) --runs 300 "$(PROGRAM)"
+	cases/differential --features run,plan,audit,many-entries,filters,words,bushy,count --runs 100 --fewest 5 --entries 7 "$(PROGRAM)"
 check-friendly:
 	PROGRAM="$(PROGRAM)" python3 -B -m unittest tests/test_friendly.py
 check-browser:

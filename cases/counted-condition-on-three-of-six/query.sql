@@ -1,0 +1,1 @@
+SELECT A.X FROM R A, R B, R C, R D, R E, R F WHERE A.Y = B.X AND B.Y = C.X AND C.Y = D.X AND D.Y = E.X AND E.Y = F.X AND (A.X = C.Y OR C.Y < E.Y)

@@ -1,0 +1,1 @@
+SELECT H.X FROM H, L A, L B, L C, L D, L E, L F, L G WHERE H.X = A.X AND H.X = B.X AND H.Y = C.X AND H.Y = D.X AND H.Z = E.X AND H.Z = F.X AND F.Y = G.X AND G.Y = H.X
