@@ -1,7 +1,7 @@
 //! Laws that follow from the top call's definitions. No law computes anything; its contract is the law. The laws are for readers of the
 //! proofs: no command of the program calls them.
 //!
-//! - `laws` has the facts from which the headline is proved. A verdict has no bound that is too low. The rows that it prints are the answer.
+//! - `laws` states again, for readers, facts from which the headline is proved. A verdict has no bound that is too low. The rows that it prints are the answer.
 //!   It never refuses because memory ran out.
 //! - `corollaries` has laws that follow from the headline and the verdict.
 //! - `from_files` compares plans from statistics files with plans from tables.

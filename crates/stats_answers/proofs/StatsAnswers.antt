@@ -9,17 +9,17 @@ use Rattle.stats_file.specs.Answers.{IsAllowedResult}
 use Rattle.stats_file.specs.FileText.{file_text}
 use Rattle.stats_file.specs.Rules.{KeepsRules}
 use Rattle.stats_reading.specs.Names.{HasByteColumns}
-use Rattle.stats_lines.proofs.DecidedResults.{decided_result}
+use Rattle.stats_lines.proofs.Results.{never_no_memory, result_allowed}
 use Rattle.stats_answers.specs.StatsTexts.{stats_answer}
 use Rattle.stats_answers.proofs.OneAnswer.{one_answer}
 
 pub allowed : (schema : Schema) (text : List ℕ) → IsValid schema → IsAllowedResult schema text (stats_answer schema text)
 unfolding stats_answer
-allowed schema text good = (decided_result schema text).answers good
+allowed schema text good = result_allowed schema text good
 
 pub never_out_of_memory : (schema : Schema) (text : List ℕ) → stats_answer schema text ≢ Err error.NoMemory
 unfolding stats_answer
-never_out_of_memory schema text = (decided_result schema text).not_no_memory
+never_out_of_memory schema text = never_no_memory schema text
 
 pub no_other_result : (schema : Schema) (text : List ℕ) (answer : Result StatsFile StatsError) → IsValid schema → HasByteColumns schema → IsAllowedResult schema text answer
     → (answer ≡ Err error.NoMemory) ⊎ (answer ≡ stats_answer schema text)

@@ -1,185 +1,225 @@
--- A decision is a proof of a proposition or of its negation. To decide whether P holds for some value, all candidates are tried. There are finitely
--- many candidates.
+-- A test tells whether a proposition holds. A search finds a value with a property, or there is none.
 use Rattle.std.proofs.Common.{◌≡◌, ◌⊎◌, inl, inr, ℕ, zero, suc, ◌<◌, ◌≤◌, Bool, true, false, List, [], ◌∷◌, ◌++◌, length, refl, ap, sym, subst, arith, Option, Some, None}
-use Rattle.std.specs.Prelude.{All, slice_get}
-use Rattle.std.specs.List.{AllByRecursion}
-use Rattle.stats_reading.proofs.Counts.{tri, Tri}
-use Rattle.stats_reading.proofs.Counts.Tri.{before, same, behind}
+use Rattle.std.specs.Prelude.{All, not, ◌&&◌, ◌||◌, ◌==◌, nat_lt, nat_le}
+use Rattle.std.specs.List.{AllByRecursion, list_all}
+use Rattle.std.specs.Option.{option_or}
+use Rattle.std.proofs.lemmas.Bool.{both_ways, eqb-false, eqb-true, leb-false, leb-true, ltb-false, ltb-true}
+use Rattle.stats_lines.specs.Searches.{when, first_below, first_list, first_split, some_split, same_list, same_numbers, passes_if_some, is_some_that_passes}
 
-abbrev pub Decided : Type 0 → Type 0
-Decided P = P ⊎ (P → ⊥)
+pub record Tells (test : Bool) (P : Type 0) : Type 0 where
+  pub yes : test ≡ true → P
+  pub no : test ≡ false → P → ⊥
 
-pub decided_and : {P Q : Type 0} → Decided P → Decided Q → Decided (P × Q)
-decided_and (inl p) (inl q) = inl (p, q)
-decided_and (inl p) (inr fails) = inr (λ h. fails h.1)
-decided_and (inr fails) q = inr (λ h. fails h.0)
+pub record Finds {X : Type 0} (found : Option X) (P : X → Type 0) : Type 0 where
+  pub some : (x : X) → found ≡ Some x → P x
+  pub none : found ≡ None → (x : X) → P x → ⊥
 
-pub decided_or : {P Q : Type 0} → Decided P → Decided Q → Decided (P ⊎ Q)
-decided_or (inl p) q = inl (inl p)
-decided_or (inr fails) (inl q) = inl (inr q)
-decided_or {P = P} {Q = Q} (inr fails) (inr none) = inr by
+-- ---- tests
+
+pub tells_and : {a b : Bool} {P Q : Type 0} → Tells a P → Tells b Q → Tells (a && b) (P × Q)
+tells_and {a = true} p q = record { yes = λ e. (p.yes refl, q.yes e); no = λ e h. q.no e h.1 }
+tells_and {a = false} p q = record { yes = λ e. absurd (both_ways false refl e); no = λ e h. p.no refl h.0 }
+
+pub tells_or : {a b : Bool} {P Q : Type 0} → Tells a P → Tells b Q → Tells (a || b) (P ⊎ Q)
+tells_or {a = true} p q = record { yes = λ e. inl (p.yes refl); no = λ e h. both_ways true e refl }
+tells_or {a = false} {b = b} {P = P} {Q = Q} p q = record { yes = λ e. inr (q.yes e); no = by }
   where
-    by : P ⊎ Q → ⊥
-    by (inl p) = fails p
-    by (inr q) = none q
+    by : b ≡ false → P ⊎ Q → ⊥
+    by e (inl h) = p.no refl h
+    by e (inr h) = q.no e h
 
-pub decided_not : {P : Type 0} → Decided P → Decided (P → ⊥)
-decided_not (inl p) = inr (λ fails. fails p)
-decided_not (inr fails) = inl fails
+pub tells_not : {a : Bool} {P : Type 0} → Tells a P → Tells (not a) (P → ⊥)
+tells_not {a = true} p = record { yes = λ e. absurd (both_ways false refl e); no = λ e h. h (p.yes refl) }
+tells_not {a = false} p = record { yes = λ e h. p.no refl h; no = λ e h. both_ways true e refl }
 
-pub decided_alike : {P Q : Type 0} → (P → Q) → (Q → P) → Decided P → Decided Q
-decided_alike to from (inl p) = inl (to p)
-decided_alike to from (inr fails) = inr (λ q. fails (from q))
+pub tells_alike : {a : Bool} {P Q : Type 0} → (P → Q) → (Q → P) → Tells a P → Tells a Q
+tells_alike to from p = record { yes = λ e. to (p.yes e); no = λ e h. p.no e (from h) }
 
--- ---- decisions whether two values are equal
+pub tells_true : (a : Bool) → Tells a (a ≡ true)
+tells_true a = record { yes = λ e. e; no = λ e h. both_ways a e h }
 
-pub decided_true : (b : Bool) → Decided (b ≡ true)
-decided_true true = inl refl
-decided_true false = inr (λ e. cc)
+pub tells_equal : (a b : ℕ) → Tells (a == b) (a ≡ b)
+tells_equal a b = record { yes = λ e. eqb-true a b e; no = λ e h. eqb-false a b e h }
 
-pub decided_equal : (a b : ℕ) → Decided (a ≡ b)
-decided_equal a b = by (tri a b)
+pub tells_less : (a b : ℕ) → Tells (nat_lt a b) (a < b)
+tells_less a b = record { yes = λ e. ltb-true a b e; no = λ e h. let le = ltb-false a b e in omega arith }
+
+pub tells_at_most : (a b : ℕ) → Tells (nat_le a b) (a ≤ b)
+tells_at_most a b = record { yes = λ e. leb-true a b e; no = λ e h. let lt = leb-false a b e in omega arith }
+
+pub tells_same_list : {X : Type 0} {same : X → X → Bool} → ((a b : X) → Tells (same a b) (a ≡ b)) → (xs ys : List X) → Tells (same_list same xs ys) (xs ≡ ys)
+unfolding same_list
+tells_same_list one [] [] = record { yes = λ e. refl; no = λ e h. both_ways true e refl }
+tells_same_list one [] (y ∷ ys) = record { yes = λ e. absurd (both_ways false refl e); no = λ e h. cc }
+tells_same_list one (x ∷ xs) [] = record { yes = λ e. absurd (both_ways false refl e); no = λ e h. cc }
+tells_same_list {X = X} one (x ∷ xs) (y ∷ ys) = tells_alike to from (tells_and (one x y) (tells_same_list one xs ys))
   where
-    by : Tri a b → Decided (a ≡ b)
-    by (before h) = inr (λ e. omega arith)
-    by (same h) = inl h
-    by (behind h) = inr (λ e. omega arith)
+    to : (x ≡ y) × (xs ≡ ys) → x ∷ xs ≡ y ∷ ys
+    to (e, f) = cc
 
-pub decided_less : (a b : ℕ) → Decided (a < b)
-decided_less a b = by (tri a b)
+    from : x ∷ xs ≡ y ∷ ys → (x ≡ y) × (xs ≡ ys)
+    from h = let first : x ≡ y = cc in let rest : xs ≡ ys = cc in (first, rest)
+
+pub tells_same_numbers : (xs ys : List ℕ) → Tells (same_numbers xs ys) (xs ≡ ys)
+tells_same_numbers xs ys = tells_same_list {same = λ x y. x == y} tells_equal xs ys
+
+-- ---- tests of the elements of a list
+
+pub tells_all : {X : Type 0} {test : X → Bool} {P : X → Type 0} → ((x : X) → Tells (test x) (P x)) → (xs : List X) → Tells (list_all test xs) (All P xs)
+tells_all one [] = record { yes = λ e k d lt. absurd (omega arith); no = λ e h. both_ways true e refl }
+tells_all {X = X} {test = test} {P = P} one (x ∷ xs) = tells_alike to from (tells_and (one x) (tells_all {test = test} {P = P} one xs))
   where
-    by : Tri a b → Decided (a < b)
-    by (before h) = inl h
-    by (same h) = inr (λ e. omega arith)
-    by (behind h) = inr (λ e. omega arith)
+    to : P x × All P xs → All P (x ∷ xs)
+    to h zero d lt = h.0
+    to h (suc k) d lt = h.1 k d (omega arith)
 
-pub decided_at_most : (a b : ℕ) → Decided (a ≤ b)
-decided_at_most a b = by (tri a b)
+    from : All P (x ∷ xs) → P x × All P xs
+    from h = (h 0 x (omega arith), λ k d lt. h (suc k) d (omega arith))
+
+pub tells_if_some : {X : Type 0} {test : X → Bool} {P : X → Type 0} → ((x : X) → Tells (test x) (P x)) → (o : Option X) → Tells (passes_if_some test o) ((x : X) → o ≡ Some x → P x)
+tells_if_some one None = record { yes = λ e x is. absurd (cc); no = λ e h. both_ways true e refl }
+tells_if_some {X = X} {test = test} {P = P} one (Some y) = tells_alike to (λ h. h y refl) (one y)
   where
-    by : Tri a b → Decided (a ≤ b)
-    by (before h) = inl (omega arith)
-    by (same h) = inl (omega arith)
-    by (behind h) = inr (λ e. omega arith)
+    to : P y → (x : X) → Some y ≡ Some x → P x
+    to p x is = let there : y ≡ x = cc in subst P there p
 
-pub decided_same_list : {X : Type 0} → ((a b : X) → Decided (a ≡ b)) → (xs ys : List X) → Decided (xs ≡ ys)
-decided_same_list one [] [] = inl refl
-decided_same_list one [] (y ∷ ys) = inr (λ e. cc)
-decided_same_list one (x ∷ xs) [] = inr (λ e. cc)
-decided_same_list {X = X} one (x ∷ xs) (y ∷ ys) = by (one x y) (decided_same_list one xs ys)
+pub tells_some : {X : Type 0} {test : X → Bool} {P : X → Type 0} → ((x : X) → Tells (test x) (P x)) → (o : Option X) → Tells (is_some_that_passes test o) ((x : X) × (o ≡ Some x) × P x)
+tells_some one None = record { yes = λ e. absurd (both_ways false refl e); no = λ e h. let none = h.1 in cc }
+tells_some {X = X} {test = test} {P = P} one (Some y) = tells_alike (λ p. (y, refl, p)) from (one y)
   where
-    by : Decided (x ≡ y) → Decided (xs ≡ ys) → Decided (x ∷ xs ≡ y ∷ ys)
-    by (inl e) (inl f) = inl (cc)
-    by (inl e) (inr fails) = inr (λ h. let rest : xs ≡ ys = cc in fails rest)
-    by (inr fails) f = inr (λ h. let first : x ≡ y = cc in fails first)
+    from : (x : X) × (Some y ≡ Some x) × P x → P y
+    from (x, is, p) = let there : x ≡ y = cc in subst P there p
 
-pub decided_same_numbers : (xs ys : List ℕ) → Decided (xs ≡ ys)
-decided_same_numbers xs ys = decided_same_list decided_equal xs ys
+-- whether some split of a text passes
+pub record SomeSplit (P : List ℕ → List ℕ → Type 0) (text : List ℕ) : Type 0 where
+  pub front : List ℕ
+  pub rest : List ℕ
+  pub whole : text ≡ front ++ rest
+  pub holds : P front rest
 
--- ---- decisions about each element of a list
+module _ {P : List ℕ → List ℕ → Type 0} where
+  at_end : P [] [] → SomeSplit P []
+  at_end p = record { front = []; rest = []; whole = refl; holds = p }
 
-pub decided_all : {X : Type 0} {P : X → Type 0} → ((x : X) → Decided (P x)) → (xs : List X) → Decided (All P xs)
-decided_all one [] = inl (λ k d lt. absurd (omega arith))
-decided_all {X = X} {P = P} one (x ∷ xs) = by (one x) (decided_all {P = P} one xs)
+  pub only_at_end : SomeSplit P [] → P [] []
+  only_at_end h = by h.front h.rest h.whole h.holds
+    where
+      by : (front rest : List ℕ) → [] ≡ front ++ rest → P front rest → P [] []
+      by [] rest e p = subst (λ (r : List ℕ). P [] r) (sym e) p
+      by (c ∷ front) rest e p = absurd (cc)
+
+  pub at_front : (c : ℕ) (text : List ℕ) → P [] (c ∷ text) ⊎ SomeSplit (λ front rest. P (c ∷ front) rest) text → SomeSplit P (c ∷ text)
+  at_front c text (inl p) = record { front = []; rest = c ∷ text; whole = refl; holds = p }
+  at_front c text (inr h) = record { front = c ∷ h.front; rest = h.rest; whole = ap (λ (t : List ℕ). c ∷ t) h.whole; holds = h.holds }
+
+  pub from_front : (c : ℕ) (text : List ℕ) → SomeSplit P (c ∷ text) → P [] (c ∷ text) ⊎ SomeSplit (λ front rest. P (c ∷ front) rest) text
+  from_front c text h = by h.front h.rest h.whole h.holds
+    where
+      by : (front rest : List ℕ) → c ∷ text ≡ front ++ rest → P front rest → P [] (c ∷ text) ⊎ SomeSplit (λ front rest. P (c ∷ front) rest) text
+      by [] rest e p = inl (subst (λ (r : List ℕ). P [] r) (sym e) p)
+      by (d ∷ front) rest e p =
+          let first : d ≡ c = cc in
+          let behind' : text ≡ front ++ rest = cc in
+          inr (record { front = front; rest = rest; whole = behind'; holds = subst (λ (x : ℕ). P (x ∷ front) rest) first p })
+
+pub tells_split : {test : List ℕ → List ℕ → Bool} {P : List ℕ → List ℕ → Type 0} → ((front rest : List ℕ) → Tells (test front rest) (P front rest)) → (text : List ℕ)
+    → Tells (some_split test text) (SomeSplit P text)
+unfolding some_split
+tells_split {P = P} one [] = tells_alike (at_end {P = P}) (only_at_end {P = P}) (one [] [])
+tells_split {test = test} {P = P} one (c ∷ text) =
+    tells_alike (at_front {P = P} c text) (from_front {P = P} c text)
+    (tells_or (one [] (c ∷ text)) (tells_split {test = λ front rest. test (c ∷ front) rest} {P = λ front rest. P (c ∷ front) rest} (λ front rest. one (c ∷ front) rest) text))
+
+-- ---- searches
+
+pub finds_alike : {X : Type 0} {found : Option X} {P Q : X → Type 0} → ((x : X) → P x → Q x) → ((x : X) → Q x → P x) → Finds found P → Finds found Q
+finds_alike to from f = record { some = λ x e. to x (f.some x e); none = λ e x q. f.none e x (from x q) }
+
+pub finds_one : {X : Type 0} (y : X) → Finds (Some y) (λ x. y ≡ x)
+finds_one y = record { some = λ x e. cc; none = λ e x p. cc }
+
+pub finds_when : {X : Type 0} {test : Bool} {found : Option X} {P : Type 0} {Q : X → Type 0} → Tells test P → Finds found Q → Finds (when test found) (λ x. P × Q x)
+finds_when {test = true} t f = record { some = λ x e. (t.yes refl, f.some x e); none = λ e x h. f.none e x h.1 }
+finds_when {test = false} t f = record { some = λ x e. absurd (cc); none = λ e x h. t.no refl h.0 }
+
+pub finds_or : {X : Type 0} {a b : Option X} {P Q : X → Type 0} → Finds a P → Finds b Q → Finds (option_or a b) (λ x. P x ⊎ Q x)
+finds_or {X = X} {a = None} {b = b} {P = P} {Q = Q} f g = record { some = λ x e. inr (g.some x e); none = by }
   where
-    joined : P x → All P xs → All P (x ∷ xs)
-    joined p ps zero d lt = p
-    joined p ps (suc k) d lt = ps k d (omega arith)
+    by : b ≡ None → (x : X) → P x ⊎ Q x → ⊥
+    by e x (inl p) = f.none refl x p
+    by e x (inr q) = g.none e x q
+finds_or {a = Some y} f g = record { some = λ x e. inl (f.some x e); none = λ e x h. cc }
 
-    by : Decided (P x) → Decided (All P xs) → Decided (All P (x ∷ xs))
-    by (inl p) (inl ps) = inl (joined p ps)
-    by (inl p) (inr fails) = inr (λ h. fails (λ k d lt. h (suc k) d (omega arith)))
-    by (inr fails) ps = inr (λ h. fails (h 0 x (omega arith)))
+pub record SomeBelow {X : Type 0} (R : ℕ → X → Type 0) (most : ℕ) (x : X) : Type 0 where
+  pub n : ℕ
+  pub below : n < most
+  pub holds : R n x
 
--- whether the element at this index has the property. If the list has no element there, the decision is yes
-pub decided_if_found : {X : Type 0} {P : X → Type 0} → ((x : X) → Decided (P x)) → (xs : List X) (place : ℕ) → Decided ((x : X) → slice_get xs place ≡ Some x → P x)
-decided_if_found {X = X} {P = P} one xs place = by (slice_get xs place) refl
+pub finds_below : {X : Type 0} {at : ℕ → Option X} {R : ℕ → X → Type 0} → ((n : ℕ) → Finds (at n) (R n)) → (most : ℕ) → Finds (first_below at most) (SomeBelow R most)
+unfolding first_below
+finds_below one zero = record { some = λ x e. absurd (cc); none = λ e x h. let lt = h.below in omega arith }
+finds_below {X = X} {at = at} {R = R} one (suc most) = finds_alike to from (finds_or (one 0) (finds_below {at = λ n. at (suc n)} {R = λ n. R (suc n)} (λ n. one (suc n)) most))
   where
-    by : (found : Option X) → slice_get xs place ≡ found → Decided ((x : X) → slice_get xs place ≡ Some x → P x)
-    by None e = inl (λ x is. absurd (cc))
-    by (Some y) e = at (one y)
+    to : (x : X) → R 0 x ⊎ SomeBelow (λ n. R (suc n)) most x → SomeBelow R (suc most) x
+    to x (inl p) = record { n = 0; below = omega arith; holds = p }
+    to x (inr h) = let lt = h.below in record { n = suc h.n; below = omega arith; holds = h.holds }
+
+    from : (x : X) → SomeBelow R (suc most) x → R 0 x ⊎ SomeBelow (λ n. R (suc n)) most x
+    from x h = by h.n h.below h.holds
       where
-        at : Decided (P y) → Decided ((x : X) → slice_get xs place ≡ Some x → P x)
-        at (inl p) = inl (λ x is. let there : y ≡ x = cc in subst P there p)
-        at (inr fails) = inr (λ h. fails (h y e))
-
-pub decided_found : {X : Type 0} {P : X → Type 0} → ((x : X) → Decided (P x)) → (xs : List X) (place : ℕ) → Decided ((x : X) × (slice_get xs place ≡ Some x) × P x)
-decided_found {X = X} {P = P} one xs place = by (slice_get xs place) refl
-  where
-    by : (found : Option X) → slice_get xs place ≡ found → Decided ((x : X) × (slice_get xs place ≡ Some x) × P x)
-    by None e = inr (λ h. let none = h.1 in absurd (cc))
-    by (Some y) e = at (one y)
-      where
-        at : Decided (P y) → Decided ((x : X) × (slice_get xs place ≡ Some x) × P x)
-        at (inl p) = inl (y, e, p)
-        at (inr fails) = inr (λ h. let there : h.0 ≡ y = let is = h.1 in cc in fails (subst P there h.2))
-
--- ---- a search among finitely many values
-
-pub search_below : {P : ℕ → Type 0} → ((n : ℕ) → Decided (P n)) → (most : ℕ) → Decided ((n : ℕ) × (n < most) × P n)
-search_below one zero = inr (λ h. let lt = h.1 in absurd (omega arith))
-search_below {P = P} one (suc most) = by (one 0) (search_below {P = λ n. P (suc n)} (λ n. one (suc n)) most)
-  where
-    by : Decided (P 0) → Decided ((n : ℕ) × (n < most) × P (suc n)) → Decided ((n : ℕ) × (n < suc most) × P n)
-    by (inl p) more = inl (0, omega arith, p)
-    by (inr fails) (inl found) = let lt = found.1 in inl (suc found.0, omega arith, found.2)
-    by (inr fails) (inr none) = inr (λ h. at h.0 h.1 h.2)
-      where
-        at : (n : ℕ) → n < suc most → P n → ⊥
-        at zero lt p = fails p
-        at (suc n) lt p = none (n, omega arith, p)
+        by : (n : ℕ) → n < suc most → R n x → R 0 x ⊎ SomeBelow (λ n. R (suc n)) most x
+        by zero lt p = inl p
+        by (suc n) lt p = inr (record { n = n; below = omega arith; holds = p })
 
 pub record IsWithinLimits (len most : ℕ) (list : List ℕ) : Type 0 where
   pub within_limit : length list ≤ len
   pub small : AllByRecursion (λ x. x < most) list
 
-pub search_lists : {P : List ℕ → Type 0} → ((list : List ℕ) → Decided (P list)) → (len most : ℕ) → Decided ((list : List ℕ) × IsWithinLimits len most list × P list)
-search_lists {P = P} one zero most = by (one [])
-  where
-    by : Decided (P []) → Decided ((list : List ℕ) × IsWithinLimits zero most list × P list)
-    by (inl p) = inl ([], record { within_limit = omega arith; small = tt }, p)
-    by (inr fails) = inr (λ h. at h.0 h.1 h.2)
-      where
-        at : (list : List ℕ) → IsWithinLimits zero most list → P list → ⊥
-        at [] within p = fails p
-        at (x ∷ list) within p = let within_limit = within.within_limit in absurd (omega arith)
-search_lists {P = P} one (suc len) most =
-    by (one []) (search_below {P = λ x. (list : List ℕ) × IsWithinLimits len most list × P (x ∷ list)} (λ x. search_lists {P = λ list. P (x ∷ list)} (λ list. one (x ∷ list)) len most) most)
-  where
-    by : Decided (P []) → Decided ((x : ℕ) × (x < most) × ((list : List ℕ) × IsWithinLimits len most list × P (x ∷ list))) → Decided ((list : List ℕ) × IsWithinLimits (suc len) most list × P list)
-    by (inl p) more = inl ([], record { within_limit = omega arith; small = tt }, p)
-    by (inr fails) (inl found) =
-        let within_limit = found.2.1.within_limit in
-        inl (found.0 ∷ found.2.0, record { within_limit = omega arith; small = (found.1, found.2.1.small) }, found.2.2)
-    by (inr fails) (inr none) = inr (λ h. at h.0 h.1 h.2)
-      where
-        at : (list : List ℕ) → IsWithinLimits (suc len) most list → P list → ⊥
-        at [] within p = fails p
-        at (x ∷ list) within p =
-            let within_limit = within.within_limit in
-            none (x, within.small.0, (list, record { within_limit = omega arith; small = within.small.1 }, p))
+pub record SomeList {X : Type 0} (R : List ℕ → X → Type 0) (len most : ℕ) (x : X) : Type 0 where
+  pub list : List ℕ
+  pub within : IsWithinLimits len most list
+  pub holds : R list x
 
-pub search_splits : {P : List ℕ → List ℕ → Type 0} → ((front rest : List ℕ) → Decided (P front rest)) → (text : List ℕ)
-    → Decided ((front : List ℕ) × (rest : List ℕ) × (text ≡ front ++ rest) × P front rest)
-search_splits {P = P} one [] = by (one [] [])
+empty_within : (len most : ℕ) → IsWithinLimits len most []
+empty_within len most = record { within_limit = omega arith; small = tt }
+
+longer_within : (len most x : ℕ) (list : List ℕ) → x < most → IsWithinLimits len most list → IsWithinLimits (suc len) most (x ∷ list)
+longer_within len most x list lt is = let within_limit = is.within_limit in record { within_limit = omega arith; small = (lt, is.small) }
+
+pub finds_list : {X : Type 0} {at : List ℕ → Option X} {R : List ℕ → X → Type 0} → ((list : List ℕ) → Finds (at list) (R list)) → (len most : ℕ)
+    → Finds (first_list at len most) (SomeList R len most)
+unfolding first_list
+finds_list {X = X} {R = R} one zero most = finds_alike (λ x p. record { list = []; within = empty_within 0 most; holds = p }) from (one [])
   where
-    by : Decided (P [] []) → Decided ((front : List ℕ) × (rest : List ℕ) × ([] ≡ front ++ rest) × P front rest)
-    by (inl p) = inl ([], [], refl, p)
-    by (inr fails) = inr (λ h. at h.0 h.1 h.2 h.3)
+    from : (x : X) → SomeList R zero most x → R [] x
+    from x h = by h.list h.within h.holds
       where
-        at : (front rest : List ℕ) → [] ≡ front ++ rest → P front rest → ⊥
-        at [] rest e p = fails (subst (λ (r : List ℕ). P [] r) (sym e) p)
-        at (c ∷ front) rest e p = absurd (cc)
-search_splits {P = P} one (c ∷ text) = by (one [] (c ∷ text)) (search_splits {P = λ front rest. P (c ∷ front) rest} (λ front rest. one (c ∷ front) rest) text)
+        by : (list : List ℕ) → IsWithinLimits zero most list → R list x → R [] x
+        by [] within p = p
+        by (y ∷ list) within p = let within_limit = within.within_limit in absurd (omega arith)
+finds_list {X = X} {at = at} {R = R} one (suc len) most =
+    finds_alike to from
+    (finds_or (one [])
+    (finds_below {at = λ y. first_list (λ list. at (y ∷ list)) len most} {R = λ y. SomeList (λ list. R (y ∷ list)) len most}
+    (λ y. finds_list {at = λ list. at (y ∷ list)} {R = λ list. R (y ∷ list)} (λ list. one (y ∷ list)) len most) most))
   where
-    by : Decided (P [] (c ∷ text)) → Decided ((front : List ℕ) × (rest : List ℕ) × (text ≡ front ++ rest) × P (c ∷ front) rest)
-        → Decided ((front : List ℕ) × (rest : List ℕ) × (c ∷ text ≡ front ++ rest) × P front rest)
-    by (inl p) more = inl ([], c ∷ text, refl, p)
-    by (inr fails) (inl found) = inl (c ∷ found.0, found.1, ap (λ (t : List ℕ). c ∷ t) found.2, found.3)
-    by (inr fails) (inr none) = inr (λ h. at h.0 h.1 h.2 h.3)
+    to : (x : X) → R [] x ⊎ SomeBelow (λ y. SomeList (λ list. R (y ∷ list)) len most) most x → SomeList R (suc len) most x
+    to x (inl p) = record { list = []; within = empty_within (suc len) most; holds = p }
+    to x (inr h) = record { list = h.n ∷ h.holds.list; within = longer_within len most h.n h.holds.list h.below h.holds.within; holds = h.holds.holds }
+
+    from : (x : X) → SomeList R (suc len) most x → R [] x ⊎ SomeBelow (λ y. SomeList (λ list. R (y ∷ list)) len most) most x
+    from x h = by h.list h.within h.holds
       where
-        at : (front rest : List ℕ) → c ∷ text ≡ front ++ rest → P front rest → ⊥
-        at [] rest e p = fails (subst (λ (r : List ℕ). P [] r) (sym e) p)
-        at (d ∷ front) rest e p =
-            let first : c ≡ d = cc in
-            let behind' : text ≡ front ++ rest = cc in
-            none (front, rest, behind', subst (λ (x : ℕ). P (x ∷ front) rest) (sym first) p)
+        by : (list : List ℕ) → IsWithinLimits (suc len) most list → R list x → R [] x ⊎ SomeBelow (λ y. SomeList (λ list. R (y ∷ list)) len most) most x
+        by [] within p = inl p
+        by (y ∷ list) within p =
+            let within_limit = within.within_limit in
+            inr (record { n = y; below = within.small.0; holds = record { list = list; within = record { within_limit = omega arith; small = within.small.1 }; holds = p } })
+
+pub finds_split : {X : Type 0} {at : List ℕ → List ℕ → Option X} {R : List ℕ → List ℕ → X → Type 0} → ((front rest : List ℕ) → Finds (at front rest) (R front rest)) → (text : List ℕ)
+    → Finds (first_split at text) (λ x. SomeSplit (λ front rest. R front rest x) text)
+unfolding first_split
+finds_split {R = R} one [] = finds_alike (λ x. at_end {P = λ front rest. R front rest x}) (λ x. only_at_end {P = λ front rest. R front rest x}) (one [] [])
+finds_split {at = at} {R = R} one (c ∷ text) =
+    finds_alike (λ x. at_front {P = λ front rest. R front rest x} c text) (λ x. from_front {P = λ front rest. R front rest x} c text)
+    (finds_or (one [] (c ∷ text)) (finds_split {at = λ front rest. at (c ∷ front) rest} {R = λ front rest. R (c ∷ front) rest} (λ front rest. one (c ∷ front) rest) text))

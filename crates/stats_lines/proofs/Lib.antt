@@ -1,7 +1,7 @@
 pub mod Deciding
 pub mod Values
 pub mod Grammar
-pub mod Places
 pub mod Next
+pub mod Places
 pub mod Steps
-pub mod DecidedResults
+pub mod Results

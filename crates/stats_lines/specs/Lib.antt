@@ -1,0 +1,4 @@
+pub mod Searches
+pub mod LineForms
+pub mod NextValues
+pub mod Results
