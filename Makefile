@@ -17,6 +17,9 @@ DATA := examples/$(EXAMPLE)
 WORDS :=
 COMPILE :=
 
+# The parts that `make checks` runs, all without a name.
+PARTS :=
+
 .PHONY: help run archive build install uninstall deb release library command engines postgres test checks edits bench memory limits clean
 
 ## make checks    the tests, without the kit: of what is built, or else of the release in dist/ (under five minutes)
@@ -31,9 +34,9 @@ COMPILE :=
 ## make postgres  builds the extension for PostgreSQL 15 over the library, and tests it on a server of its own (docs/POSTGRES.md; minutes)
 ## make clean     removes what was built
 ##
-## These need the Rattle kit (CONTRIBUTING.md). Where docs/PROOFS.md has their times, from nothing, none are given here.
+## These need the Rattle kit (CONTRIBUTING.md). docs/PROOFS.md has the times of the build and of the gate.
 ##
-## make build     proves and builds the program; it says how long it still takes (half a minute where all proofs are kept)
+## make build     proves and builds the program; it says how long it still takes
 ## make library   proves and builds the library for C, Python and Rust (docs/EMBEDDING.md)
 ## make command   proves and builds the whole program as a library over files in memory
 ## make test      the gate: every proof, the gate's own edits, the libraries, and make checks; it says how far it is
@@ -92,9 +95,9 @@ test:
 # A make that a test calls must not share the jobs of this one.
 unexport MAKEFLAGS
 
-# The tests of what is built, or else of the release: tools/checks has the list. make check-cases runs one part.
+# The tests of what is built, or else of the release: tools/checks lists the parts. PARTS="cases engines" are some of them.
 checks:
-	@tools/checks
+	@tools/checks $(PARTS)
 check-%:
 	@tools/checks $*
 

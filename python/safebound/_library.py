@@ -121,12 +121,12 @@ def find(name: str, variable: str) -> Path:
     )
 
 
-def load(found: Path) -> ctypes.CDLL:
-    """Loads a shared object."""
+def load(found: Path, variable: str) -> ctypes.CDLL:
+    """Loads a shared object. The variable is the one that may name another."""
     try:
         return ctypes.CDLL(str(found))
     except OSError as error:
-        raise errors.LibraryNotFound(f"{found} can't be loaded as a library: {error}") from None
+        raise errors.LibraryNotFound(f"{found} can't be loaded ({error}): name another file by {variable}") from None
 
 
 def other_version(found: Path, target: str, variable: str) -> errors.LibraryNotFound:
@@ -156,7 +156,7 @@ def path() -> Path:
 
 @functools.lru_cache(maxsize=None)
 def _library() -> ctypes.CDLL:
-    found = load(path())
+    found = load(path(), VARIABLE)
     numbers, size, detail = ctypes.POINTER(_Number), ctypes.c_size_t, ctypes.POINTER(_Number)
     runs = ctypes.POINTER(Run)
     query = [numbers, size, ctypes.POINTER(Equality), size, ctypes.POINTER(List), size, runs, size]

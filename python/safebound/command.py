@@ -49,7 +49,7 @@ def _version_of(found: ctypes.CDLL) -> str | None:
 @functools.lru_cache(maxsize=None)
 def _library() -> ctypes.CDLL:
     where = find(NAME, VARIABLE)
-    found = load(where)
+    found = load(where, VARIABLE)
     if _version_of(found) != VERSION:
         raise other_version(where, "command", VARIABLE)
     size, number = ctypes.c_size_t, ctypes.POINTER(ctypes.c_uint64)
