@@ -19,8 +19,12 @@ from server import TemporaryServer, programs
 
 __all__ = ("SETTINGS", "SKIPPED", "TemporaryServer", "Installed", "copy_server", "missing", "programs")
 
-# The exit status of tests that can't run here. Settings of a test server: plans don't depend on the compiler, and each session loads the extension.
+# The exit status of tests that can't run here.
 SKIPPED = 77
+NEEDS = (
+    "needs PostgreSQL 15, its headers and psycopg: apt-get install postgresql-15 postgresql-server-dev-15 python3-psycopg"
+)
+# Settings of a test server: plans don't depend on the compiler, and each session loads the extension.
 SETTINGS = ("session_preload_libraries=safebound", "jit=off")
 
 
@@ -30,14 +34,13 @@ def pg_config(word: str) -> str:
 
 def missing() -> str | None:
     """What tests need and isn't installed, with its packages; None if all is."""
-    needs = "needs PostgreSQL 15, its headers and psycopg: apt-get install postgresql-15 postgresql-server-dev-15 python3-psycopg"
     if not shutil.which("pg_config") or not importlib.util.find_spec("psycopg"):
-        return needs
+        return NEEDS
     if not pg_config("--version").startswith("PostgreSQL 15"):
-        return f"{needs} ({pg_config('--version')} is here)"
+        return f"{NEEDS} ({pg_config('--version')} is here)"
     headers, folder = pg_config("--includedir-server"), pg_config("--bindir")
     if not os.path.exists(os.path.join(headers, "postgres.h")) or not os.path.exists(os.path.join(folder, "initdb")):
-        return needs
+        return NEEDS
     return None
 
 

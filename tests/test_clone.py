@@ -15,6 +15,7 @@ import shutil
 import subprocess
 import tempfile
 import unittest
+from typing import Sequence
 
 ROOT = os.path.dirname(os.path.dirname(os.path.abspath(__file__)))
 NEEDS_KIT = ("test", "build", "library", "command", "release", "edits", "bench", "memory", "limits")
@@ -49,14 +50,16 @@ class Bare:
                 if name not in ("rt", "pip", "pip3") and not os.path.lexists(os.path.join(self.programs, name)):
                     os.symlink(os.path.join(folder, name), os.path.join(self.programs, name))
 
-    def run(self, *words: str, folder: str = "", without: str = "", **variables: str) -> tuple[int, str]:
-        """The status and both streams of a command, which has no variables but a PATH and these."""
+    def run(
+        self, *words: str, folder: str = "", without: Sequence[str] = (), **variables: str
+    ) -> tuple[int, str]:
+        """The status and both streams of a command, which has no variables but a PATH and these. Programs in `without`
+        aren't on the PATH.
+        """
         path = self.programs
         if without:
-            path = os.path.join(self.room, f"without-{without}")
-            if not os.path.isdir(path):
-                shutil.copytree(self.programs, path, symlinks=True)
-                os.remove(os.path.join(path, without))
+            path = os.path.join(tempfile.mkdtemp(dir=self.room), "programs")
+            shutil.copytree(self.programs, path, symlinks=True, ignore=shutil.ignore_patterns(*without))
         environment = {"PATH": path, "HOME": self.room, "PYTHONDONTWRITEBYTECODE": "1", **variables}
         done = subprocess.run(
             words, cwd=folder or self.root, env=environment, stdin=subprocess.DEVNULL, stdout=subprocess.PIPE,
@@ -71,14 +74,13 @@ class InClone(unittest.TestCase):
     clone: Bare
     apart = True
 
-    def passes(self, *words: str, folder: str = "", without: str = "", **variables: str) -> str:
+    def passes(self, *words: str, folder: str = "", without: Sequence[str] = (), **variables: str) -> str:
         status, said = self.clone.run(*words, folder=folder, without=without, **variables)
         self.assertEqual(status, 0, said)
         return said
 
     def room(self) -> str:
-        folder = tempfile.mkdtemp(dir=self.clone.room)
-        return folder
+        return tempfile.mkdtemp(dir=self.clone.room)
 
 
 def setUpModule() -> None:
@@ -142,7 +144,8 @@ class Targets(InClone):
     def test_a_relative_library_begins_where_one_stands(self) -> None:
         stands, into = self.room(), self.room()
         shutil.copytree(os.path.join(self.clone.root, "dist"), os.path.join(stands, "own"))
-        words = ["make", "-s", "-C", self.clone.root, "install", f"DESTDIR={into}", "LIBRARY=own", "PROGRAM=own/safebound_cli"]
+        words = ["make", "-s", "-C", self.clone.root, "install", f"DESTDIR={into}"]
+        words += ["LIBRARY=own", "PROGRAM=own/safebound_cli"]
         said = self.passes(*words, folder=stands, PWD=stands)
         self.assertNotIn(RELEASED, said)
         self.assertTrue(os.path.exists(os.path.join(into, "usr", "local", "lib", "libsafebound.so")))
@@ -199,8 +202,8 @@ class Libraries(InClone):
         into, stands = self.room(), self.room()
         said = self.passes("make", "-s", "install", f"DESTDIR={into}", "PG_CONFIG=pg_config")
         self.assertIn("/safebound.control\n", said)
+        shutil.copy(os.path.join(self.clone.root, "dist", "libsafebound.a"), os.path.join(stands, "own.a"))
         for at, library in ((self.clone.root, "dist/libsafebound.a"), (stands, "own.a")):
-            shutil.copy(os.path.join(self.clone.root, "dist", "libsafebound.a"), os.path.join(stands, "own.a"))
             words = ["make", "-n", "-C", os.path.join(self.clone.root, "postgres"), f"LIBRARY={library}"]
             self.assertIn(f" {at}/{library} ", self.passes(*words, folder=at, PWD=at))
         words = ["make", "-C", os.path.join(self.clone.root, "postgres"), "LIBRARY=/nowhere.a"]
@@ -222,20 +225,16 @@ class Checks(InClone):
         self.assertEqual(said.splitlines()[-1], "1 passed, 1 failed")
 
     def test_a_part_that_can_not_run_is_skipped_with_its_package(self) -> None:
-        said = self.passes("tools/checks", "library-rust", "numbers", without="cc")
+        said = self.passes("tools/checks", "library-rust", "numbers", without=("cc",))
         self.assertIn("\nskipped library-rust: needs a C compiler: apt-get install gcc libc6-dev", said)
         self.assertEqual(said.splitlines()[-1], "1 passed, 0 failed, 1 skipped")
 
     def test_a_part_that_tests_nothing_is_not_green(self) -> None:
-        for names in (("pyflakes3", "pycodestyle", "mypy"),):
-            few = os.path.join(self.room(), "programs")
-            shutil.copytree(self.clone.programs, few, symlinks=True)
-            for name in filter(lambda name: os.path.lexists(os.path.join(few, name)), names):
-                os.remove(os.path.join(few, name))
-            said = self.passes("tools/checks", "python", "numbers", PATH=few)
-            self.assertIn("skipped python: not checked by mypy, pycodestyle, pyflakes3: apt-get install", said)
-        status, said = self.clone.run("cases/run-cases", "--features", "nothing", "dist/safebound_cli")
-        self.assertEqual(status, int("0 passed" in said), said)
+        said = self.passes("tools/checks", "python", "numbers", without=("pyflakes3", "pycodestyle", "mypy"))
+        self.assertIn("\nskipped python: not checked by mypy, pycodestyle, pyflakes3: apt-get install", said)
+        empty = self.room()
+        status, said = self.clone.run("cases/run-cases", "--cases", empty, "dist/safebound_cli")
+        self.assertEqual((status, said), (1, "0 passed, 0 failed\n"))
 
     def test_unknown_parts_are_named(self) -> None:
         status, said = self.clone.run("tools/checks", "none")

@@ -181,9 +181,10 @@ class TestSetup:
 
 
 class Installed(unittest.TestCase):
-    """Tests over the installed command, each in a temporary folder of its own. tests/run spreads them over processes."""
+    """Tests over the installed command, each in a temporary folder of its own."""
 
     installed: TestSetup
+    # tests/run may run the tests of one class in several processes.
     apart = True
 
     def setUp(self) -> None:
