@@ -22,7 +22,7 @@ PARTS :=
 
 .PHONY: help run archive build install uninstall deb release library command engines postgres test checks edits bench memory limits clean
 
-## make checks    the tests, without the kit: of what is built, or else of the release in dist/ (under five minutes)
+## make checks    the tests, without the kit: of what is built, or else of the release in dist/ (five minutes; it says what it skips)
 ## make run       runs a query over examples/trips, or over a folder of yours: make run DATA=FOLDER (2 seconds; with COMPILE=yes
 ##                a minute, by a program that the kit compiles now, of which nothing is proved)
 ## make archive   fetches what Debian's archive says of itself by apt (55 MB), makes tables of 2,400,000 rows of it, and answers one

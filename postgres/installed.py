@@ -21,9 +21,8 @@ __all__ = ("SETTINGS", "SKIPPED", "TemporaryServer", "Installed", "copy_server",
 
 # The exit status of tests that can't run here.
 SKIPPED = 77
-NEEDS = (
-    "needs PostgreSQL 15, its headers and psycopg: apt-get install postgresql-15 postgresql-server-dev-15 python3-psycopg"
-)
+PACKAGES = "postgresql-15 postgresql-server-dev-15 python3-psycopg"
+NEEDS = f"needs PostgreSQL 15, its headers and psycopg: apt-get install {PACKAGES}"
 # Settings of a test server: plans don't depend on the compiler, and each session loads the extension.
 SETTINGS = ("session_preload_libraries=safebound", "jit=off")
 
