@@ -1,5 +1,8 @@
-PROGRAM := crates/safebound_cli/out/safebound_cli
-LIBRARY := library/out
+# The program, and the folder of the libraries. Where they aren't given, tools/built takes what was built here, or else the
+# release in dist/. A relative path begins where the user stands, whom `make -C` doesn't move.
+PROGRAM :=
+LIBRARY :=
+export STANDS := $(PWD)
 
 # Where `make install` puts what was built, and `make uninstall` removes it.
 PREFIX ?= /usr/local
@@ -14,34 +17,41 @@ DATA := examples/$(EXAMPLE)
 WORDS :=
 COMPILE :=
 
+# The parts that `make checks` runs, all without a name.
+PARTS :=
+
 .PHONY: help run archive build install uninstall deb release library command engines postgres test checks edits bench memory limits clean
 
-## make run       runs a query over examples/trips, or over a folder of yours: make run DATA=FOLDER
-##                (2 seconds, with the built program or else the release's; with COMPILE=yes a minute, by one that the kit compiles
-##                now, of which nothing is proved)
+## make checks    the tests, without the kit: of what is built, or else of the release in dist/ (five minutes; it says what it skips)
+## make run       runs a query over examples/trips, or over a folder of yours: make run DATA=FOLDER (2 seconds; with COMPILE=yes
+##                a minute, by a program that the kit compiles now, of which nothing is proved)
 ## make archive   fetches what Debian's archive says of itself by apt (55 MB), makes tables of 2,400,000 rows of it, and answers one
 ##                question, with bounds, rows and a picture (about two minutes; Debian only)
-## make build     proves and builds the program (the first time 18 minutes, when it had 54 crates; it says how long it still takes)
-## make library   proves and builds the library for C, Python and Rust (docs/EMBEDDING.md; under ten minutes the first time)
-## make command   proves and builds the whole program as a library over files in memory (a minute, once make build has run)
-## make install   installs what was built, program and libraries, below PREFIX, /usr/local (2 seconds); make uninstall removes it;
-##                with PG_CONFIG=pg_config the extension too, for that PostgreSQL 15
-## make deb       makes Debian packages of all that make install installs, in out/ (3 seconds, once it is built)
+## make install   installs program and libraries, those that were built or else the release's, below PREFIX, /usr/local (2 seconds);
+##                with PG_CONFIG=pg_config the extension too, for that PostgreSQL 15; make uninstall removes it all
+## make deb       makes Debian packages of all that make install installs, in out/ (3 seconds)
 ## make engines   tests safebound-sql on SQLite and on a PostgreSQL of its own, over the library (docs/ENGINES.md; minutes)
-## make postgres  builds the extension for PostgreSQL 15 over the library, or where it isn't built over the release's, and tests it on a
-##                server of its own (docs/POSTGRES.md; minutes)
+## make postgres  builds the extension for PostgreSQL 15 over the library, and tests it on a server of its own (docs/POSTGRES.md; minutes)
+## make clean     removes what was built
+##
+## These need the Rattle kit (CONTRIBUTING.md). docs/PROOFS.md has the times of the build and of the gate.
+##
+## make build     proves and builds the program; it says how long it still takes
+## make library   proves and builds the library for C, Python and Rust (docs/EMBEDDING.md)
+## make command   proves and builds the whole program as a library over files in memory
+## make test      the gate: every proof, the gate's own edits, the libraries, and make checks; it says how far it is
 ## make release   builds the last commit twice, from clean clones, and puts the result into dist/ (minutes, where the proofs are kept)
-## make test      the gate: every proof, the gate's own edits, every test (from nothing about 75 minutes, eight where all is kept; it says how far it is)
-## make checks    the gate's tests of what is built, side by side (five minutes)
 ## make edits     every wrong body that a contract must refuse (two hours); make edits CRATES="plans set_bounds" some of them
 ## make bench     measures beside plain Rust and databases (minutes, once built)
 ## make memory    runs with each request for memory refused in turn (minutes)
 ## make limits    runs at the limits of tables, texts and the budget (minutes)
-## make clean     removes what was built
 
 # The targets with their times: the lines of this file that begin with two #.
 help:
-	@sed -n 's/^## //p' Makefile
+	@sed -n 's/^## \{0,1\}//p' Makefile
+
+# Stands before a recipe that needs the kit. Without it make ends here, with one line.
+kit = $(if $(shell command -v rt),,$(error $(shell tools/needs-kit "make $@")))
 
 # The proved program where `make build` left it, else the release's.
 run:
@@ -53,7 +63,7 @@ archive:
 
 # The program, proved.
 build:
-	@tools/build
+	@$(kit)tools/build
 
 install:
 	@PROGRAM="$(PROGRAM)" LIBRARY="$(LIBRARY)" tools/install "$(PREFIX)" "$(DESTDIR)"
@@ -61,82 +71,35 @@ install:
 uninstall:
 	@tools/install --remove "$(PREFIX)" "$(DESTDIR)"
 
-# What isn't built yet is built first.
 deb:
-	@test -f "$(PROGRAM)" || $(MAKE) build
-	@test -f "$(LIBRARY)/libsafebound.so" || $(MAKE) library
-	@test -f "$(LIBRARY)/libsafebound_command.so" || $(MAKE) command
 	@PROGRAM="$(PROGRAM)" LIBRARY="$(LIBRARY)" tools/deb "$(PACKAGES)"
 
 # The release in dist/, from the last commit.
 release:
-	@tools/release
+	@$(kit)tools/release
 
 # The library for C, Python and Rust, proved: library/out has it, docs/EMBEDDING.md says how it is used.
 library:
-	@tools/build safebound_c
+	@$(kit)tools/build safebound_c
 	@library/build
 
 # The whole program over files in memory, for C, Python and Rust.
 command:
-	@tools/build safebound_command
+	@$(kit)tools/build safebound_command
 	@library/build --command
 
 # Everything: each proof that this machine hasn't kept, the gate's own edits, the tests, the stored runs, random ones.
 test:
-	.ci/run
-
-# What the gate does after its proofs, side by side, the longest first: each reads what was built, and writes into folders of its own.
-CHECKS := engines postgres library command install heads friendly browser differential process pages cases examples memory-there uncalled numbers python release
-FEATURES := run,plan,audit,stats,append,many-entries,filters,words,accuracy,reduce,count,bushy,keys
-
-.PHONY: $(CHECKS:%=check-%)
+	@$(kit).ci/run
 
 # A make that a test calls must not share the jobs of this one.
 unexport MAKEFLAGS
 
+# The tests of what is built, or else of the release: tools/checks lists the parts. PARTS="cases engines" are some of them.
 checks:
-	@$(MAKE) --jobs=$$(nproc) --keep-going --output-sync=target --no-print-directory $(CHECKS:%=check-%)
-
-check-pages:
-	tools/check-docs
-	tools/check-places
-check-heads:
-	tools/check-heads --must
-check-memory-there:
-	tests/memory-there
-check-uncalled:
-	tools/uncalled --check
-check-numbers:
-	tools/limits --check
-check-cases:
-	cases/run-cases --features $(FEATURES),demo,sql,cyclic,memory "$(PROGRAM)"
-check-examples:
-	examples/check "$(PROGRAM)"
-check-process:
-	cases/process "$(PROGRAM)"
-check-differential:
-	cases/differential --features $(FEATURES) --runs 300 "$(PROGRAM)"
-	cases/differential --features run,plan,audit,many-entries,filters,words,bushy,count --runs 100 --fewest 5 --entries 7 "$(PROGRAM)"
-check-friendly:
-	PROGRAM="$(PROGRAM)" python3 -B -m unittest tests/test_friendly.py
-check-browser:
-	PROGRAM="$(PROGRAM)" /usr/bin/python3 -B -m unittest tests/test_browser.py
-check-library: library
-	library/test
-check-command: command
-	library/test-command
-check-install: library command
-	library/test-install
-	postgres/test-install
-check-engines: library
-	engines/test --gate
-check-postgres: library
-	postgres/test --short
-check-python:
-	tools/check-python
-check-release:
-	tools/release --check
+	@tools/checks $(PARTS)
+check-%:
+	@tools/checks $*
 
 # The extension for PostgreSQL, tested on a server of its own; nothing is installed into the machine's.
 postgres:
@@ -145,10 +108,10 @@ postgres:
 
 # Every wrong body that a contract must refuse, those in more-edits/ too; or those of some crates: make edits CRATES="plans set_bounds".
 edits:
-	tools/edits $(CRATES)
+	@$(kit)tools/edits $(CRATES)
 
 bench: build library
-	@cd crates/bench_degrees && rt run -- time > build.log 2>&1 || { cat build.log; exit 1; }
+	@$(kit)cd crates/bench_degrees && rt run -- time > build.log 2>&1 || { cat build.log; exit 1; }
 	@cd crates/bench_link_index && rt run -- time > build.log 2>&1 || { cat build.log; exit 1; }
 	@cd crates/bench_tables && rt run -- time > build.log 2>&1 || { cat build.log; exit 1; }
 	@cd crates/bench_orders && rt run -- time > build.log 2>&1 || { cat build.log; exit 1; }
@@ -176,7 +139,7 @@ bench: build library
 
 # Runs over devices in memory, with each request for memory refused in turn; and how many bytes a reservation asks for. It takes minutes.
 memory:
-	@cd crates/memory_runs && rt run > build.log 2>&1 || { cat build.log; exit 1; }
+	@$(kit)cd crates/memory_runs && rt run > build.log 2>&1 || { cat build.log; exit 1; }
 	tools/memory
 	@cd crates/memory_counts && rt run > build.log 2>&1 || { cat build.log; exit 1; }
 	tools/memory-bytes
@@ -186,7 +149,7 @@ limits: build
 	bench/limits
 
 # safebound-sql on SQLite and on a PostgreSQL of its own. What isn't installed is installed first (Debian; root or sudo).
-engines: library
+engines:
 	engines/setup --server
 	engines/test --all
 

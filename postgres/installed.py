@@ -17,8 +17,12 @@ HERE = os.path.dirname(os.path.abspath(__file__))
 sys.path[:0] = [os.path.join(HERE, "..", "engines", "servers")]
 from server import TemporaryServer, programs
 
-__all__ = ("SETTINGS", "TemporaryServer", "Installed", "copy_server", "missing", "programs")
+__all__ = ("SETTINGS", "SKIPPED", "TemporaryServer", "Installed", "copy_server", "missing", "programs")
 
+# The exit status of tests that can't run here.
+SKIPPED = 77
+PACKAGES = "postgresql-15 postgresql-server-dev-15 python3-psycopg"
+NEEDS = f"needs PostgreSQL 15, its headers and psycopg: apt-get install {PACKAGES}"
 # Settings of a test server: plans don't depend on the compiler, and each session loads the extension.
 SETTINGS = ("session_preload_libraries=safebound", "jit=off")
 
@@ -28,14 +32,14 @@ def pg_config(word: str) -> str:
 
 
 def missing() -> str | None:
-    """The packages that tests need and that aren't installed; None if all are."""
+    """What tests need and isn't installed, with its packages; None if all is."""
     if not shutil.which("pg_config") or not importlib.util.find_spec("psycopg"):
-        return "pg_config or psycopg"
+        return NEEDS
     if not pg_config("--version").startswith("PostgreSQL 15"):
-        return f"PostgreSQL 15 ({pg_config('--version')} is)"
+        return f"{NEEDS} ({pg_config('--version')} is here)"
     headers, folder = pg_config("--includedir-server"), pg_config("--bindir")
     if not os.path.exists(os.path.join(headers, "postgres.h")) or not os.path.exists(os.path.join(folder, "initdb")):
-        return "PostgreSQL's server or its headers"
+        return NEEDS
     return None
 
 

@@ -3,8 +3,8 @@
 It needs only the standard library.
 
 A wheel has the shared objects beside the package. If SAFEBOUND_LIBRARY_DIR names a folder, they come only from there.
-Otherwise they come, in a clone, from where `make library` and `make command` leave them, or from the folder that
-pkg-config gives for this version, as after `make install`. If the folder has only an archive, the C compiler makes the
+Otherwise they come, in a clone, from where `make library` and `make command` leave them, or else from the release in
+dist/, or from the folder that pkg-config gives for this version, as after `make install`. If the folder has only an archive, the C compiler makes the
 shared object from it.
 
 A source archive has the package and this file. It builds where one of these folders has the library.
@@ -30,6 +30,7 @@ VERSION: str = runpy.run_path(os.path.join(PACKAGE, "_version.py"))["VERSION"]
 INFO = f"safebound-{VERSION}.dist-info"
 LIBRARIES = ("safebound", "safebound_command")
 VARIABLE = "SAFEBOUND_LIBRARY_DIR"
+IN_CLONE = (("library", "out"), ("dist",))
 
 METADATA = f"""\
 Metadata-Version: 2.1
@@ -78,7 +79,7 @@ def installed() -> str:
 
 def folder_of_library() -> str:
     named = os.environ.get(VARIABLE)
-    folders = [named] if named else [os.path.join(HERE, "..", "library", "out"), installed()]
+    folders = [named] if named else [*(os.path.join(HERE, "..", *path) for path in IN_CLONE), installed()]
     found = next((folder for folder in folders if folder and any(files_of(folder, "safebound"))), None)
     if found is None:
         looked = ", ".join(os.path.normpath(folder) for folder in folders if folder)

@@ -1,10 +1,10 @@
 """Looks at the pictures and pages of plans in Debian's chromium, without a screen. Nothing is cut, no number is on the
 budget's line, and a click shows what a step joins.
 
-    /usr/bin/python3 -m unittest tests/test_browser.py
+    /usr/bin/python3 tests/run tests/test_browser.py
 
-PROGRAM names the program; the default is the proved one, which `make build` makes. SHOTS names a folder for the
-screenshots, as PNG. The tests need Debian's chromium, chromium-driver and python3-selenium, which Debian's own Python
+PROGRAM names the program; the default is the one that `make build` made here, or else the release's. SHOTS names a
+folder for the screenshots, as PNG. The tests need Debian's chromium, chromium-driver and python3-selenium, which Debian's own Python
 has; if one of these is missing, they are skipped.
 """
 
@@ -17,8 +17,9 @@ import tempfile
 import unittest
 from typing import Any
 
+from program import chosen_program
+
 ROOT = os.path.dirname(os.path.dirname(os.path.abspath(__file__)))
-BUILT = os.path.join(ROOT, "crates", "safebound_cli", "out", "safebound_cli")
 # The place of each text within its picture, in the picture's own units, and the places of the budget's line.
 PLACES = """
 const svg = document.querySelector('svg'), view = svg.viewBox.baseVal;
@@ -108,15 +109,12 @@ class Pictures(unittest.TestCase):
 
     @classmethod
     def setUpClass(cls) -> None:
-        program = os.path.abspath(os.environ.get("PROGRAM") or BUILT)
-        if not os.path.isfile(program):
-            raise AssertionError(f"no program {program}: make build")
-        cls.environment = {**os.environ, "SAFEBOUND_PROGRAM": program}
+        cls.environment = {**os.environ, "SAFEBOUND_PROGRAM": chosen_program()}
         cls.room = tempfile.mkdtemp(prefix="browser-")
         cls.addClassCleanup(shutil.rmtree, cls.room)
         cls.driver = open_browser(cls.room)
         if cls.driver is None:
-            raise unittest.SkipTest("Debian's chromium, chromium-driver or python3-selenium isn't here")
+            raise unittest.SkipTest("needs a browser: apt-get install chromium chromium-driver python3-selenium")
         cls.addClassCleanup(cls.driver.quit)
 
     def drawn(self, example: str, words: str, output: str) -> str:

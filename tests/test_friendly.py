@@ -1,14 +1,15 @@
 """Tests the friendly command around a program: explanations, words, streams and statuses, a terminal, and its own
 commands.
 
-    python3 -m unittest tests/test_friendly.py [-k WORD]
+    tests/run tests/test_friendly.py [CLASS[.TEST]]
 
-The tests run what `make install` puts into a new folder. PROGRAM names the program; the default is the proved one,
-which `make build` makes.
+The tests run what `make install` puts into a new folder. PROGRAM names the program; the default is the one that `make
+build` made here, or else the release's.
 """
 
 from __future__ import annotations
 
+import atexit
 import copy
 import csv
 import fcntl
@@ -39,8 +40,8 @@ sys.path.insert(0, HERE)
 import first_hour  # noqa: E402
 from faults import FAULTS, Fault  # noqa: E402
 from mistakes import KINDS, Mistake  # noqa: E402
+from program import chosen_program  # noqa: E402
 
-BUILT = os.path.join(ROOT, "crates", "safebound_cli", "out", "safebound_cli")
 LIBRARY, SCHOOL = (os.path.join(HERE, name) for name in ("library", "school"))
 SECONDS = 300
 FEATURES = (
@@ -183,17 +184,18 @@ class Installed(unittest.TestCase):
     """Tests over the installed command, each in a temporary folder of its own."""
 
     installed: TestSetup
+    # tests/run may run the tests of one class in several processes.
+    apart = True
 
     def setUp(self) -> None:
         self.setup = self.installed.beside()
 
 
 def setUpModule() -> None:
-    program = os.path.abspath(os.environ.get("PROGRAM") or BUILT)
-    if not os.path.isfile(program):
-        raise AssertionError(f"no program {program}: make build")
-    Installed.installed = TestSetup(program)
-    unittest.addModuleCleanup(shutil.rmtree, Installed.installed.installed)
+    if hasattr(Installed, "installed"):
+        return  # This process is a copy of one that has installed the command, and removes it.
+    Installed.installed = TestSetup(chosen_program())
+    atexit.register(shutil.rmtree, Installed.installed.installed)
 
 
 # ---- explanations

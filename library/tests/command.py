@@ -189,7 +189,9 @@ class Library(unittest.TestCase):
                 capture_output=True,
                 text=True,
             )
-        self.assertEqual((done.stdout, done.stderr), (f"no libsafebound_command.so: looked for {where}\n", ""))
+        says = f"SAFEBOUND_COMMAND_LIBRARY names {where}, which is no file"
+        remedy = "name libsafebound_command.so by it, or unset it"
+        self.assertEqual((done.stdout, done.stderr), (f"{says}: {remedy}\n", ""))
 
     def test_exits_are_the_header_s(self) -> None:
         with open(os.path.join(ROOT, "include", "safebound_command.h"), encoding="utf-8") as f:

@@ -5,6 +5,7 @@ library.
 from __future__ import annotations
 
 import doctest
+import importlib.util
 import os
 import pickle
 import shutil
@@ -259,8 +260,10 @@ class Installed(unittest.TestCase):
         shutil.copy(self.library, beside)
         self.assertEqual(self.run_python("-c", SAY).stdout.split()[1:], [os.path.realpath(beside)])
         missing = self.run_python("-c", SAY, SAFEBOUND_LIBRARY=beside + ".none")
-        self.assertIn("LibraryNotFound", missing.stderr)
-        self.assertIn(beside + ".none", missing.stderr)
+        says = f"LibraryNotFound: SAFEBOUND_LIBRARY names {beside}.none, which is no file: name libsafebound.so by it"
+        self.assertIn(says, missing.stderr)
+        no_library = self.run_python("-c", SAY, SAFEBOUND_LIBRARY=__file__)
+        self.assertIn(f"LibraryNotFound: {__file__} can't be loaded (", no_library.stderr)
 
     def test_another_version(self) -> None:
         package = self.copy()
@@ -269,6 +272,7 @@ class Installed(unittest.TestCase):
         done = self.run_python("-c", SAY, SAFEBOUND_LIBRARY=self.library)
         self.assertIn("isn't of version 0.0.1", done.stderr)
 
+    @unittest.skipUnless(importlib.util.find_spec("pip"), "apt-get install python3-pip")
     def test_pip(self) -> None:
         """Installs as docs/EMBEDDING.md says, from a copy of the repository's folders, with the library that `make
         library` built.

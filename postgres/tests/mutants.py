@@ -222,7 +222,7 @@ def main() -> int:
     with tempfile.TemporaryDirectory(prefix="safebound-wrong-") as root:
         os.chmod(root, 0o755)
         os.environ["PATH"] = copy_server(root) + os.pathsep + os.environ["PATH"]
-        for name in ("include", "dist", "library"):
+        for name in ("include", "dist", "library", "python", "tools"):
             os.symlink(ROOT / name, Path(root) / name)
         built, folder = Path(root) / "built", Path(root) / "postgres"
         shutil.copytree(HERE.parent, built)

@@ -53,7 +53,7 @@ def main() -> int:
     with tempfile.TemporaryDirectory(prefix="safebound-sanitized-") as root:
         os.chmod(root, 0o755)
         os.environ["PATH"] = copy_server(root) + os.pathsep + os.environ["PATH"]
-        for name in ("include", "dist", "library"):
+        for name in ("include", "dist", "library", "python", "tools"):
             os.symlink(ROOT / name, Path(root) / name)
         folder = Path(root) / "postgres"
         shutil.copytree(HERE.parent, folder, ignore=shutil.ignore_patterns("*.o", "*.so", "results"))

@@ -7,6 +7,7 @@ import ctypes.util
 import functools
 import operator
 import os
+import platform
 import sys
 import sysconfig
 from pathlib import Path
@@ -79,19 +80,25 @@ def _folders() -> Iterator[Path]:
     """The folders in which the shared object is looked for, in this order."""
     here = Path(__file__).resolve().parent
     yield here
+    yield from _folders_of_clone(here.parents[1])
     libraries = [folder for folder in here.parents if folder.name == "lib"]
     libraries += [Path(prefix) / "lib" for prefix in (sys.prefix, "/usr/local", "/usr")]
     for folder in libraries:
         yield folder
         yield folder / (sysconfig.get_config_var("MULTIARCH") or "")
-    yield here.parents[1] / "library" / "out"
 
 
-def _candidates(name: str, variable: str) -> Iterator[Path]:
-    named = os.environ.get(variable)
-    if named:
-        yield Path(named)
-        return
+def _folders_of_clone(root: Path) -> Iterator[Path]:
+    """In a clone of the repository: where `make library` leaves the library, and the release, which is for one kind of
+    machine.
+    """
+    if (root / "library" / "build").is_file():
+        yield root / "library" / "out"
+        if (platform.system(), platform.machine()) == ("Linux", "x86_64"):
+            yield root / "dist"
+
+
+def _candidates(name: str) -> Iterator[Path]:
     for folder in dict.fromkeys(_folders()):
         yield folder / f"{name}.{VERSION.partition('.')[0]}"
         yield folder / name
@@ -99,11 +106,35 @@ def _candidates(name: str, variable: str) -> Iterator[Path]:
 
 def find(name: str, variable: str) -> Path:
     """The path of the shared object with this name, or of the file that the variable names."""
-    looked = list(_candidates(name, variable))
+    named = os.environ.get(variable)
+    if named:
+        if Path(named).is_file():
+            return Path(named)
+        raise errors.LibraryNotFound(f"{variable} names {named}, which is no file: name {name} by it, or unset it")
+    looked = list(_candidates(name))
     for candidate in looked:
         if candidate.is_file():
             return candidate
-    raise errors.LibraryNotFound(f"no {name}: looked for " + ", ".join(map(str, looked)))
+    raise errors.LibraryNotFound(
+        f"there is no {name}: install SafeBound's libraries (libsafebound0), build them in a clone (make library"
+        f" command), or name the file by {variable} (looked for {', '.join(map(str, looked))})"
+    )
+
+
+def load(found: Path, variable: str) -> ctypes.CDLL:
+    """Loads a shared object. The variable is the one that may name another."""
+    try:
+        return ctypes.CDLL(str(found))
+    except OSError as error:
+        raise errors.LibraryNotFound(f"{found} can't be loaded ({error}): name another file by {variable}") from None
+
+
+def other_version(found: Path, target: str, variable: str) -> errors.LibraryNotFound:
+    """The exception for a library of another version than this package. `target` is the make target that builds it."""
+    return errors.LibraryNotFound(
+        f"{found} isn't of version {VERSION}, as this package is: install that version of both, build the library in"
+        f" the package's clone (make {target}), or name another by {variable}"
+    )
 
 
 def path() -> Path:
@@ -112,9 +143,9 @@ def path() -> Path:
     If the variable SAFEBOUND_LIBRARY names a file, no other one is tried. Otherwise these folders are searched in
     order:
     - the folder of this package;
+    - in a clone of the repository, where `make library` leaves the library, and then dist/ with the release;
     - the folder lib above this package, where `make install` puts the library;
-    - lib/ of Python's prefix, of /usr/local and of /usr;
-    - in a clone of the repository, where `make library` leaves the library.
+    - lib/ of Python's prefix, of /usr/local and of /usr.
     In each lib the subfolder for this architecture is searched too, such as x86_64-linux-gnu.
 
     Raises:
@@ -125,7 +156,7 @@ def path() -> Path:
 
 @functools.lru_cache(maxsize=None)
 def _library() -> ctypes.CDLL:
-    found = ctypes.CDLL(str(path()))
+    found = load(path(), VARIABLE)
     numbers, size, detail = ctypes.POINTER(_Number), ctypes.c_size_t, ctypes.POINTER(_Number)
     runs = ctypes.POINTER(Run)
     query = [numbers, size, ctypes.POINTER(Equality), size, ctypes.POINTER(List), size, runs, size]
@@ -152,8 +183,9 @@ def _library() -> ctypes.CDLL:
         if function is not None:
             function.argtypes, function.restype = form, ctypes.c_uint32
     text, length = ctypes.create_string_buffer(64), _Number()
-    if found.safebound_version(text, 64, ctypes.byref(length)) != Status.OK or text.value.decode() != VERSION:
-        raise errors.LibraryNotFound(f"{path()} isn't of version {VERSION}")
+    tell = getattr(found, "safebound_version", None)
+    if tell is None or tell(text, 64, ctypes.byref(length)) != Status.OK or text.value.decode() != VERSION:
+        raise other_version(path(), "library", VARIABLE)
     return found
 
 

@@ -7,7 +7,7 @@ import functools
 from typing import Any, Iterable, List, Mapping, NamedTuple, Optional, SupportsIndex, Tuple, TypeVar, Union
 
 from . import errors
-from ._library import find, whole_number
+from ._library import find, load, other_version, whole_number
 from ._version import VERSION
 from .plan_texts import read_plan
 from .plans import Order
@@ -38,13 +38,20 @@ class Output(NamedTuple):
     notes: bytes
 
 
+def _version_of(found: ctypes.CDLL) -> str | None:
+    """The version that a library says, or None if it says none."""
+    try:
+        return ctypes.string_at(ctypes.addressof(ctypes.c_char.in_dll(found, "safebound_command_version"))).decode()
+    except ValueError:
+        return None
+
+
 @functools.lru_cache(maxsize=None)
 def _library() -> ctypes.CDLL:
     where = find(NAME, VARIABLE)
-    found = ctypes.CDLL(str(where))
-    version = ctypes.string_at(ctypes.addressof(ctypes.c_char.in_dll(found, "safebound_command_version"))).decode()
-    if version != VERSION:
-        raise errors.LibraryNotFound(f"{where} isn't of version {VERSION}")
+    found = load(where, VARIABLE)
+    if _version_of(found) != VERSION:
+        raise other_version(where, "command", VARIABLE)
     size, number = ctypes.c_size_t, ctypes.POINTER(ctypes.c_uint64)
     found.safebound_command.argtypes = [
         ctypes.POINTER(_Text), size, ctypes.POINTER(_File), size, ctypes.c_char_p, size, ctypes.c_char_p, size,

@@ -1,7 +1,8 @@
-//! Finds the library. If SAFEBOUND_LIBRARY_DIR names a folder, the library is searched only there. Otherwise pkg-config finds
-//! it where `make install` put it, or it is in a clone of the repository, where `make library` leaves it. The archive is
-//! preferred to the shared object, since the program then needs no library when it runs. With the feature `command` the
-//! library for the whole program is taken from the same folder.
+//! Finds the library. If SAFEBOUND_LIBRARY_DIR names a folder, the library is searched only there. Otherwise pkg-config
+//! finds it where `make install` put it, or it is in a clone of the repository: where `make library` leaves it, or else in
+//! dist/ with the release, which is for Linux on x86-64. The archive is preferred to the shared object, since the program
+//! then needs no library when it runs. With the feature `command` the library for the whole program is taken from the
+//! same folder.
 
 use std::env;
 use std::path::{Path, PathBuf};
@@ -34,7 +35,8 @@ fn link(folder: &Path, name: &str) {
 fn folder() -> PathBuf {
     env::var_os(VARIABLE).map(PathBuf::from).or_else(installed).or_else(in_clone).unwrap_or_else(|| {
         panic!(
-            "no library: neither pkg-config nor library/out of this repository has it, and {VARIABLE} names no folder"
+            "no library: neither pkg-config nor library/out or dist/ of this repository has it: make library, or name \
+             its folder by {VARIABLE}"
         )
     })
 }
@@ -52,7 +54,11 @@ fn installed() -> Option<PathBuf> {
     said.status.success().then_some(folder)
 }
 
+/// What is built in the clone, or else the release.
 fn in_clone() -> Option<PathBuf> {
-    let folder = Path::new(env!("CARGO_MANIFEST_DIR")).join("../../library/out").canonicalize().ok()?;
-    folder.join("libsafebound.a").is_file().then_some(folder)
+    let clone = Path::new(env!("CARGO_MANIFEST_DIR")).join("../..");
+    let released = cfg!(all(target_os = "linux", target_arch = "x86_64")).then_some("dist");
+    let folders = Some("library/out").into_iter().chain(released);
+    let mut there = folders.filter_map(|name| clone.join(name).canonicalize().ok());
+    there.find(|folder| folder.join("libsafebound.a").is_file())
 }
