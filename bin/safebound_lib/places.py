@@ -43,7 +43,7 @@ def page(name: str) -> str:
 
 def example() -> str:
     """The folder of the example that `safebound new` copies."""
-    return first(os.path.join(TOP, "examples", "trips"), os.path.join(SHARED, "trips"))
+    return first(os.path.join(TOP, "examples", "trips"), os.path.join(SHARED, "examples", "trips"))
 
 
 def first(*paths: str) -> str:
