@@ -1,11 +1,14 @@
 """Builds the package as a wheel and as a source archive (the build backend of pyproject.toml).
 
-It needs only the standard library.
+It needs only the standard library, and writes wheels of other packages too (`engines/build_safebound_sql.py`).
 
 A wheel has the shared objects beside the package. If SAFEBOUND_LIBRARY_DIR names a folder, they come only from there.
 Otherwise they come, in a clone, from where `make library` and `make command` leave them, or else from the release in
-dist/, or from the folder that pkg-config gives for this version, as after `make install`. If the folder has only an archive, the C compiler makes the
-shared object from it.
+dist/, or from the folder that pkg-config gives for this version, as after `make install`. If the folder has only an
+archive, the C compiler makes the shared object from it.
+
+A wheel's tag names the newest C library among the symbols that its shared objects call: an older system's pip refuses
+it. Its times are SOURCE_DATE_EPOCH, or without that 1980: the same files give the same bytes.
 
 A source archive has the package and this file. It builds where one of these folders has the library.
 """
@@ -16,21 +19,23 @@ import base64
 import hashlib
 import io
 import os
+import re
 import runpy
 import subprocess
 import sysconfig
 import tarfile
 import tempfile
+import time
 import zipfile
 from typing import Any
 
 HERE = os.path.dirname(os.path.abspath(__file__))
 PACKAGE = os.path.join(HERE, "safebound")
 VERSION: str = runpy.run_path(os.path.join(PACKAGE, "_version.py"))["VERSION"]
-INFO = f"safebound-{VERSION}.dist-info"
 LIBRARIES = ("safebound", "safebound_command")
 VARIABLE = "SAFEBOUND_LIBRARY_DIR"
 IN_CLONE = (("library", "out"), ("dist",))
+FIRST_TIME = 315532800
 
 METADATA = f"""\
 Metadata-Version: 2.1
@@ -116,46 +121,59 @@ def libraries() -> dict[str, bytes]:
 # ---- archives
 
 
-def tag() -> str:
-    """The wheel's tag: a shared object runs only on this platform."""
-    return "py3-none-" + sysconfig.get_platform().replace("-", "_").replace(".", "_")
+def tag(shared_objects: list[bytes]) -> str:
+    """The tag of a wheel: any platform if it has no shared object, else this one. On Linux it names the version of the C
+    library that the symbols need.
+    """
+    if not shared_objects:
+        return "py3-none-any"
+    platform = re.sub("[-.]", "_", sysconfig.get_platform())
+    needed = [int(minor) for data in shared_objects for minor in re.findall(rb"\0GLIBC_2\.(\d+)[.\d]*(?=\0)", data)]
+    return "py3-none-" + (platform.replace("linux", f"manylinux_2_{max(needed)}", 1) if needed else platform)
 
 
-def sources() -> dict[str, bytes]:
-    names = [name for name in sorted(os.listdir(PACKAGE)) if name.endswith(".py") or name == "py.typed"]
-    return {"safebound/" + name: read(PACKAGE, name) for name in names}
+def sources(package: str = PACKAGE) -> dict[str, bytes]:
+    names = [name for name in sorted(os.listdir(package)) if name.endswith(".py") or name == "py.typed"]
+    return {f"{os.path.basename(package)}/{name}": read(package, name) for name in names}
 
 
 def metadata() -> bytes:
     return METADATA.encode() + read(HERE, "README.md")
 
 
-def record(files: dict[str, bytes]) -> bytes:
+def record(files: dict[str, bytes], info: str) -> bytes:
     """One line for each file, with its checksum and size. The line of the record itself has neither."""
     lines = []
     for name, data in files.items():
         digest = base64.urlsafe_b64encode(hashlib.sha256(data).digest()).rstrip(b"=").decode()
         lines.append(f"{name},sha256={digest},{len(data)}\n")
-    return "".join(lines + [f"{INFO}/RECORD,,\n"]).encode()
+    return "".join(lines + [f"{info}/RECORD,,\n"]).encode()
 
 
-def write(folder: str, files: dict[str, bytes]) -> str:
-    """Makes a wheel from the files and the files that describe it. Returns its name."""
-    wheel = f"Wheel-Version: 1.0\nGenerator: build_safebound\nRoot-Is-Purelib: false\nTag: {tag()}\n"
-    own = {"METADATA": metadata(), "WHEEL": wheel.encode(), "LICENSE": read(place_of("LICENSE"))}
-    files = {**files, **{f"{INFO}/{name}": data for name, data in own.items()}}
-    files[f"{INFO}/RECORD"] = record(files)
-    name = f"safebound-{VERSION}-{tag()}.whl"
+def write(folder: str, package: str, files: dict[str, bytes], described: dict[str, bytes]) -> str:
+    """Makes a wheel from a package's files and the files that describe it. Returns its name."""
+    is_pure = not any(name.endswith(".so") for name in files)
+    own_tag = tag([data for name, data in files.items() if name.endswith(".so")])
+    wheel = f"Wheel-Version: 1.0\nGenerator: build_safebound\nRoot-Is-Purelib: {str(is_pure).lower()}\nTag: {own_tag}\n"
+    info = f"{package}-{VERSION}.dist-info"
+    own = {"WHEEL": wheel.encode(), "LICENSE": read(place_of("LICENSE")), **described}
+    files = dict(sorted({**files, **{f"{info}/{name}": data for name, data in own.items()}}.items()))
+    files[f"{info}/RECORD"] = record(files, info)
+    name = f"{package}-{VERSION}-{own_tag}.whl"
+    # A zip archive has no times before 1980.
+    made_at = time.gmtime(max(int(os.environ.get("SOURCE_DATE_EPOCH", 0)), FIRST_TIME))[:6]
     with zipfile.ZipFile(os.path.join(folder, name), "w", zipfile.ZIP_DEFLATED) as made:
         for path, data in files.items():
-            made.writestr(path, data)
+            entry = zipfile.ZipInfo(path, made_at)
+            entry.compress_type, entry.create_system, entry.external_attr = zipfile.ZIP_DEFLATED, 3, 0o100644 << 16
+            made.writestr(entry, data)
     return name
 
 
 def build_wheel(
     wheel_directory: str, config_settings: dict[str, Any] | None = None, metadata_directory: str | None = None
 ) -> str:
-    return write(wheel_directory, {**sources(), **libraries()})
+    return write(wheel_directory, "safebound", {**sources(), **libraries()}, {"METADATA": metadata()})
 
 
 def build_editable(
@@ -163,7 +181,7 @@ def build_editable(
 ) -> str:
     """Installs a link to this folder instead of a copy. The package finds the library where `make library` leaves it.
     """
-    return write(wheel_directory, {"safebound.pth": (HERE + "\n").encode()})
+    return write(wheel_directory, "safebound", {"safebound.pth": f"{HERE}\n".encode()}, {"METADATA": metadata()})
 
 
 def build_sdist(sdist_directory: str, config_settings: dict[str, Any] | None = None) -> str:

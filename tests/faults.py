@@ -491,6 +491,7 @@ OF_LINES = [
         ("book.csv",),
     ),
     Fault("a query alone", usage("run query.sql"), ("lacks",), ("safebound run query.sql --data .",), ("run",)),
+    Fault("a demo without a number", usage("demo"), ("wants a number",), ("safebound demo 7",), ("demo",)),
     Fault("a demo below zero", usage("demo -1"), ("-1 is no number",), ("from 0 to 4,294,967,295",), ("-1",)),
     Fault("a demo of a word", usage("demo seven"), ("seven is no number",), ("from 0 to 4,294,967,295",), ("seven",)),
     Fault(
@@ -518,6 +519,10 @@ OF_BOUNDS = [
             {"query.sql": ("SELECT A0.ID FROM " + ", ".join(f"AUTHOR A{i}" for i in range(13))).encode()},
         ),
         ("at most 12", "13"), ("leave|Leave|ask|Ask|several queries",), ("FROM",),
+    ),
+    Fault(
+        "an empty statistics file", stats("error stats syntax 1", b""), ("is empty", "the shell empties"),
+        ("safebound stats schema.sql query.sql > old.stats",), ("old.stats",),
     ),
     Fault(
         "no statistics file", stats("error stats syntax 1", b"hello\n"), ("no statistics file",),

@@ -565,7 +565,7 @@ PLACES = [
     usage("demo -1", "-1 is no number from 0 to 4,294,967,295"),
     usage("demo -- -1", "-1 is no number from 0 to 4,294,967,295"),
     usage("plan", "plan lacks SCHEMA and QUERY"),
-    usage("demo", "demo lacks NUMBER"),
+    usage("demo", "demo wants a number, from 0 to 4,294,967,295"),
     usage("demo seven", "seven is no number from 0 to 4,294,967,295"),
 ]
 
@@ -664,7 +664,7 @@ BUFFERS = (
 
 def stats(line: str, text: bytes | None, *says: str) -> Mistake:
     return Mistake(
-        line, says, {"old.stats": text} if text else {}, ("plan", "schema.sql", "query.sql", "--stats", "old.stats"),
+        line, says, {} if text is None else {"old.stats": text}, ("plan", "schema.sql", "query.sql", "--stats", "old.stats"),
     )
 
 

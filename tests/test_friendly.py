@@ -18,6 +18,7 @@ import json
 import os
 import pty
 import re
+import resource
 import shlex
 import shutil
 import signal
@@ -52,6 +53,10 @@ FEATURES = (
 # A case of a test, and the test's result for the case.
 _Case = TypeVar("_Case")
 _Found = TypeVar("_Found")
+
+# What the command writes where the program says `error usage` and no terminal is.
+BELOW = "safebound: --explain says which word is wrong; `safebound help` lists the commands and their options"
+MISUSED = f"error usage\n{BELOW}\n".encode()
 
 
 def want(is_so: object, what: object) -> None:
@@ -99,6 +104,8 @@ class TestSetup:
         other.environment = {
             **{k: v for k, v in os.environ.items() if k != "SAFEBOUND_PROGRAM"},
             "TMPDIR": other.temporary,
+            # No cache can be here, so each run tells what later runs in a folder needn't.
+            "XDG_CACHE_HOME": os.devnull,
         }
         return other
 
@@ -423,7 +430,7 @@ class Explanations(Installed):
 class PassedThrough(Installed):
     def test_the_cases_pass_through(self) -> None:
         done = subprocess.run(
-            [os.path.join(ROOT, "cases", "run-cases"), "--features", FEATURES, self.setup.command],
+            [os.path.join(ROOT, "cases", "run-cases"), "--features", FEATURES, "--below", BELOW, self.setup.command],
             capture_output=True,
             text=True,
             env=self.setup.environment,
@@ -441,7 +448,7 @@ class PassedThrough(Installed):
             )
         os.chmod(wrapper, 0o755)
         done = subprocess.run(
-            [os.path.join(ROOT, "cases", "process"), wrapper],
+            [os.path.join(ROOT, "cases", "process"), wrapper, BELOW],
             capture_output=True,
             text=True,
             env=self.setup.environment,
@@ -471,7 +478,7 @@ class PassedThrough(Installed):
             "a word behind -- is not the program's",
         )
         value = self.setup.run("plan", "schema.sql", "query.sql", "--budget", "--data")
-        want(value == (2, b"", b"error usage\n"), value)
+        want(value == (2, b"", MISUSED), value)
 
     def test_a_misspelled_explain_is_explained(self) -> None:
         self.setup.lay()
@@ -1021,12 +1028,46 @@ class OwnCommands(Installed):
         want(self.setup.run("audit", "--data", ".", "query.sql", "--accuracy", "2")[0] == 0, "options beside it")
         want(json.loads(self.setup.run("plan", "query.sql", "--data", ".", "--json")[1])["widest"] > 0, "as JSON")
         want(self.setup.run("picture", "query.sql", "--data", ".", "--output", "-")[1].startswith(b"<svg"), "a picture")
-        want(self.setup.run("run", "query.sql") == (2, b"", b"error usage\n"), "without --data it is the program's")
+        want(self.setup.run("run", "query.sql") == (2, b"", MISUSED), "without --data it is the program's")
         self.setup.lay({"query.sql": b"SELECT R.NAME FROM READER R, LOANS L"})
         status, _, notes = self.setup.run("run", "query.sql", "--data", ".", "--explain")
         want(status == 5 and b"Did you mean LOAN?" in notes, notes)
         want(self.setup.run("run", "query.sql", "--data", "..")[0] == 2, "a folder without tables")
+        self.setup.lay({"query.sql": b"SELECT R.NAME FROM READER R"})
+        status, _, notes = self.setup.run("run", "-", "--data", ".")
+        want(status == 3 and b"reads files, and no standard input" in notes, notes)
+        os.remove(os.path.join(self.setup.folder, "reader.csv"))
+        os.mkdir(os.path.join(self.setup.folder, "reader.csv"))
+        status, _, notes = self.setup.run("run", "query.sql", "--data", ".")
+        want(status == 5 and b"reader.csv is a folder, and no file. So there is no table READER." in notes, notes)
+        want(b"is a folder, and has no file" in self.setup.run("schema", "reader.csv")[2], "a folder without tables")
         want(os.listdir(self.setup.temporary) == [], "something was left over")
+
+    def test_a_proposed_schema_is_shown_once_a_folder(self) -> None:
+        self.setup.lay({"query.sql": b"SELECT NAME FROM READER"})
+        run = {"env": {**self.setup.environment, "XDG_CACHE_HOME": self.setup.temp_folder}}
+        plan = self.setup.run("plan", "schema.sql", "query.sql")[2]
+        line = ("plan", "query.sql", "--data", ".")
+        first, second = (self.setup.run(*line, **run)[2] for _ in range(2))
+        want(b"CREATE TABLE READER (" in first and second == plan, first + second)
+        with open(os.path.join(self.setup.folder, "reader.csv"), "ab") as f:
+            f.write(b"99,Somebody with a name that is longer than the others,Moss\r\n")
+        want(b"CREATE TABLE READER (" in self.setup.run(*line, **run)[2], "another schema isn't shown")
+        shutil.copytree(self.setup.folder, os.path.join(self.setup.temp_folder, "other"))
+        want(b"CREATE TABLE" in self.setup.run(*line[:3], "../other", **run)[2], "it isn't shown in another folder")
+
+    def test_a_slow_proposal_says_how_to_save_it(self) -> None:
+        self.setup.lay({"query.sql": b"SELECT A FROM LONG", "schema.sql": None})
+        with open(os.path.join(self.setup.folder, "long.csv"), "w") as f:
+            f.write("A,B,C\n" + "".join(f"{n},{n % 977},name {n % 9973}\n" for n in range(400_000)))
+        run = {"env": {**self.setup.environment, "XDG_CACHE_HOME": self.setup.temp_folder}}
+        for _ in range(2):
+            notes = self.setup.run("plan", "query.sql", "--data", ".", **run)[2].decode()
+        lines = re.findall(r"^--     safebound (.*)$", notes, re.M)
+        want("-- Proposing it took " in notes and len(lines) == 2, notes)
+        for line in lines:
+            notes = self.setup.run(*shlex.split(line))[2].decode()
+        want("scan LONG 400000" in notes and "Proposing" not in notes, notes)
 
     def test_convert(self) -> None:
         for name, data in OTHER_FILES.items():
@@ -1096,6 +1137,9 @@ class OwnCommands(Installed):
             drawn = f.read()
         is_refused = "is refused" in drawn and "budget 1,000" in drawn and drawn.count('fill="#e08a7d"') == 3
         want(is_refused and "its true rows" not in drawn, "not the picture of a refused plan: " + drawn)
+        status, _, notes = self.setup.run("picture", "schema.sql", "query.sql", "--output", "plan.png")
+        want(status == 2 and b"ends in .svg, and a page's in .html" in notes, notes)
+        want(not os.path.exists(os.path.join(self.setup.folder, "plan.png")), "a picture under another ending")
 
     def test_a_picture_has_no_marks_of_a_query(self) -> None:
         self.setup.lay({"query.sql": b"SELECT R.NAME FROM READER R WHERE R.NAME <> '<b>&\x1b' AND R.TOWN <> '\"'"})
@@ -1171,6 +1215,24 @@ class OwnCommands(Installed):
         )
         want(status == 1 and b"make build" in notes and b"make run DATA=" in notes, notes)
         want(self.setup.run("help", command=os.path.join(alone, "bin", "safebound"))[0] == 0, "help needs no program")
+        shutil.copy(self.setup.command, os.path.join(self.setup.folder, "safebound"))
+        status, _, notes = self.setup.run("--version", command=os.path.join(self.setup.folder, "safebound"))
+        want(status == 1 and b"A copy of this file alone can't run" in notes and b"Traceback" not in notes, notes)
+        named = {"env": {**self.setup.environment, "SAFEBOUND_PROGRAM": "/nowhere"}}
+        status, _, notes = self.setup.run("run", "schema.sql", "query.sql", **named)
+        want(status == 1 and notes.startswith(b"safebound: SAFEBOUND_PROGRAM is /nowhere, and there is no"), notes)
+        want(b"SAFEBOUND_PROGRAM names no file" in self.setup.run("--version", **named)[1], "the version")
+
+    def test_with_little_memory(self) -> None:
+        self.setup.lay()
+        told = 0
+        for megabytes in range(8, 80, 8):
+            def limit(size: int = megabytes << 20) -> None:
+                resource.setrlimit(resource.RLIMIT_AS, (size, size))
+            status, _, notes = self.setup.run("run", "query.sql", "--data", ".", preexec_fn=limit)
+            want(b"Traceback" not in notes, f"{megabytes} MiB: {notes!r}")
+            told += notes.startswith(b"safebound: memory is wanting")
+        want(told, "no run says that memory is wanting")
 
     def test_the_release_runs_where_nothing_is_built(self) -> None:
         self.setup.lay()
@@ -1179,8 +1241,11 @@ class OwnCommands(Installed):
             "The program of release 1.2.3 (dist/, built from commit 0123456789ab) runs. `make build` proves and builds"
             " one here.\n"
         )
-        status, seen = self.setup.at_terminal("plan", "schema.sql", "query.sql", command=command)
-        want(status == 0 and seen.startswith(said + "scan "), seen)
+        for told in (said, ""):
+            status, seen = self.setup.at_terminal(
+                "plan", "schema.sql", "query.sql", command=command, XDG_CACHE_HOME=self.setup.temp_folder
+            )
+            want(status == 0 and seen.startswith(told + "scan "), seen)
         plain = self.setup.run("plan", "schema.sql", "query.sql", command=self.setup.program)
         want(
             self.setup.run("plan", "schema.sql", "query.sql", command=command) == plain,

@@ -24,7 +24,10 @@ aside section { display: none; } aside section:target { display: block; scroll-m
 .tree a { color: #1d4f80; } .past { color: #c0392b; } table { border-collapse: collapse; margin: 4px 0; }
 td, th { text-align: right; padding: 1px 10px 1px 0; font-weight: normal; }
 th { color: #555; } code { white-space: pre-wrap; }
-@media (max-width: 900px) { main { display: block; } aside { position: static; } }
+@media (max-width: 900px) {
+  main { display: block; padding-bottom: 45vh; } aside table { display: block; overflow-x: auto; }
+  aside { position: fixed; inset: auto 0 0 0; max-height: 40vh; background: #fff; }
+}
 """
 HOW_LISTS_MEET = (
     "<p>Of several lists of a column the bound takes the least running sums; of the members of an OR, the sums"
@@ -53,6 +56,7 @@ def page(shown: Shown, lists: dict[str, list[Listed]], flags: list[str]) -> str:
             '<html lang="en">',
             "<head>",
             '<meta charset="utf-8">',
+            '<meta name="viewport" content="width=device-width, initial-scale=1">',
             f"<title>{safe(shown.title)}</title>",
             f"<style>{STYLE}</style>",
             "</head>",

@@ -7,12 +7,14 @@ from typing import TYPE_CHECKING
 
 from . import program, version
 from .table import BY_WORD, DATA, EXPLAIN, HELP, JSON, VERSION as VERSION_OPTION
-from .words import Misused, lacks_schema, options, read_line
+from .words import Misused, is_surely_right, lacks_schema, options, read_line
 
 if TYPE_CHECKING:
     from .words import Line
 
 MISUSED = 2
+USAGE = b"error usage\n"
+HOW_TO_READ_USAGE = "safebound: --explain says which word is wrong; `safebound help` lists the commands and their options\n"
 
 
 def main(words: list[str]) -> int:
@@ -98,11 +100,13 @@ def run_program(line: Line, is_last: bool) -> int:
         from .json_plan import show
         return show(path, line)
     explains = is_explained(line)
-    if is_last and not explains:
+    if is_last and not explains and is_surely_right(line):
         program.replace_process(path, line.words)
     status, notes = program.run_and_read(path, line.words)
     if explains:
         explain(path, line, status, notes)
+    elif notes == USAGE:
+        program.say(HOW_TO_READ_USAGE)
     return status
 
 
@@ -171,7 +175,8 @@ def show_help(topics: list[str]) -> int:
 def show_version() -> int:
     from . import places
     path = places.program()
-    said = f"{path}: {program.release_name()}" if path == places.RELEASED else path or "not built yet (make build)"
+    missing = f"SAFEBOUND_PROGRAM names no file: {places.named()}" if places.named() else "not built yet (make build)"
+    said = f"{path}: {program.release_name()}" if path == places.RELEASED else path or missing
     program.write(1, f"safebound {version()}\nprogram: {said}\n")
     return 0
 

@@ -31,6 +31,7 @@ if TYPE_CHECKING:
     from .words import Line
 
 PARTS_OF_EXAMPLE = (".sql", ".csv")
+PICTURES = (".svg", ".html")
 
 
 def new(words: list[str]) -> int:
@@ -109,6 +110,9 @@ def valid_message(files: list[str]) -> str:
 
 def picture(path: str, line: Line) -> int:
     """Draws the plan and an audit's true rows. If the budget refuses the query, draws the plan and the budget."""
+    to = line.own.get(OUTPUT.word, "plan.svg")
+    if to != "-" and not to.lower().endswith(PICTURES):
+        raise Misused(f"{OUTPUT.word} {to}: a picture's name ends in .svg, and a page's in .html")
     words = ["audit", *line.words[1:]]
     run = Run(words, path, line.user_folder)
     status, out, notes = program.answer(path, words)
@@ -123,7 +127,6 @@ def picture(path: str, line: Line) -> int:
     else:
         plan = read_plan(notes.decode())
         rows = read_audit(out.decode(), plan)
-    to = line.own.get(OUTPUT.word, "plan.svg")
     return save(picture_text(run, shown_of(run, plan, rows, budget), to), to, run) or status
 
 
@@ -136,8 +139,8 @@ def refused_plan(run: Run, fault: Fault | None) -> PlanText | None:
 
 
 def picture_text(run: Run, shown: Shown, to: str) -> str:
-    """The picture, or an HTML page if the file's name ends in .html or .htm."""
-    if not to.lower().endswith((".html", ".htm")):
+    """The picture, or an HTML page if the file's name ends in .html."""
+    if not to.lower().endswith(".html"):
         return draw(shown)
     flags = [flag.word for flag in (REDUCE, COUNT, KEYS) if has_flag(run, flag)]
     return page(shown, {} if {REDUCE.word, COUNT.word} & set(flags) else lists_beside(run), flags)

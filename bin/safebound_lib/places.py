@@ -20,9 +20,14 @@ def program() -> str | None:
 
     The program of the release is the last choice, since it may be older than the other files of the repository.
     """
-    found = os.environ.get("SAFEBOUND_PROGRAM")
+    found = named()
     candidates = [found] if found else [BUILT, INSTALLED, *([RELEASED] if is_for_releases() else [])]
     return next((os.path.abspath(path) for path in candidates if os.path.isfile(path)), None)
+
+
+def named() -> str | None:
+    """The program that the user names, or None."""
+    return os.environ.get("SAFEBOUND_PROGRAM")
 
 
 def is_for_releases() -> bool:
@@ -43,7 +48,7 @@ def page(name: str) -> str:
 
 def example() -> str:
     """The folder of the example that `safebound new` copies."""
-    return first(os.path.join(TOP, "examples", "trips"), os.path.join(SHARED, "trips"))
+    return first(os.path.join(TOP, "examples", "trips"), os.path.join(SHARED, "examples", "trips"))
 
 
 def first(*paths: str) -> str:

@@ -14,6 +14,8 @@ TICK = 0.25
 NO_PROGRAM = """safebound: the proved program isn't here. In the repository, `make build` proves and builds it;
 `make run DATA=FOLDER COMPILE=yes` tries a folder of yours within a minute, with nothing proved.
 SAFEBOUND_PROGRAM names a program that lies elsewhere."""
+NAMES_NOTHING = """safebound: SAFEBOUND_PROGRAM is {}, and there is no such file.
+Name the program there, or take the variable away: unset SAFEBOUND_PROGRAM"""
 
 
 def find_program() -> str:
@@ -22,9 +24,11 @@ def find_program() -> str:
     """
     path = places.program()
     if path is None:
-        sys.exit(NO_PROGRAM)
+        sys.exit(NAMES_NOTHING.format(places.named()) if places.named() else NO_PROGRAM)
     if path == places.RELEASED and is_terminal(2):
-        say(f"{release_name()[:1].upper()}{release_name()[1:]} runs. `make build` proves and builds one here.\n")
+        from .told import is_news
+        said = f"{release_name()[:1].upper()}{release_name()[1:]} runs. `make build` proves and builds one here.\n"
+        say(said if is_news(said) else "")
     return path
 
 
@@ -49,7 +53,10 @@ def answer(
 ) -> tuple[int, bytes, bytes]:
     """Runs the program without showing the user anything. Returns its exit status, standard output and standard error.
     """
-    done = subprocess.run([path, *words], cwd=folder, stdin=subprocess.DEVNULL, capture_output=True, timeout=seconds)
+    try:
+        done = subprocess.run([path, *words], cwd=folder, stdin=subprocess.DEVNULL, capture_output=True, timeout=seconds)
+    except OSError as fault:
+        sys.exit(f"safebound: {path} can't be run: {fault.strerror}")
     return done.returncode, done.stdout, done.stderr
 
 

@@ -6,6 +6,7 @@ import os
 import re
 import shlex
 import tempfile
+import time
 from collections.abc import Iterator
 from dataclasses import dataclass, field
 from typing import Optional
@@ -20,9 +21,12 @@ from .sheets import Column, NoTable, Sheet, sheet_of
 from .spot import cut_text, plain
 from .table import DATA, RESULT
 from .terminal import columns
+from .told import is_news
 from .words import Line, Misused, positional_words
 
 MOST_TABLES, STATUS_FILES_LEFT_OUT = 64, 6
+# A proposal that takes more seconds is worth saving.
+SLOW = 1.0
 # A column that refers to a table often has that table's name with one of these endings.
 ENDINGS = re.compile(r"_?(ID|NO|NR|NUM|NUMBER|CODE|KEY|NAME)$")
 
@@ -62,6 +66,14 @@ def how_to_keep(files: list[str], target: str, uses: str) -> str:
     if os.path.exists("schema.sql"):
         return f"{plain(target)} is there, and isn't used. This uses it:\n--     {plain(uses)}"
     return f"To keep it, and edit it:\n--     safebound schema {' '.join(map(plain, files))} --output {plain(target)}"
+
+
+def how_to_skip(files: list[str], target: str, uses: str) -> str:
+    """How a later run needs no proposal: the commands that save a schema and use it."""
+    if os.path.exists("schema.sql"):
+        return f"{plain(target)} is there. This uses it:\n--     {plain(uses)}"
+    save = f"safebound schema {' '.join(map(plain, files))} --output {plain(target)}"
+    return f"To save it, and run with it:\n--     {save}\n--     {plain(uses)}"
 
 
 def line_with_schema(command: str, schema: str, query: str, folder: str) -> str:
@@ -163,6 +175,8 @@ def schema(line: Line) -> int:
     words = positional_words(line.words[1:])
     files = [file for word in words for file in (tables_in(word) if os.path.isdir(word) else [word])]
     if not files:
+        if words:
+            raise Misused(f"{plain(words[0])} is a folder, and has no file that ends in .csv")
         raise Misused("schema takes the tables' files, or their folder: safebound schema FILE.csv..")
     found = proposal(files)
     folders = {os.path.dirname(os.path.abspath(sheet.file)) for sheet in found.sheets}
@@ -199,7 +213,7 @@ def tables_in(folder: str) -> list[str]:
     """The table files of a folder."""
     return sorted(
         os.path.join(folder, name) if folder != "." else name for name in os.listdir(folder)
-        if name.lower().endswith(".csv") and not name.startswith(".")
+        if name.lower().endswith(".csv") and not name.startswith(".") and not os.path.isdir(os.path.join(folder, name))
     )
 
 
@@ -210,7 +224,7 @@ def with_proposed_schema(line: Line) -> Iterator[Line]:
     Standard error shows the schema in short, and what a user has to know about the tables, since the run may fail
     because of it. If a table is missing or its file gives no table, nothing of this is shown: it would hide that fault.
     """
-    query = positional_words(line.words[1:])[0]
+    query, began = positional_words(line.words[1:])[0], time.monotonic()
     wanted = tables_of(query)
     has_all_tables = bool(wanted) and all(map(os.path.isfile, wanted))
     found = proposal(wanted if has_all_tables else tables_in("."), line.user_folder)
@@ -224,7 +238,12 @@ def with_proposed_schema(line: Line) -> Iterator[Line]:
     if has_all_tables and not found.left_out:
         files = [word_of(sheet.file, line.user_folder) for sheet in found.sheets]
         uses = line_with_schema(line.command, "schema.sql", query, line.own[DATA.word])
-        program.say(found.short(files, word_of("schema.sql", line.user_folder), uses) + "\n" + sentences(found.says))
+        target = word_of("schema.sql", line.user_folder)
+        said = found.short(files, target, uses) + "\n" + sentences(found.says)
+        if is_news(said):
+            program.say(said)
+        if time.monotonic() - began > SLOW:
+            program.say(f"-- Proposing it took {time.monotonic() - began:.1f} s. {how_to_skip(files, target, uses)}\n")
     with tempfile.TemporaryDirectory(prefix="safebound-") as folder:
         file = os.path.join(folder, "schema.sql")
         with open(file, "w", encoding="utf-8") as f:

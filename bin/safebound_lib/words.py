@@ -4,10 +4,17 @@ from __future__ import annotations
 from dataclasses import dataclass, field
 from typing import TYPE_CHECKING
 
-from .table import BY_WORD, DATA, TEXTS, own_options, options_with_value
+from .table import (
+    ACCURACY, BUDGET, BUSHY, BY_WORD, COUNT, DATA, KEYS, MOST_SEED, REDUCE, STATS, TEXTS, own_options, options_with_value,
+)
 
 if TYPE_CHECKING:
     from .table import Option
+
+
+# Options of which some pairs can't stand together, and two of which one limits the other's value.
+EXCLUDING = {option.word for option in (ACCURACY, COUNT, KEYS, REDUCE, STATS)}
+LIMITING = {BUDGET.word, BUSHY.word}
 
 
 class Misused(ValueError):
@@ -36,6 +43,35 @@ def lacks_schema(line: Line) -> bool:
     command = BY_WORD.get(line.command)
     takes_texts = command is not None and command.positional == TEXTS and not command.optional
     return takes_texts and DATA.word in line.own and len(positional_words(line.words[1:])) == 1
+
+
+def is_surely_right(line: Line) -> bool:
+    """Whether the program takes the words for certain. It may take others too: options that exclude each other in some
+    lines, or a value behind =, are left to it.
+    """
+    command, words = BY_WORD.get(line.command), line.words[1:]
+    if command is None or any(word.startswith("-") and "=" in word for word in words):
+        return False
+    known = {option.word: option for option in command.options}
+    given, found = options(words), positional_words(words)
+    return (
+        len(found) == len(command.positional) and len(set(given)) == len(given) and known.keys() >= set(given)
+        and len(EXCLUDING & set(given)) < 2 and not LIMITING <= set(given)
+        and (command.positional != ("NUMBER",) or is_number(found[0], 0, MOST_SEED))
+        and all(fits(known[word], option_of(words, word)) for word in given)
+    )
+
+
+def fits(option: Option, value: str | None) -> bool:
+    if not option.value:
+        return True
+    if option.least is None or option.most is None:
+        return bool(value) and not str(value).startswith("-")
+    return value is not None and is_number(value, option.least, option.most)
+
+
+def is_number(text: str, least: int, most: int) -> bool:
+    return text.isascii() and text.isdigit() and len(text) < 20 and least <= int(text) <= most
 
 
 def options(words: list[str]) -> list[str]:

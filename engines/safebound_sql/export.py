@@ -9,7 +9,7 @@ import contextlib
 import csv
 import os
 import re
-from typing import Iterator
+from typing import Generator, Iterator
 
 from safebound.sql_texts import (
     MOST_CHARACTERS, MOST_NUMBER, MOST_ROWS, MOST_TABLE_BYTES, folded, written_name,
@@ -50,16 +50,18 @@ class Export:
         text = self._query_text()
         tables = self._entries_by_table()
         try:
-            os.makedirs(self.folder, exist_ok=True)
-            if os.listdir(self.folder):
+            if os.path.isdir(self.folder) and os.listdir(self.folder):
                 raise Unreadable(f"{self.folder} isn't empty")
             self._write_files(text, tables)
         except OSError as error:
             raise Unreadable(str(error)) from None
 
     def _write_files(self, text: str, tables: dict[str, list[Entry]]) -> None:
-        """Writes all files. After an error none of them is left."""
+        """Writes all files. After an error none of them is left, nor a folder that wasn't there before."""
         with contextlib.ExitStack() as undo:
+            for folder in missing_folders(self.folder):
+                os.mkdir(folder)
+                undo.callback(os.rmdir, folder)
             undo.callback(self._delete_files)
             schema = [self._write_table(name, entries) for name, entries in tables.items()]
             self._write_file("schema.sql", ";\n".join(schema) + ";\n")
@@ -182,12 +184,15 @@ class Export:
             f"{self.dialect.quote(column.name)} IS NOT NULL" for column in columns if column in always_joined
         )
         with self.progress.doing(f"writing {name}"):
-            rows = self.connection.stream(
-                f"SELECT {values} FROM {entries[0].table}" + (f" WHERE {present}" if present else "")
-            )
-            kinds = self._write_records(name.strip('"').lower() + ".csv", columns, rows)
+            sql = f"SELECT {values} FROM {entries[0].table}" + (f" WHERE {present}" if present else "")
+            # After a refusal the rows left are given up before the connection is closed.
+            with contextlib.closing(self._rows(sql)) as rows:
+                kinds = self._write_records(name.strip('"').lower() + ".csv", columns, rows)
         declared = ", ".join(f"{cli_name(column.name)} {kind} NOT NULL" for column, kind in zip(columns, kinds))
         return f"CREATE TABLE {name} ({declared})"
+
+    def _rows(self, sql: str) -> Generator[Row, None, None]:
+        yield from self.connection.stream(sql)
 
     def _write_records(self, file: str, columns: list[Column], rows: Iterator[Row]) -> list[str]:
         """Writes the rows. Returns the types of the columns."""
@@ -208,6 +213,12 @@ class Export:
         if max(longest) > MOST_CHARACTERS:
             raise Refused(f"{file} has a text of more than {MOST_CHARACTERS} characters")
         return ["INTEGER" if kind is int else f"VARCHAR({most})" for kind, most in zip(kinds, longest)]
+
+
+def missing_folders(folder: str) -> list[str]:
+    """The folder and those above it that aren't there, the highest first."""
+    folder = os.path.abspath(folder)
+    return [] if os.path.exists(folder) else [*missing_folders(os.path.dirname(folder)), folder]
 
 
 def _check_row(file: str, number: int, columns: list[Column], row: Row, kinds: list[type]) -> None:

@@ -20,6 +20,8 @@ from .reading import Statement, Tokens, read
 from .schema_file import declared
 from .tokens import BACKTICKS, DOUBLE_QUOTES, Token, dialect_rules, part_of_name, tokens, unquoted, written
 
+# A later sqlglot reads some texts in another way.
+TESTED_SQLGLOT = re.compile(r"10\.([6-9]|\d\d)\b")
 DAYS = ("now", "today", "tomorrow", "yesterday")
 
 # As keywords, without quotes, these words keep or leave out rows differently from an inner join. As names they need
@@ -172,6 +174,11 @@ class SchemaFile(Catalog):
             raise Missing(
                 "sqlglot reads the SQL of engines that aren't reached: run engines/setup, or install python3-sqlglot"
             ) from None
+        if not TESTED_SQLGLOT.match(sqlglot.__version__):
+            raise Missing(
+                f"sqlglot {sqlglot.__version__} is installed, and only 10.6 was tested: pip install 'sqlglot ~= 10.6',"
+                " or Debian 12's python3-sqlglot"
+            )
         logging.getLogger("sqlglot").setLevel(logging.CRITICAL)
         try:
             trees = sqlglot.parse(written(pieces), read=self.dialect.name)

@@ -230,14 +230,33 @@ class Commands(OnEachEngine, Process):
                 ),
             ):
                 with self.subTest(text):
-                    self.assertIn(words, self.done("export", os.path.join(folder, "new"), text=text, status=5))
+                    told = self.done("export", os.path.join(folder, "new", "one"), text=text, status=5)
+                    self.assertIn(words, told)
+                    self.assertEqual((told.count("\n"), os.listdir(folder)), (1, []), told)
+
+
+class OfAnotherSqlglot(Process, unittest.TestCase):
+    def test_a_version_that_was_not_tested_is_refused(self) -> None:
+        with tempfile.TemporaryDirectory() as folder:
+            for name, text in (
+                ("sqlglot.py", "__version__ = '25.1.0'"), ("schema.sql", "CREATE TABLE t (a INTEGER)"),
+                ("query.sql", "SELECT a FROM t"),
+            ):
+                with open(os.path.join(folder, name), "w") as file:
+                    file.write(text)
+            words = [PROGRAM, "counts", "--dialect", "duckdb", "--schema", "schema.sql", "query.sql"]
+            ended = subprocess.run(
+                words, cwd=folder, env={**os.environ, "PYTHONPATH": folder}, capture_output=True, text=True
+            )
+            self.assertEqual((ended.returncode, ended.stderr.count("\n")), (13, 1), ended.stderr)
+            self.assertIn("sqlglot 25.1.0 is installed, and only 10.6 was tested", ended.stderr)
 
 
 class Installed(unittest.TestCase):
     """pip installs the package and its command, and the command runs."""
 
     @in_full
-    @unittest.skipUnless(all(map(importlib.util.find_spec, ("setuptools", "pip"))), "no pip or no setuptools")
+    @unittest.skipUnless(importlib.util.find_spec("pip"), "no pip")
     def test_by_pip(self) -> None:
         with tempfile.TemporaryDirectory() as folder:
             for part in ("engines", "python"):

@@ -22,6 +22,8 @@ def explain(fault: Fault, run: Run) -> list[str]:
     file = fault.file
     if not file:
         return ["The name of the file is empty."]
+    if file == "-":
+        return ["The program reads files, and no standard input. Write the text into a file, and name that in place of -."]
     if is_one_query(file):
         return [
             f"Here stands the text of a query, {plain(file)[:60]}, and the name of a file has to. Write the text into a"
@@ -62,6 +64,8 @@ def missing_table(name: str, run: Run) -> list[str]:
     file, folder = name.lower() + ".csv", run.path_of(".")
     if os.path.isfile(file):
         return no_table(file, run)
+    if os.path.isdir(file):
+        return [f"{why_unreadable(file)} So there is no table {plain(name)}."]
     near = near_file(file, ".", run)
     return [
         f"There is no file {plain(file)} in {plain(folder)}, so there is no table {plain(name)}.",

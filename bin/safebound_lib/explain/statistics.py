@@ -3,6 +3,7 @@ lacks the table.
 """
 from __future__ import annotations
 
+import os
 import shlex
 from typing import TYPE_CHECKING
 
@@ -32,6 +33,12 @@ def explain(fault: Fault, run: Run) -> list[str]:
                 f"{entry_called(run, at)} needs statistics that {file} doesn't have: it was made for a query that"
                 " doesn't name its table, or compares or joins other columns."
             ),
+            anew,
+        ]
+    if fault.cause == "syntax" and not os.path.getsize(run.stats_file or ""):
+        return [
+            f"{file} is empty. Either what should have written it failed, or a command read it whose output went into it:"
+            " the shell empties such a file first.",
             anew,
         ]
     if fault.cause == "syntax":

@@ -265,6 +265,11 @@ def wrong_places(command: Command, found: list[str]) -> str | None:
             f"{command.word} takes files, and here stands the text of a query. Write it into a file beside the tables:"
             f"\n    echo {plain(shlex.quote(found[0]))} > query.sql\n    safebound {command.word} query.sql --data ."
         )
+    if command.positional == ("NUMBER",) and not found:
+        return (
+            f"{command.word} wants a number, from 0 to {MOST_SEED:,}: it makes other rows for each."
+            f"\n    safebound {command.word} 7"
+        )
     if len(found) < len(command.positional):
         return f"{command.word} lacks {series(command.positional[len(found):])}."
     if len(found) > len(command.positional):
