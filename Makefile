@@ -100,6 +100,7 @@ checks:
 
 check-pages:
 	tools/check-docs
+	python3 -B -m unittest tests/test_reading_list.py
 	tools/check-places
 check-heads:
 	tools/check-heads --must
