@@ -10,13 +10,15 @@ import unittest
 ROOT = os.path.dirname(os.path.dirname(os.path.abspath(__file__)))
 TOOLS = ("reading-list", "check-docs")
 STANDS = "crates/tree_bounds/specs/SetBounds.antt"
+DROPPED = "tree_bounds.specs.SetBounds.bound_of_set"
 
 
 class ReadingTest(unittest.TestCase):
     def setUp(self) -> None:
         self.folder = self.enterContext(tempfile.TemporaryDirectory())
-        listed = subprocess.run(["git", "ls-files", "-co", "--exclude-standard", "crates"], cwd=ROOT, check=True, capture_output=True, text=True)
-        kept = (path for path in listed.stdout.splitlines() if "/specs/" in path or path.endswith(".rt"))
+        words = ["git", "ls-files", "-co", "--exclude-standard", "crates"]
+        listed = subprocess.run(words, cwd=ROOT, check=True, capture_output=True, text=True).stdout
+        kept = (path for path in listed.splitlines() if "/specs/" in path or path.endswith(".rt"))
         tools = (f"tools/{tool}" for tool in TOOLS)
         for path in [*kept, *tools, "crates.txt", "docs/USING.md"]:
             if os.path.isfile(os.path.join(ROOT, path)):
@@ -46,7 +48,7 @@ class ReadingTest(unittest.TestCase):
         self.assertEqual(self.said(), "")
 
     def test_the_list_drops_one_import(self) -> None:
-        self.change("tools/reading-list", "for path in paths:", 'for path in [p for p in paths if p != "tree_bounds.specs.SetBounds.bound_of_set"]:')
+        self.change("tools/reading-list", "for path in paths:", f'for path in [p for p in paths if p != "{DROPPED}"]:')
         self.assertIn("one of two readers", self.said())
 
     def test_the_list_follows_no_module_that_is_handed_on(self) -> None:
@@ -54,12 +56,15 @@ class ReadingTest(unittest.TestCase):
         self.assertIn("counted_planning.specs.Bounds", self.said())
 
     def test_the_second_reader_drops_one_import(self) -> None:
-        self.change("tools/check-docs", "for path in names_of(text[begin:end]).values()]", 'for path in names_of(text[begin:end]).values() if path != "tree_bounds.specs.SetBounds.bound_of_set"]')
+        taken = "for path in names_of(text[begin:end]).values()"
+        self.change("tools/check-docs", f"{taken}]", f'{taken} if path != "{DROPPED}"]')
         self.assertIn("one of two readers", self.said())
 
     def test_the_second_reader_knows_no_renamed_names(self) -> None:
-        self.change("tools/check-docs", 'taken, _, renamed = item.strip().partition(" as ")', 'taken, renamed = item.strip(), ""')
-        self.change("tools/check-docs", 'if front in self.files and not front.endswith(".specs"):', "if front == path and front in self.files:")
+        parted = 'taken, _, renamed = item.strip().partition(" as ")'
+        self.change("tools/check-docs", parted, 'taken, renamed = item.strip(), ""')
+        known = 'if front in self.files and not front.endswith(".specs"):'
+        self.change("tools/check-docs", known, "if front == path and front in self.files:")
         self.assertIn("by a second reader", self.said())
 
     def test_the_list_counts_a_line_too_few(self) -> None:
@@ -79,7 +84,8 @@ class ReadingTest(unittest.TestCase):
         self.assertIn("a file of proofs/", self.said())
 
     def test_another_total_on_the_page(self) -> None:
-        text = subprocess.run([os.path.join(ROOT, "tools", "reading-list"), "headline"], check=True, capture_output=True, text=True).stdout
+        words = [os.path.join(ROOT, "tools", "reading-list"), "headline"]
+        text = subprocess.run(words, check=True, capture_output=True, text=True).stdout
         total = text.splitlines()[-1]
         self.change("docs/USING.md", total, total.replace("files", "file"))
         self.assertIn(total, self.said())
