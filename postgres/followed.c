@@ -411,7 +411,7 @@ safebound_follow(PG_FUNCTION_ARGS)
 		ereport(ERROR,
 				(errcode(ERRCODE_E_R_I_E_TRIGGER_PROTOCOL_VIOLATED),
 				 errmsg("safebound.follow is called by triggers alone")));
-	if (!OidIsValid(extension_table("kept_delta")))
+	if (extension_presence() != PRESENT)
 		return PointerGetDatum(NULL);
 	if (TRIGGER_FIRED_FOR_ROW(trigger->tg_event))
 	{

@@ -33,42 +33,12 @@
 PG_FUNCTION_INFO_V1(safebound_keep);
 PG_FUNCTION_INFO_V1(safebound_forget);
 
-static Oid
-owner_of(Oid relation)
-{
-	Relation opened = relation_open(relation, AccessShareLock);
-	Oid owner = opened->rd_rel->relowner;
-
-	relation_close(opened, AccessShareLock);
-	return owner;
-}
-
-/* Changes the extension's own tables as their owner, since a user who keeps a
- * table has no rights on them. */
-uint64
-write_own(const char *statement, int length, Oid *types, Datum *values)
-{
-	Oid user;
-	int context;
-
-	GetUserIdAndSecContext(&user, &context);
-	SetUserIdAndSecContext(owner_of(extension_table("kept_lists")),
-						   context | SECURITY_LOCAL_USERID_CHANGE);
-	if (SPI_execute_with_args(statement, length, types, values, NULL, false,
-							  0) < 0)
-		elog(ERROR, "can't be executed: %s", statement);
-	SetUserIdAndSecContext(user, context);
-	return SPI_processed;
-}
-
 void
 save_pair(const TableCounting *table_count, const Column *joined,
 		  const Column *filter, StringInfo bytes)
 {
-	Oid types[] = {REGCLASSOID, INT2OID,    INT2OID, INT2OID, OIDOID,  INT2OID,
-				   REGTYPEOID,  REGTYPEOID, OIDOID,  OIDOID,  BYTEAOID};
 	bytea *lists = palloc(VARHDRSZ + bytes->len);
-	Datum values[] = {
+	Datum values[LISTS_COLUMNS] = {
 		ObjectIdGetDatum(RelationGetRelid(table_count->relation)),
 		Int16GetDatum(joined ? joined->number : 0),
 		Int16GetDatum(filter ? filter->number : 0),
@@ -85,9 +55,8 @@ save_pair(const TableCounting *table_count, const Column *joined,
 
 	SET_VARSIZE(lists, VARHDRSZ + bytes->len);
 	memcpy(VARDATA(lists), bytes->data, bytes->len);
-	write_own("INSERT INTO safebound.kept_lists VALUES ($1, $2, $3, $4, $5, "
-			  "$6, $7, $8, $9, $10, $11)",
-			  11, types, values);
+	insert_own(KEPT_LISTS, values, NULL);
+	pfree(lists);
 }
 
 /* Whether a column's type has an order, so that equal values can be found. */
@@ -261,34 +230,6 @@ open_owned(Oid relation)
 	return opened;
 }
 
-static bool
-forget_table(Oid relation)
-{
-	Oid types[] = {REGCLASSOID};
-	Datum values[] = {ObjectIdGetDatum(relation)};
-
-	write_own("DELETE FROM safebound.kept_lists WHERE relation = $1", 1, types,
-			  values);
-	CacheInvalidateRelcacheByRelid(relation);
-	return write_own("DELETE FROM safebound.kept_table WHERE relation = $1", 1,
-					 types, values) > 0;
-}
-
-static void
-save_table(const TableCounting *table_count)
-{
-	Oid types[] = {REGCLASSOID, INT8OID, INT2OID, INT2OID, INT2OID};
-	Datum values[] = {
-		ObjectIdGetDatum(RelationGetRelid(table_count->relation)),
-		Int64GetDatum(table_count->rows), Int16GetDatum(table_count->accuracy),
-		Int16GetDatum(table_count->most_common),
-		Int16GetDatum(table_count->most_leaves)};
-
-	write_own(
-		"INSERT INTO safebound.kept_table VALUES ($1, $2, $3, $4, $5, now())",
-		5, types, values);
-}
-
 static int
 within(int value, int least, int most, const char *name)
 {
@@ -315,14 +256,14 @@ keep_table(Oid relation, Bitmapset *joined, Bitmapset *filters,
 	SPI_connect();
 	choose_columns(&table_count, joined, filters);
 	begin_counting(table_count.relation, folding, &before, &followed);
-	forget_table(relation);
+	forget_kept(relation);
+	CacheInvalidateRelcache(table_count.relation);
 	read_columns(&table_count);
 	keep_whole(&table_count);
 	keep_filters(&table_count, table_count.columns, table_count.length);
 	keep_references(&table_count);
 	end_columns(table_count.columns, table_count.length);
-	save_table(&table_count);
-	end_counting(&before, followed);
+	end_counting(&table_count, &before, followed);
 	SPI_finish();
 	relation_close(table_count.relation, NoLock);
 	return table_count.lists;
@@ -366,10 +307,9 @@ safebound_forget(PG_FUNCTION_ARGS)
 	bool were;
 
 	LockRelationOid(PG_GETARG_OID(0), ShareUpdateExclusiveLock);
-	SPI_connect();
-	were = forget_table(PG_GETARG_OID(0));
-	SPI_finish();
+	were = forget_kept(PG_GETARG_OID(0));
 	delete_deltas(PG_GETARG_OID(0), NULL);
+	CacheInvalidateRelcache(opened);
 	relation_close(opened, NoLock);
 	PG_RETURN_BOOL(were);
 }

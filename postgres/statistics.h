@@ -110,8 +110,6 @@ extern DegreeList get_list(const char **at, const char *end);
 /* keep.c: makes the statistics of a table and stores them. */
 extern Relation open_owned(Oid relation);
 extern Oid sort_collation(Oid collation);
-extern uint64
-write_own(const char *statement, int length, Oid *types, Datum *values);
 extern int64
 keep_table(Oid relation, Bitmapset *joined, Bitmapset *filters,
 		   int most_common, int most_leaves, int accuracy, bool folding);
@@ -129,7 +127,6 @@ extern DegreeList
 with_deltas(const KeptTable *table, AttrNumber joined, DegreeList list);
 
 /* kept.c: the statistics that this backend has read, in its memory. */
-extern Oid extension_table(const char *name);
 extern const KeptTable *kept_table(Oid relation);
 extern char *why_not_known(Oid relation);
 extern const KeptPair *

@@ -192,117 +192,15 @@ begin_counting(Relation relation, bool folding, KeptRow *before,
 	forget_marks();
 }
 
-static Datum
-oid_array(List *oids)
-{
-	Datum *values = palloc(sizeof(Datum) * (list_length(oids) + 1));
-	ListCell *cell;
-
-	foreach (cell, oids)
-		values[foreach_current_index(cell)] =
-			ObjectIdGetDatum(lfirst_oid(cell));
-	return PointerGetDatum(construct_array(values, list_length(oids), OIDOID,
-										   4, true, TYPALIGN_INT));
-}
-
-/* Stores with the new statistics which columns they count, and the tables on
- * which a statement may write rows. */
-static void
-note_sources(Oid relation, List *sources)
-{
-	Oid types[] = {REGCLASSOID, OIDARRAYOID};
-	Datum values[] = {ObjectIdGetDatum(relation), oid_array(sources)};
-
-	write_own(
-		"UPDATE safebound.kept_table SET sources = nullif($2, '{}'::oid[]),"
-		" joined = ARRAY(SELECT joined FROM safebound.kept_lists WHERE "
-		"relation = $1 AND along = 0 AND filter = 0 AND joined > 0),"
-		" filters = ARRAY(SELECT filter FROM safebound.kept_lists WHERE "
-		"relation = $1 AND along = 0 AND joined = 0 AND filter > 0)"
-		" WHERE relation = $1",
-		2, types, values);
-}
-
-/* The columns of a table whose changes are followed. NULL unless the table is
- * watched and known. */
-static Bitmapset *
-followed_columns(Oid relation, KeptRow *kept_row)
-{
-	if (!find_kept_row(relation, GetActiveSnapshot(), kept_row) ||
-		kept_row->sources == NIL || has_mark(relation, GetActiveSnapshot()))
-		return NULL;
-	return bms_union(kept_row->joined, kept_row->filters);
-}
-
-/* The referred tables that have lists along a reference, as the active
-   snapshot sees them. A table is left out if changes of a column that was used
-   aren't followed. */
-static List *
-followed_references(Oid relation, uint64 rows, SPITupleTable *lists)
-{
-	List *followed = NIL;
-
-	for (uint64 at = 0; at < rows; at++)
-	{
-		bool null;
-		Oid referred = DatumGetObjectId(
-			SPI_getbinval(lists->vals[at], lists->tupdesc, 1, &null));
-		KeptRow kept_row;
-		Bitmapset *columns = followed_columns(referred, &kept_row);
-		ReferredTable *table = palloc(sizeof(ReferredTable));
-
-		if (columns == NULL ||
-			!bms_is_subset(numbers_in_array(SPI_getbinval(
-							   lists->vals[at], lists->tupdesc, 2, &null)),
-						   columns))
-			continue;
-		*table = (ReferredTable){referred, kept_row.version,
-								 count_deltas(referred, GetActiveSnapshot())};
-		followed = lappend(followed, table);
-	}
-	return followed;
-}
-
-static void
-note_references(Oid relation)
-{
-	Oid types[] = {REGCLASSOID, INT8ARRAYOID};
-	Datum values[2] = {ObjectIdGetDatum(relation)};
-	List *followed;
-	Datum *numbers;
-	ListCell *cell;
-	int length = 0;
-
-	write_own("SELECT referred, array_agg(DISTINCT filter) || "
-			  "array_agg(DISTINCT key) FROM safebound.kept_lists"
-			  " WHERE relation = $1 AND along > 0 GROUP BY referred",
-			  1, types, values);
-	followed = followed_references(relation, SPI_processed, SPI_tuptable);
-	numbers = palloc(sizeof(Datum) * 3 * (list_length(followed) + 1));
-	foreach (cell, followed)
-	{
-		ReferredTable *table = lfirst(cell);
-
-		numbers[length++] = Int64GetDatum(table->relation);
-		numbers[length++] = Int64GetDatum(table->version);
-		numbers[length++] = Int64GetDatum(table->deltas);
-	}
-	values[1] = PointerGetDatum(construct_array(
-		numbers, length, INT8OID, 8, FLOAT8PASSBYVAL, TYPALIGN_DOUBLE));
-	write_own(
-		"UPDATE safebound.kept_table SET referred = $2 WHERE relation = $1", 2,
-		types, values);
-}
-
 void
-end_counting(const KeptRow *before, bool was_followed)
+end_counting(const TableCounting *table_count, const KeptRow *before,
+			 bool was_followed)
 {
-	note_references(before->relation);
+	save_kept(table_count,
+			  was_followed && is_intact(before->relation, before->sources)
+				  ? before->sources
+				  : NIL);
 	PopActiveSnapshot();
-	note_sources(before->relation,
-				 was_followed && is_intact(before->relation, before->sources)
-					 ? before->sources
-					 : NIL);
 }
 
 static void
@@ -458,10 +356,11 @@ safebound_unwatch(PG_FUNCTION_ARGS)
 	Oid relation = PG_GETARG_OID(0);
 	bool triggers = may_have_triggers(relation);
 	KeptRow kept_row = {0};
-	bool were =
-		find_kept_row(relation, NULL, &kept_row) && kept_row.sources != NIL;
+	bool were;
 	ListCell *cell;
 
+	LockRelationOid(relation, ShareUpdateExclusiveLock);
+	were = find_kept_row(relation, NULL, &kept_row) && kept_row.sources != NIL;
 	SPI_connect();
 	if (were)
 		note_sources(relation, NIL);
@@ -494,7 +393,7 @@ fold_full(List *named)
 {
 	ListCell *cell;
 
-	foreach (cell, followers_of(InvalidOid))
+	foreach (cell, all_kept())
 	{
 		KeptRow *kept_row = lfirst(cell);
 
@@ -558,7 +457,7 @@ on_utility(PlannedStmt *statement, const char *text, bool read_only,
 		standard_ProcessUtility(statement, text, read_only, context,
 								parameters, environment, destination,
 								completion);
-	if (folds && OidIsValid(extension_table("kept_delta")))
+	if (folds && extension_presence() == PRESENT)
 	{
 		PushActiveSnapshot(GetTransactionSnapshot());
 		fold_full(named);
@@ -579,15 +478,8 @@ mark_broken(Oid relation)
 static void
 forget_dropped(Oid relation)
 {
-	Oid types[] = {REGCLASSOID};
-	Datum values[] = {ObjectIdGetDatum(relation)};
-
-	write_own("DELETE FROM safebound.kept_lists WHERE relation = $1", 1, types,
-			  values);
-	write_own("DELETE FROM safebound.kept_delta WHERE relation = $1", 1, types,
-			  values);
-	write_own("DELETE FROM safebound.kept_table WHERE relation = $1", 1, types,
-			  values);
+	forget_kept(relation);
+	delete_deltas(relation, NULL);
 }
 
 static void
@@ -595,7 +487,7 @@ check_all(void)
 {
 	ListCell *cell;
 
-	foreach (cell, followers_of(InvalidOid))
+	foreach (cell, all_kept())
 	{
 		KeptRow *kept_row = lfirst(cell);
 
@@ -655,7 +547,7 @@ safebound_on_change(PG_FUNCTION_ARGS)
 			ERROR,
 			(errcode(ERRCODE_E_R_I_E_EVENT_TRIGGER_PROTOCOL_VIOLATED),
 			 errmsg("safebound.on_change is called by event triggers alone")));
-	if (!OidIsValid(extension_table("kept_delta")))
+	if (extension_presence() != PRESENT)
 		return PointerGetDatum(NULL);
 	SPI_connect();
 	if (strcmp(event->event, "table_rewrite") == 0)
