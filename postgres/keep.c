@@ -283,29 +283,54 @@ named_or_all(Oid relation, FunctionCallInfo fcinfo, int argument)
 	return numbers;
 }
 
+/* Tells a session once that a budget needs more than kept tables. */
+static void
+say_not_watched(Oid relation)
+{
+	static bool told = false;
+	KeptRow kept_row;
+
+	if (told || !find_kept_row(relation, NULL, &kept_row) ||
+		kept_row.sources != NIL)
+		return;
+	told = true;
+	ereport(NOTICE,
+			(errmsg("\"%s\" is kept, and not watched: safebound.budget takes "
+					"bounds of watched tables alone",
+					get_rel_name(relation)),
+			 errhint("safebound.watch counts a table and follows the rows "
+					 "that come.")));
+}
+
 Datum
 safebound_keep(PG_FUNCTION_ARGS)
 {
 	Oid relation = PG_GETARG_OID(0);
+	int64 lists;
 
+	check_use();
 	if (PG_ARGISNULL(0) || PG_ARGISNULL(3) || PG_ARGISNULL(4) ||
 		PG_ARGISNULL(5))
 		PG_RETURN_NULL();
-	PG_RETURN_INT64(keep_table(
+	lists = keep_table(
 		relation, named_or_all(relation, fcinfo, 1),
 		named_or_all(relation, fcinfo, 2),
 		within(PG_GETARG_INT32(3), 0, 1000, "common"),
 		within(PG_GETARG_INT32(4), 0, 1000, "ranges"),
 		within(PG_GETARG_INT32(5), 1, SAFEBOUND_MOST_ACCURACY, "accuracy"),
-		false));
+		false);
+	say_not_watched(relation);
+	PG_RETURN_INT64(lists);
 }
 
 Datum
 safebound_forget(PG_FUNCTION_ARGS)
 {
-	Relation opened = open_owned(PG_GETARG_OID(0));
+	Relation opened;
 	bool were;
 
+	check_use();
+	opened = open_owned(PG_GETARG_OID(0));
 	LockRelationOid(PG_GETARG_OID(0), ShareUpdateExclusiveLock);
 	were = forget_kept(PG_GETARG_OID(0));
 	delete_deltas(PG_GETARG_OID(0), NULL);

@@ -172,6 +172,10 @@ load_table(const KeptRow *kept_row, Snapshot snapshot)
 	table->version = kept_row->version;
 	table->context = context;
 	read_table(table, snapshot);
+	/* pg_upgrade takes statistics along, and no internal triggers. */
+	table->valid = table->valid &&
+		(kept_row->sources == NIL ||
+		 is_intact(kept_row->relation, kept_row->sources));
 	MemoryContextSwitchTo(before);
 	return table;
 }

@@ -1,5 +1,6 @@
 /* How the extension's own tables are found, read and written. */
 #include "own_tables.h"
+#include "statistics.h"
 
 #include "access/genam.h"
 #include "access/htup_details.h"
@@ -169,7 +170,8 @@ find_identity(void)
 		if (OidIsValid(extension))
 		{
 			find_members(extension, &found);
-			found.presence = presence_of(&found);
+			found.presence =
+				library_fits() ? presence_of(&found) : DIFFERENT;
 		}
 		identity = found;
 		identity.known = invalidations == before;

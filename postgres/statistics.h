@@ -5,6 +5,10 @@
 
 #include "postgres.h"
 
+#if PG_VERSION_NUM < 150000 || PG_VERSION_NUM >= 160000
+#error "this version of safebound is for PostgreSQL 15 alone"
+#endif
+
 #include "lib/stringinfo.h"
 #include "nodes/pathnodes.h"
 #include "safebound.h"
@@ -125,6 +129,10 @@ extern bool admission_paused;
  * that returns a table's list passes it through this function. */
 extern DegreeList
 with_deltas(const KeptTable *table, AttrNumber joined, DegreeList list);
+
+/* use.c: checks before the extension does anything. */
+extern bool library_fits(void);
+extern void check_use(void);
 
 /* kept.c: the statistics that this backend has read, in its memory. */
 extern const KeptTable *kept_table(Oid relation);

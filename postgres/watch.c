@@ -7,16 +7,15 @@
 #include "access/relation.h"
 #include "access/table.h"
 #include "access/xact.h"
+#include "catalog/namespace.h"
 #include "catalog/pg_class.h"
 #include "catalog/pg_inherits.h"
-#include "catalog/pg_trigger.h"
 #include "catalog/pg_type.h"
 #include "commands/defrem.h"
 #include "commands/event_trigger.h"
 #include "commands/trigger.h"
 #include "executor/spi.h"
 #include "miscadmin.h"
-#include "parser/parse_func.h"
 #include "storage/lmgr.h"
 #include "tcop/utility.h"
 #include "utils/acl.h"
@@ -84,47 +83,9 @@ applies_rows(Oid source, Oid relation)
 		(source == relation || is_part_of(source, relation));
 }
 
-/* Counts our triggers on a source: statement triggers that always fire, and
- * row triggers that fire on replicas. */
-static void
-count_triggers(Oid source, int *statements, int *rows)
-{
-	Relation opened = try_relation_open(source, AccessShareLock);
-	TriggerDesc *triggers = opened ? opened->trigdesc : NULL;
-	Oid follow = LookupFuncName(
-		list_make2(makeString("safebound"), makeString("follow")), 0, NULL,
-		true);
-
-	*statements = *rows = 0;
-	for (int i = 0; triggers && i < triggers->numtriggers; i++)
-	{
-		Trigger *trigger = &triggers->triggers[i];
-
-		if (trigger->tgfoid != follow)
-			continue;
-		if (TRIGGER_FOR_ROW(trigger->tgtype))
-			*rows += trigger->tgenabled == TRIGGER_FIRES_ON_REPLICA;
-		else
-			*statements += trigger->tgenabled == TRIGGER_FIRES_ALWAYS;
-	}
-	if (opened)
-		relation_close(opened, AccessShareLock);
-}
-
-/* Whether a source has all its triggers: three for statements, and one for
- * rows if a replica may apply them. */
-static bool
-has_triggers(Oid source, bool applies)
-{
-	int statements, rows;
-
-	count_triggers(source, &statements, &rows);
-	return statements == 3 && (rows == 1 || !applies);
-}
-
 /* Whether `followed` has all tables on which a statement may write rows of
  * this one, and each of them has its triggers. */
-static bool
+bool
 is_intact(Oid relation, List *followed)
 {
 	List *sources = tables_writing_to(relation);
@@ -203,84 +164,20 @@ end_counting(const TableCounting *table_count, const KeptRow *before,
 	PopActiveSnapshot();
 }
 
-static void
-execute(const char *format, const char *table)
-{
-	char *statement = psprintf(format, table);
-
-	if (SPI_execute(statement, false, 0) < 0)
-		elog(ERROR, "can't be executed: %s", statement);
-}
-
-static char *
-quoted_name(Oid relation)
-{
-	return quote_qualified_identifier(
-		get_namespace_name(get_rel_namespace(relation)),
-		get_rel_name(relation));
-}
-
-static void
-make_statement_triggers(const char *name)
-{
-	execute(
-		"CREATE OR REPLACE TRIGGER safebound_begin BEFORE INSERT OR UPDATE ON "
-		"%s FOR EACH STATEMENT EXECUTE FUNCTION safebound.follow()",
-		name);
-	execute("CREATE OR REPLACE TRIGGER safebound_insert AFTER INSERT ON %s "
-			"REFERENCING NEW TABLE AS new_rows FOR EACH STATEMENT EXECUTE "
-			"FUNCTION safebound.follow()",
-			name);
-	execute("CREATE OR REPLACE TRIGGER safebound_update AFTER UPDATE ON %s "
-			"REFERENCING OLD TABLE AS old_rows NEW TABLE AS new_rows FOR EACH "
-			"STATEMENT EXECUTE FUNCTION safebound.follow()",
-			name);
-	execute(
-		"ALTER TABLE %s ENABLE ALWAYS TRIGGER safebound_begin, ENABLE ALWAYS "
-		"TRIGGER safebound_insert, ENABLE ALWAYS TRIGGER safebound_update",
-		name);
-}
-
-/* Makes the triggers of a source, and waits for all who are writing to it.
-   Existing triggers stay: tables below need them, and would count as unknown
-   if the triggers were made again. */
-static void
-make_triggers(Oid source, bool applies)
-{
-	char *name = quoted_name(source);
-	int statements, rows;
-
-	LockRelationOid(source, ShareRowExclusiveLock);
-	count_triggers(source, &statements, &rows);
-	if (statements != 3)
-		make_statement_triggers(name);
-	if (!applies || rows == 1)
-		return;
-	execute("CREATE OR REPLACE TRIGGER safebound_applied AFTER INSERT OR "
-			"UPDATE ON %s FOR EACH ROW EXECUTE FUNCTION safebound.follow()",
-			name);
-	execute("ALTER TABLE %s ENABLE REPLICA TRIGGER safebound_applied", name);
-}
-
 /* Drops the triggers on a source of a table that isn't watched any more,
  * unless another table needs them. */
 static void
-drop_triggers(Oid source)
+drop_unneeded_triggers(Oid source)
 {
-	char *name = quoted_name(source);
+	List *followers = followers_of(source);
 	bool applies = false;
 	ListCell *cell;
 
-	foreach (cell, followers_of(source))
+	foreach (cell, followers)
 		applies = applies ||
 			applies_rows(source, ((KeptRow *) lfirst(cell))->relation);
-	if (!applies && get_rel_relkind(source) == RELKIND_RELATION)
-		execute("DROP TRIGGER IF EXISTS safebound_applied ON %s", name);
-	if (followers_of(source) != NIL)
-		return;
-	execute("DROP TRIGGER IF EXISTS safebound_begin ON %s", name);
-	execute("DROP TRIGGER IF EXISTS safebound_insert ON %s", name);
-	execute("DROP TRIGGER IF EXISTS safebound_update ON %s", name);
+	if (followers == NIL || !applies)
+		drop_triggers(source, followers != NIL);
 }
 
 /* Counts a table again. If it has statistics, the same columns are counted. */
@@ -325,11 +222,14 @@ Datum
 safebound_watch(PG_FUNCTION_ARGS)
 {
 	Oid relation = PG_GETARG_OID(0);
-	bool triggers = may_have_triggers(relation);
-	List *sources = tables_writing_to(relation);
+	bool triggers;
+	List *sources;
 	int64 lists;
 	ListCell *cell;
 
+	check_use();
+	triggers = may_have_triggers(relation);
+	sources = tables_writing_to(relation);
 	refuse_old_snapshot();
 	SPI_connect();
 	foreach (cell, triggers ? sources : NIL)
@@ -354,11 +254,12 @@ Datum
 safebound_unwatch(PG_FUNCTION_ARGS)
 {
 	Oid relation = PG_GETARG_OID(0);
-	bool triggers = may_have_triggers(relation);
+	bool triggers, were;
 	KeptRow kept_row = {0};
-	bool were;
 	ListCell *cell;
 
+	check_use();
+	triggers = may_have_triggers(relation);
 	LockRelationOid(relation, ShareUpdateExclusiveLock);
 	were = find_kept_row(relation, NULL, &kept_row) && kept_row.sources != NIL;
 	SPI_connect();
@@ -367,7 +268,7 @@ safebound_unwatch(PG_FUNCTION_ARGS)
 	foreach (cell, triggers ? tables_writing_to(relation) : NIL)
 		if (lfirst_oid(cell) == relation ||
 			is_part_of(lfirst_oid(cell), relation))
-			drop_triggers(lfirst_oid(cell));
+			drop_unneeded_triggers(lfirst_oid(cell));
 	SPI_finish();
 	PG_RETURN_BOOL(were);
 }
@@ -378,6 +279,7 @@ safebound_fold(PG_FUNCTION_ARGS)
 	Oid relation = PG_GETARG_OID(0);
 	KeptRow kept_row;
 
+	check_use();
 	if (!find_kept_row(relation, NULL, &kept_row))
 		ereport(ERROR,
 				(errcode(ERRCODE_OBJECT_NOT_IN_PREREQUISITE_STATE),

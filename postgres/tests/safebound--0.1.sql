@@ -55,14 +55,6 @@ CREATE TABLE kept_delta (
 );
 REVOKE ALL ON kept_delta FROM PUBLIC;
 
--- The sources of watched tables again, to find by an index the tables that a statement on `source` may write to.
-CREATE TABLE kept_source (
-    source oid NOT NULL,
-    relation oid NOT NULL,
-    PRIMARY KEY (source, relation)
-);
-REVOKE ALL ON kept_source FROM PUBLIC;
-
 CREATE FUNCTION keep(relation regclass, columns name[] DEFAULT NULL, filters name[] DEFAULT NULL,
                      common integer DEFAULT 100, ranges integer DEFAULT 64, accuracy integer DEFAULT 8) RETURNS bigint
 AS 'MODULE_PATHNAME', 'safebound_keep' LANGUAGE C VOLATILE CALLED ON NULL INPUT;
