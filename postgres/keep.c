@@ -1,6 +1,7 @@
 /* safebound.keep and safebound.forget: which columns of a table are counted,
  * and where the lists are written. */
 #include "counting.h"
+#include "owner.h"
 #include "watch.h"
 
 #include "access/htup_details.h"
@@ -13,7 +14,6 @@
 #include "catalog/pg_class.h"
 #include "catalog/pg_collation.h"
 #include "catalog/pg_type.h"
-#include "executor/spi.h"
 #include "executor/tuptable.h"
 #include "miscadmin.h"
 #include "storage/lmgr.h"
@@ -250,10 +250,10 @@ keep_table(Oid relation, Bitmapset *joined, Bitmapset *filters,
 								 .most_leaves = most_leaves,
 								 .accuracy = accuracy,
 								 .relation = open_owned(relation)};
+	Caller caller = begin_as_owner(table_count.relation->rd_rel->relowner);
 	bool followed;
 	KeptRow before;
 
-	SPI_connect();
 	choose_columns(&table_count, joined, filters);
 	begin_counting(table_count.relation, folding, &before, &followed);
 	forget_kept(relation);
@@ -264,7 +264,7 @@ keep_table(Oid relation, Bitmapset *joined, Bitmapset *filters,
 	keep_references(&table_count);
 	end_columns(table_count.columns, table_count.length);
 	end_counting(&table_count, &before, followed);
-	SPI_finish();
+	end_as_owner(&caller);
 	relation_close(table_count.relation, NoLock);
 	return table_count.lists;
 }
