@@ -119,21 +119,20 @@ find_kept_row(Oid relation, Snapshot snapshot, KeptRow *kept_row)
 	return found;
 }
 
-/* All kept tables, as of now. */
+/* The oids of all kept tables, as of now. */
 List *
 all_kept(void)
 {
 	OwnScan scan = begin_own_scan(KEPT_TABLE, NULL, 0, NULL);
 	List *all = NIL;
 	HeapTuple tuple;
+	bool null;
 
 	while (HeapTupleIsValid(tuple = next_own(&scan)))
-	{
-		KeptRow *kept_row = palloc0(sizeof(KeptRow));
-
-		read_kept_row(scan.own, tuple, kept_row);
-		all = lappend(all, kept_row);
-	}
+		all = lappend_oid(
+			all,
+			DatumGetObjectId(heap_getattr(tuple, TABLE_RELATION,
+										  RelationGetDescr(scan.own), &null)));
 	end_own_scan(&scan);
 	return all;
 }

@@ -27,6 +27,9 @@ REVOKE ALL ON safebound.kept_source FROM PUBLIC;
 INSERT INTO safebound.kept_source (source, relation)
     SELECT s, t.relation FROM safebound.kept_table t, pg_catalog.unnest(t.sources) s;
 
+-- Only the extension calls these two, and PostgreSQL asks for no right then.
+REVOKE EXECUTE ON FUNCTION safebound.follow(), safebound.on_change() FROM PUBLIC;
+
 -- The schema belongs to the extension from now on, and no more the extension to the schema.
 DO $$
 BEGIN

@@ -108,6 +108,8 @@ COMMENT ON FUNCTION safebound.fold(regclass) IS 'counts a table anew, with the r
 
 CREATE FUNCTION safebound.follow() RETURNS trigger AS 'MODULE_PATHNAME', 'safebound_follow' LANGUAGE C;
 CREATE FUNCTION safebound.on_change() RETURNS event_trigger AS 'MODULE_PATHNAME', 'safebound_on_change' LANGUAGE C;
+-- Only the extension calls these two, and PostgreSQL asks for no right then.
+REVOKE EXECUTE ON FUNCTION safebound.follow(), safebound.on_change() FROM PUBLIC;
 CREATE EVENT TRIGGER safebound_change ON ddl_command_end EXECUTE FUNCTION safebound.on_change();
 CREATE EVENT TRIGGER safebound_drop ON sql_drop EXECUTE FUNCTION safebound.on_change();
 CREATE EVENT TRIGGER safebound_rewrite ON table_rewrite EXECUTE FUNCTION safebound.on_change();

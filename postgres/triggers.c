@@ -1,169 +1,175 @@
-/* The triggers of a table that is watched.
+/* Triggers are internal ones, made without SQL: pg_dump leaves them out, a
+   table's owner can't disable or replace them, and DROP EXTENSION drops them.
+ */
+#include "triggers.h"
+#include "own_tables.h"
 
-   They are internal triggers, as those of a foreign key are: pg_dump leaves
-   them out, nobody can make one by SQL or replace it, and only a superuser
-   disables it. They depend on the extension's function in such a way that
-   DROP EXTENSION drops them. */
-#include "watch.h"
-
-#include "access/genam.h"
 #include "access/htup_details.h"
 #include "access/table.h"
 #include "access/xact.h"
 #include "catalog/dependency.h"
 #include "catalog/pg_proc.h"
 #include "catalog/pg_trigger.h"
-#include "commands/trigger.h"
-#include "miscadmin.h"
 #include "nodes/makefuncs.h"
 #include "storage/lmgr.h"
-#include "utils/acl.h"
 #include "utils/fmgroids.h"
-#include "utils/lsyscache.h"
 #include "utils/rel.h"
 
-/* What a trigger is. `old_rows` and `new_rows`: it reads these. */
-typedef struct FollowTrigger
+#define OLD_ROWS "old_rows"
+#define NEW_ROWS "new_rows"
+
+typedef struct TriggerDefinition
 {
 	const char *name;
-	bool row;
-	int16 timing;
-	int16 events;
+	int16 type;
+	char enabled;
 	bool old_rows;
 	bool new_rows;
-	char fires;
-} FollowTrigger;
+} TriggerDefinition;
 
-/* The last one is for the rows that a replica applies. */
-enum
+/* Statements are followed always, and rows on replicas alone. */
+static const TriggerDefinition definitions[TRIGGER_KINDS] = {
+	[TRIGGER_BEGINS] = {"safebound_begin",
+						TRIGGER_TYPE_BEFORE | TRIGGER_TYPE_INSERT |
+							TRIGGER_TYPE_UPDATE,
+						TRIGGER_FIRES_ALWAYS, false, false},
+	[TRIGGER_INSERTED] = {"safebound_insert", TRIGGER_TYPE_INSERT,
+						  TRIGGER_FIRES_ALWAYS, false, true},
+	[TRIGGER_UPDATED] = {"safebound_update", TRIGGER_TYPE_UPDATE,
+						 TRIGGER_FIRES_ALWAYS, true, true},
+	[TRIGGER_APPLIED] = {"safebound_applied",
+						 TRIGGER_TYPE_ROW | TRIGGER_TYPE_INSERT |
+							 TRIGGER_TYPE_UPDATE,
+						 TRIGGER_FIRES_ON_REPLICA, false, false}};
+
+static TriggerKind
+kind_of(int16 type, bool old_rows, bool new_rows, bool plain)
 {
-	TRIGGER_APPLIED = 3,
-	TRIGGERS
-};
+	for (int kind = 0; plain && kind < TRIGGER_KINDS; kind++)
+		if (definitions[kind].type == type &&
+			definitions[kind].old_rows == old_rows &&
+			definitions[kind].new_rows == new_rows)
+			return kind;
+	return TRIGGER_OTHER;
+}
 
-static const FollowTrigger definitions[TRIGGERS] = {
-	{"safebound_begin", false, TRIGGER_TYPE_BEFORE,
-	 TRIGGER_TYPE_INSERT | TRIGGER_TYPE_UPDATE, false, false,
-	 TRIGGER_FIRES_ALWAYS},
-	{"safebound_insert", false, TRIGGER_TYPE_AFTER, TRIGGER_TYPE_INSERT, false,
-	 true, TRIGGER_FIRES_ALWAYS},
-	{"safebound_update", false, TRIGGER_TYPE_AFTER, TRIGGER_TYPE_UPDATE, true,
-	 true, TRIGGER_FIRES_ALWAYS},
-	{"safebound_applied", true, TRIGGER_TYPE_AFTER,
-	 TRIGGER_TYPE_INSERT | TRIGGER_TYPE_UPDATE, false, false,
-	 TRIGGER_FIRES_ON_REPLICA}};
-
-/* The triggers that a table has: by definition the oid of the one that is as
-   it should be, or InvalidOid, and the others that call our function. */
-typedef struct FoundTriggers
+TriggerKind
+kind_of_trigger(const Trigger *trigger)
 {
-	Oid right[TRIGGERS];
-	List *wrong;
-} FoundTriggers;
+	return kind_of(trigger->tgtype, trigger->tgoldtable != NULL,
+				   trigger->tgnewtable != NULL,
+				   trigger->tgqual == NULL && trigger->tgnattr == 0 &&
+					   trigger->tgnargs == 0 &&
+					   !OidIsValid(trigger->tgconstraint));
+}
 
 static bool
-is_right(Form_pg_trigger found, const FollowTrigger *wanted)
+is_null(HeapTuple tuple, Relation catalog, int column)
 {
-	return found->tgenabled == wanted->fires &&
-		found->tgtype ==
-		(wanted->timing | wanted->events |
-		 (wanted->row ? TRIGGER_TYPE_ROW : 0));
+	bool null;
+
+	heap_getattr(tuple, column, RelationGetDescr(catalog), &null);
+	return null;
 }
 
+/* Which of ours a trigger in the catalog is. One that is disabled, or that was
+ * changed in any way, is none of ours. */
+static TriggerKind
+kind_of_tuple(HeapTuple tuple, Relation catalog)
+{
+	Form_pg_trigger form = (Form_pg_trigger) GETSTRUCT(tuple);
+	TriggerKind kind = form->tgfoid == follow_oid() && form->tgisinternal
+		? kind_of(form->tgtype,
+				  !is_null(tuple, catalog, Anum_pg_trigger_tgoldtable),
+				  !is_null(tuple, catalog, Anum_pg_trigger_tgnewtable),
+				  is_null(tuple, catalog, Anum_pg_trigger_tgqual) &&
+					  form->tgattr.dim1 == 0 && form->tgnargs == 0 &&
+					  !OidIsValid(form->tgconstraint))
+		: TRIGGER_OTHER;
+
+	return kind != TRIGGER_OTHER &&
+			form->tgenabled == definitions[kind].enabled
+		? kind
+		: TRIGGER_OTHER;
+}
+
+/* Finds our triggers of a table: their oids by kind. Others that call our
+ * function are added to `changed`. */
 static void
-note_trigger(FoundTriggers *found, Form_pg_trigger trigger)
+find_triggers(Oid table, Oid *found, List **changed)
 {
-	for (int i = 0; i < TRIGGERS; i++)
-		if (is_right(trigger, &definitions[i]))
-		{
-			found->right[i] = trigger->oid;
-			return;
-		}
-	found->wrong = lappend_oid(found->wrong, trigger->oid);
-}
-
-/* Triggers that aren't internal don't count: their owner may have given them
- * conditions. */
-static FoundTriggers
-find_triggers(Oid source)
-{
-	Relation triggers = table_open(TriggerRelationId, AccessShareLock);
-	FoundTriggers found = {0};
+	Relation catalog = table_open(TriggerRelationId, AccessShareLock);
 	ScanKeyData key;
 	SysScanDesc scan;
 	HeapTuple tuple;
 
+	memset(found, 0, sizeof(Oid) * TRIGGER_KINDS);
 	ScanKeyInit(&key, Anum_pg_trigger_tgrelid, BTEqualStrategyNumber, F_OIDEQ,
-				ObjectIdGetDatum(source));
-	scan = systable_beginscan(triggers, TriggerRelidNameIndexId, true, NULL, 1,
+				ObjectIdGetDatum(table));
+	scan = systable_beginscan(catalog, TriggerRelidNameIndexId, true, NULL, 1,
 							  &key);
 	while (HeapTupleIsValid(tuple = systable_getnext(scan)))
 	{
-		Form_pg_trigger trigger = (Form_pg_trigger) GETSTRUCT(tuple);
+		Form_pg_trigger form = (Form_pg_trigger) GETSTRUCT(tuple);
+		TriggerKind kind = kind_of_tuple(tuple, catalog);
 
-		if (trigger->tgisinternal && trigger->tgfoid == follow_oid())
-			note_trigger(&found, trigger);
+		if (kind != TRIGGER_OTHER && !OidIsValid(found[kind]))
+			found[kind] = form->oid;
+		else if (changed && form->tgfoid == follow_oid())
+			*changed = lappend_oid(*changed, form->oid);
 	}
 	systable_endscan(scan);
-	table_close(triggers, AccessShareLock);
-	return found;
+	table_close(catalog, AccessShareLock);
 }
 
-/* Whether a source has all its triggers: three for statements, and one for
- * rows if a replica may apply them. */
 bool
-has_triggers(Oid source, bool applies)
+has_triggers(Oid table, bool applies)
 {
-	FoundTriggers found = find_triggers(source);
+	Oid found[TRIGGER_KINDS];
 
-	for (int i = 0; i < TRIGGERS; i++)
-		if (!OidIsValid(found.right[i]) && (applies || i != TRIGGER_APPLIED))
-			return false;
-	return true;
+	find_triggers(table, found, NULL);
+	return OidIsValid(found[TRIGGER_BEGINS]) &&
+		OidIsValid(found[TRIGGER_INSERTED]) &&
+		OidIsValid(found[TRIGGER_UPDATED]) &&
+		(OidIsValid(found[TRIGGER_APPLIED]) || !applies);
 }
 
-static List *
-transition_tables(const FollowTrigger *wanted)
+static TriggerTransition *
+transition_table(const char *name, bool is_new)
 {
-	List *tables = NIL;
+	TriggerTransition *transition = makeNode(TriggerTransition);
 
-	for (int is_new = 0; is_new <= 1; is_new++)
-	{
-		TriggerTransition *rows = makeNode(TriggerTransition);
-
-		rows->name = is_new ? "new_rows" : "old_rows";
-		rows->isNew = is_new;
-		rows->isTable = true;
-		if (is_new ? wanted->new_rows : wanted->old_rows)
-			tables = lappend(tables, rows);
-	}
-	return tables;
+	transition->name = pstrdup(name);
+	transition->isNew = is_new;
+	transition->isTable = true;
+	return transition;
 }
 
 static void
-make_trigger(Oid source, const FollowTrigger *wanted)
+make_trigger(Oid table, const TriggerDefinition *definition)
 {
 	CreateTrigStmt *statement = makeNode(CreateTrigStmt);
-	Oid function = follow_oid();
-	ObjectAddress made, of;
+	ObjectAddress trigger, function;
 
-	statement->trigname = pstrdup(wanted->name);
-	statement->relation = makeRangeVar(
-		get_namespace_name(get_rel_namespace(source)), get_rel_name(source),
-		-1);
-	statement->row = wanted->row;
-	statement->timing = wanted->timing;
-	statement->events = wanted->events;
-	statement->transitionRels = transition_tables(wanted);
-	made = CreateTriggerFiringOn(statement, NULL, source, InvalidOid,
-								 InvalidOid, InvalidOid, function, InvalidOid,
-								 NULL, true, false, wanted->fires);
+	statement->trigname = pstrdup(definition->name);
+	statement->row = TRIGGER_FOR_ROW(definition->type);
+	statement->timing = definition->type & TRIGGER_TYPE_TIMING_MASK;
+	statement->events = definition->type & TRIGGER_TYPE_EVENT_MASK;
+	if (definition->old_rows)
+		statement->transitionRels = lappend(statement->transitionRels,
+											transition_table(OLD_ROWS, false));
+	if (definition->new_rows)
+		statement->transitionRels = lappend(statement->transitionRels,
+											transition_table(NEW_ROWS, true));
+	trigger = CreateTriggerFiringOn(
+		statement, NULL, table, InvalidOid, InvalidOid, InvalidOid,
+		follow_oid(), InvalidOid, NULL, true, false, definition->enabled);
 	/* Without CASCADE, DROP EXTENSION drops what depends on it in this way. */
-	ObjectAddressSet(of, ProcedureRelationId, function);
-	deleteDependencyRecordsForSpecific(made.classId, made.objectId,
-									   DEPENDENCY_NORMAL, of.classId,
-									   of.objectId);
-	recordDependencyOn(&made, &of, DEPENDENCY_AUTO);
+	ObjectAddressSet(function, ProcedureRelationId, follow_oid());
+	deleteDependencyRecordsForSpecific(trigger.classId, trigger.objectId,
+									   DEPENDENCY_NORMAL, function.classId,
+									   function.objectId);
+	recordDependencyOn(&trigger, &function, DEPENDENCY_AUTO);
 	CommandCounterIncrement();
 }
 
@@ -179,41 +185,33 @@ drop_trigger(Oid trigger)
 	CommandCounterIncrement();
 }
 
-static void
-check_owner(Oid source)
-{
-	if (!pg_class_ownercheck(source, GetUserId()))
-		aclcheck_error(ACLCHECK_NOT_OWNER, OBJECT_TABLE,
-					   get_rel_name(source));
-}
-
-/* Makes the triggers of a source that it doesn't have, and waits for all who
- * are writing to it. */
+/* Waits for all who are writing to the table. Triggers that are as they should
+   be stay: tables below need them, and would count as unknown if they were
+   made again. */
 void
-make_triggers(Oid source, bool applies)
+make_triggers(Oid table, bool applies)
 {
-	FoundTriggers found;
+	Oid found[TRIGGER_KINDS];
+	List *changed = NIL;
 	ListCell *cell;
 
-	check_owner(source);
-	LockRelationOid(source, ShareRowExclusiveLock);
-	found = find_triggers(source);
-	foreach (cell, found.wrong)
+	LockRelationOid(table, ShareRowExclusiveLock);
+	find_triggers(table, found, &changed);
+	foreach (cell, changed)
 		drop_trigger(lfirst_oid(cell));
-	for (int i = 0; i < TRIGGERS; i++)
-		if (!OidIsValid(found.right[i]) && (applies || i != TRIGGER_APPLIED))
-			make_trigger(source, &definitions[i]);
+	for (int kind = 0; kind < (applies ? TRIGGER_KINDS : TRIGGER_APPLIED);
+		 kind++)
+		if (!OidIsValid(found[kind]))
+			make_trigger(table, &definitions[kind]);
 }
 
-/* Drops the triggers of a source, or the one for replicas alone. */
 void
-drop_triggers(Oid source, bool applied_alone)
+drop_triggers(Oid table, bool applied, bool statements)
 {
-	FoundTriggers found = find_triggers(source);
-	ListCell *cell;
+	Oid found[TRIGGER_KINDS];
 
-	for (int i = applied_alone ? TRIGGER_APPLIED : 0; i < TRIGGERS; i++)
-		drop_trigger(found.right[i]);
-	foreach (cell, applied_alone ? NIL : found.wrong)
-		drop_trigger(lfirst_oid(cell));
+	find_triggers(table, found, NULL);
+	for (int kind = 0; kind < TRIGGER_KINDS; kind++)
+		if (kind == TRIGGER_APPLIED ? applied : statements)
+			drop_trigger(found[kind]);
 }

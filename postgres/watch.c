@@ -1,5 +1,5 @@
-/* safebound.watch, unwatch and fold; and changes of a table that its triggers
- * don't see. */
+/* safebound.watch, unwatch and fold. */
+#include "triggers.h"
 #include "watch.h"
 
 #include "access/genam.h"
@@ -10,17 +10,11 @@
 #include "catalog/namespace.h"
 #include "catalog/pg_class.h"
 #include "catalog/pg_inherits.h"
-#include "catalog/pg_type.h"
 #include "commands/defrem.h"
-#include "commands/event_trigger.h"
-#include "commands/trigger.h"
-#include "executor/spi.h"
 #include "miscadmin.h"
 #include "storage/lmgr.h"
 #include "tcop/utility.h"
 #include "utils/acl.h"
-#include "utils/array.h"
-#include "utils/builtins.h"
 #include "utils/fmgroids.h"
 #include "utils/lsyscache.h"
 #include "utils/rel.h"
@@ -30,7 +24,6 @@
 PG_FUNCTION_INFO_V1(safebound_watch);
 PG_FUNCTION_INFO_V1(safebound_unwatch);
 PG_FUNCTION_INFO_V1(safebound_fold);
-PG_FUNCTION_INFO_V1(safebound_on_change);
 
 /* ANALYZE folds the deltas of a table that has at least this many. */
 #define MANY_DELTAS 100
@@ -164,20 +157,38 @@ end_counting(const TableCounting *table_count, const KeptRow *before,
 	PopActiveSnapshot();
 }
 
+/* Gives a source its triggers. Writers of the table and of its parts are
+   waited for. A table above has another owner, perhaps: it isn't locked where
+   it has its triggers already. */
+static void
+follow_source(Oid source, Oid relation)
+{
+	bool applies = applies_rows(source, relation);
+
+	if (source == relation || is_part_of(source, relation))
+		LockRelationOid(source, ShareRowExclusiveLock);
+	if (has_triggers(source, applies))
+		return;
+	if (!pg_class_ownercheck(source, GetUserId()))
+		aclcheck_error(ACLCHECK_NOT_OWNER, OBJECT_TABLE, get_rel_name(source));
+	make_triggers(source, applies);
+}
+
 /* Drops the triggers on a source of a table that isn't watched any more,
  * unless another table needs them. */
 static void
-drop_unneeded_triggers(Oid source)
+leave_source(Oid source)
 {
 	List *followers = followers_of(source);
 	bool applies = false;
 	ListCell *cell;
 
+	if (!pg_class_ownercheck(source, GetUserId()))
+		return;
 	foreach (cell, followers)
 		applies = applies ||
 			applies_rows(source, ((KeptRow *) lfirst(cell))->relation);
-	if (followers == NIL || !applies)
-		drop_triggers(source, followers != NIL);
+	drop_triggers(source, !applies, followers == NIL);
 }
 
 /* Counts a table again. If it has statistics, the same columns are counted. */
@@ -231,10 +242,8 @@ safebound_watch(PG_FUNCTION_ARGS)
 	triggers = may_have_triggers(relation);
 	sources = tables_writing_to(relation);
 	refuse_old_snapshot();
-	SPI_connect();
 	foreach (cell, triggers ? sources : NIL)
-		make_triggers(lfirst_oid(cell),
-					  applies_rows(lfirst_oid(cell), relation));
+		follow_source(lfirst_oid(cell), relation);
 	LockRelationOid(relation, ShareRowExclusiveLock);
 	CommandCounterIncrement();
 	lists = keep_again(relation, false);
@@ -244,7 +253,6 @@ safebound_watch(PG_FUNCTION_ARGS)
 				 errmsg("what \"%s\" inherits from changed meanwhile",
 						get_rel_name(relation))));
 	note_sources(relation, sources);
-	SPI_finish();
 	PG_RETURN_INT64(lists);
 }
 
@@ -262,14 +270,12 @@ safebound_unwatch(PG_FUNCTION_ARGS)
 	triggers = may_have_triggers(relation);
 	LockRelationOid(relation, ShareUpdateExclusiveLock);
 	were = find_kept_row(relation, NULL, &kept_row) && kept_row.sources != NIL;
-	SPI_connect();
 	if (were)
 		note_sources(relation, NIL);
 	foreach (cell, triggers ? tables_writing_to(relation) : NIL)
 		if (lfirst_oid(cell) == relation ||
 			is_part_of(lfirst_oid(cell), relation))
-			drop_unneeded_triggers(lfirst_oid(cell));
-	SPI_finish();
+			leave_source(lfirst_oid(cell));
 	PG_RETURN_BOOL(were);
 }
 
@@ -288,25 +294,28 @@ safebound_fold(PG_FUNCTION_ARGS)
 	PG_RETURN_INT64(keep_again(relation, true));
 }
 
-/* Folds after ANALYZE: the tables that it names, or without names all tables
- * that the user owns. */
+/* Folds a table if it has many deltas and the user owns it. */
+static void
+fold_if_many(Oid relation)
+{
+	KeptRow kept_row;
+
+	if (find_kept_row(relation, NULL, &kept_row) && kept_row.sources != NIL &&
+		SearchSysCacheExists1(RELOID, ObjectIdGetDatum(relation)) &&
+		pg_class_ownercheck(relation, GetUserId()) &&
+		count_deltas(relation, NULL) >= MANY_DELTAS)
+		keep_again(relation, true);
+}
+
+/* Folds after ANALYZE: the tables that it names, or without names all. */
 static void
 fold_full(List *named)
 {
+	List *tables = named == NIL ? all_kept() : named;
 	ListCell *cell;
 
-	foreach (cell, all_kept())
-	{
-		KeptRow *kept_row = lfirst(cell);
-
-		if (kept_row->sources != NIL &&
-			(named == NIL || list_member_oid(named, kept_row->relation)) &&
-			SearchSysCacheExists1(RELOID,
-								  ObjectIdGetDatum(kept_row->relation)) &&
-			pg_class_ownercheck(kept_row->relation, GetUserId()) &&
-			count_deltas(kept_row->relation, NULL) >= MANY_DELTAS)
-			keep_again(kept_row->relation, true);
-	}
+	foreach (cell, tables)
+		fold_if_many(lfirst_oid(cell));
 }
 
 static bool
@@ -365,101 +374,6 @@ on_utility(PlannedStmt *statement, const char *text, bool read_only,
 		fold_full(named);
 		PopActiveSnapshot();
 	}
-}
-
-/* Marks a table that isn't followed completely any more. An existing mark is
- * enough, unless somebody is about to delete it. */
-static void
-mark_broken(Oid relation)
-{
-	if (!has_mark(relation, NULL) ||
-		!ConditionalLockRelationOid(relation, ShareUpdateExclusiveLock))
-		mark_not_counted(relation);
-}
-
-static void
-forget_dropped(Oid relation)
-{
-	forget_kept(relation);
-	delete_deltas(relation, NULL);
-}
-
-static void
-check_all(void)
-{
-	ListCell *cell;
-
-	foreach (cell, all_kept())
-	{
-		KeptRow *kept_row = lfirst(cell);
-
-		if (!SearchSysCacheExists1(RELOID,
-								   ObjectIdGetDatum(kept_row->relation)))
-			forget_dropped(kept_row->relation);
-		else if (kept_row->sources != NIL &&
-				 !is_intact(kept_row->relation, kept_row->sources))
-			mark_broken(kept_row->relation);
-	}
-}
-
-/* Marks each refreshed materialized view, since its rows have changed. */
-static void
-mark_refreshed(void)
-{
-	if (SPI_execute(
-			"SELECT objid FROM pg_catalog.pg_event_trigger_ddl_commands()",
-			false, 0) < 0)
-		elog(ERROR, "can't read what was refreshed");
-	for (uint64 i = 0; i < SPI_processed; i++)
-	{
-		bool null;
-		Oid relation = DatumGetObjectId(SPI_getbinval(
-			SPI_tuptable->vals[i], SPI_tuptable->tupdesc, 1, &null));
-		KeptRow kept_row;
-
-		if (find_kept_row(relation, NULL, &kept_row))
-			mark_not_counted(relation);
-	}
-}
-
-/* Marks the table whose rows ALTER TABLE rewrites, perhaps with other values.
- */
-static void
-mark_rewritten(void)
-{
-	Oid relation = DatumGetObjectId(
-		OidFunctionCall0(F_PG_EVENT_TRIGGER_TABLE_REWRITE_OID));
-	KeptRow kept_row;
-	ListCell *cell;
-
-	if (find_kept_row(relation, NULL, &kept_row))
-		mark_not_counted(relation);
-	foreach (cell, followers_of(relation))
-		if (is_part_of(relation, ((KeptRow *) lfirst(cell))->relation))
-			mark_not_counted(((KeptRow *) lfirst(cell))->relation);
-}
-
-Datum
-safebound_on_change(PG_FUNCTION_ARGS)
-{
-	EventTriggerData *event = (EventTriggerData *) fcinfo->context;
-
-	if (!CALLED_AS_EVENT_TRIGGER(fcinfo))
-		ereport(
-			ERROR,
-			(errcode(ERRCODE_E_R_I_E_EVENT_TRIGGER_PROTOCOL_VIOLATED),
-			 errmsg("safebound.on_change is called by event triggers alone")));
-	if (extension_presence() != PRESENT)
-		return PointerGetDatum(NULL);
-	SPI_connect();
-	if (strcmp(event->event, "table_rewrite") == 0)
-		mark_rewritten();
-	else if (event->tag == CMDTAG_REFRESH_MATERIALIZED_VIEW)
-		mark_refreshed();
-	else
-		check_all();
-	SPI_finish();
-	return PointerGetDatum(NULL);
 }
 
 void

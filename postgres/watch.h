@@ -68,11 +68,6 @@ extern bool forget_kept(Oid relation);
 extern void save_kept(const TableCounting *table_count, List *sources);
 extern void note_sources(Oid relation, List *sources);
 
-/* triggers.c: the triggers of watched tables */
-extern bool has_triggers(Oid source, bool applies);
-extern void make_triggers(Oid source, bool applies);
-extern void drop_triggers(Oid source, bool applied_alone);
-
 /* watch.c */
 extern bool is_intact(Oid relation, List *followed);
 extern void begin_counting(Relation relation, bool folding, KeptRow *before,
