@@ -25,7 +25,7 @@ static List *dropped_deltas;
 
 /* Whether a column still has the type and the collation with which it was
  * counted. If not, its values may have changed. */
-static bool
+bool
 same_column(Oid relation, AttrNumber number, Oid type, Oid collation)
 {
 	HeapTuple tuple;
@@ -73,7 +73,11 @@ read_pair(Datum *row)
 					 .filter = DatumGetInt16(row[LISTS_FILTER - 1]),
 					 .along = DatumGetInt16(row[LISTS_ALONG - 1]),
 					 .referred = DatumGetObjectId(row[LISTS_REFERRED - 1]),
-					 .key = DatumGetInt16(row[LISTS_KEY - 1])};
+					 .key = DatumGetInt16(row[LISTS_KEY - 1]),
+					 .filter_type =
+						 DatumGetObjectId(row[LISTS_FILTER_TYPE - 1]),
+					 .filter_collation =
+						 DatumGetObjectId(row[LISTS_FILTER_COLLATION - 1])};
 	bytea *bytes = DatumGetByteaP(row[LISTS_BYTES - 1]);
 	const char *at = VARDATA_ANY(bytes);
 	const char *end = at + VARSIZE_ANY_EXHDR(bytes);
@@ -374,7 +378,17 @@ drop_entry(TableEntry *entry)
 	hash_search(tables, &entry->relation, HASH_REMOVE, NULL);
 }
 
-/* InvalidOid means that all tables may have changed. */
+static bool
+refers_to(const KeptTable *table, Oid relation)
+{
+	for (int i = 0; i < table->length; i++)
+		if (table->pairs[i].referred == relation)
+			return true;
+	return false;
+}
+
+/* Drops the statistics of a table that changed, and those along references to
+ * it. InvalidOid means that all tables may have changed. */
 static void
 on_invalidation(Datum argument, Oid relation)
 {
@@ -383,7 +397,8 @@ on_invalidation(Datum argument, Oid relation)
 
 	hash_seq_init(&status, tables);
 	while ((entry = hash_seq_search(&status)) != NULL)
-		if (!OidIsValid(relation) || entry->relation == relation)
+		if (!OidIsValid(relation) || entry->relation == relation ||
+			refers_to(entry->table, relation))
 			drop_entry(entry);
 }
 

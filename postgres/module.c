@@ -28,6 +28,7 @@ _PG_init(void)
 	kept_init();
 	planning_init();
 	admit_init();
+	exempt_init();
 	followed_init();
 	watch_init();
 	MarkGUCPrefixReserved("safebound");

@@ -61,6 +61,8 @@ typedef struct KeptPair
 	AttrNumber along;
 	Oid referred;
 	AttrNumber key;
+	Oid filter_type; /* as it was when the column was counted */
+	Oid filter_collation;
 	int length;
 	KeptList *lists;
 	int first_leaf;
@@ -144,6 +146,8 @@ kept_pair_along(const KeptTable *table, AttrNumber joined, AttrNumber filter,
 				const Reference *reference);
 extern bool
 has_pairs_along(const KeptTable *table, const Reference *reference);
+extern bool
+same_column(Oid relation, AttrNumber number, Oid type, Oid collation);
 extern bool kept_fresh_only; /* if true, only watched tables are known */
 extern void kept_hold(void);
 extern void kept_release(void);
@@ -152,6 +156,7 @@ extern void kept_init(void);
 
 /* conditions.c: lists of the rows that satisfy a relation's own conditions. */
 extern Oid equality_family(Oid relation, AttrNumber column, Oid collation);
+extern bool is_immutable(Oid operator);
 extern bool
 is_equality(Oid relation, AttrNumber column, Oid operator, Oid collation);
 extern DegreeList list_under(const KeptTable *table, RelOptInfo *rel,
