@@ -162,40 +162,45 @@ mark_row_type(Oid relation)
 		mark_uses(get_rel_type_id(lfirst_oid(cell)), &seen);
 }
 
+/* ALTER TABLE with the tables below has kinds of its own until 15. */
 static bool
-changes_columns(const CollectedCommand *command)
+changes_columns(AlterTableType kind)
 {
-	ListCell *cell;
-
-	foreach (cell, command->d.alterTable.subcmds)
+	switch (kind)
 	{
-		Node *part = ((CollectedATSubcmd *) lfirst(cell))->parsetree;
-
-		if (IsA(part, AlterTableCmd) &&
-			(((AlterTableCmd *) part)->subtype == AT_AddColumn ||
-			 ((AlterTableCmd *) part)->subtype == AT_DropColumn ||
-			 ((AlterTableCmd *) part)->subtype == AT_AlterColumnType))
+		case AT_AddColumn:
+		case AT_DropColumn:
+		case AT_AlterColumnType:
+#if PG_VERSION_NUM < 160000
+		case AT_AddColumnRecurse:
+		case AT_DropColumnRecurse:
+#endif
 			return true;
+		default:
+			return false;
 	}
-	return false;
 }
 
-/* Checks after ALTER TABLE, also of a table that it attaches or detaches. */
+/* One part of ALTER TABLE: a change of its columns, say, or another table that
+ * it attaches or detaches. */
+static void
+check_part(Oid relation, const CollectedATSubcmd *part)
+{
+	if (is_there(relation) && IsA(part->parsetree, AlterTableCmd) &&
+		changes_columns(((AlterTableCmd *) part->parsetree)->subtype))
+		mark_row_type(relation);
+	if (part->address.classId == RelationRelationId &&
+		part->address.objectId != relation)
+		check_around(part->address.objectId);
+}
+
 static void
 check_altered(const CollectedCommand *command)
 {
-	Oid relation = command->d.alterTable.objectId;
 	ListCell *cell;
 
-	if (is_there(relation) && changes_columns(command))
-		mark_row_type(relation);
 	foreach (cell, command->d.alterTable.subcmds)
-	{
-		ObjectAddress *part = &((CollectedATSubcmd *) lfirst(cell))->address;
-
-		if (part->classId == RelationRelationId && part->objectId != relation)
-			check_around(part->objectId);
-	}
+		check_part(command->d.alterTable.objectId, lfirst(cell));
 }
 
 /* The table of a trigger that is there. */

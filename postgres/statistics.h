@@ -124,9 +124,6 @@ keep_table(Oid relation, Bitmapset *joined, Bitmapset *filters,
  * this table. The table itself is one of them. */
 extern List *tables_writing_to(Oid relation);
 
-/* admit.c: while this is true, no query is refused. */
-extern bool admission_paused;
-
 /* deltas.c: a list with the rows that came after its table was counted. Code
  * that returns a table's list passes it through this function. */
 extern DegreeList
