@@ -38,6 +38,18 @@ SELECT a.c FROM many a JOIN many b USING (c) UNION SELECT 1;
 SELECT 1 INTERSECT SELECT a.c FROM many a JOIN many b USING (c);
 SELECT a.c FROM many a JOIN many b USING (c) EXCEPT ALL SELECT 1;
 WITH RECURSIVE n AS (SELECT a.c FROM many a JOIN many b USING (c) UNION SELECT n.c FROM n WHERE false) SELECT count(*) FROM n;
+-- The least value of a UNION ALL comes from paths of their own, which the result's paths don't lead to: its joins are unknown.
+CREATE INDEX ON many (c);
+ANALYZE many;
+SET enable_hashjoin = off;
+SELECT min(c) FROM (SELECT a.c FROM many a JOIN many b USING (c) UNION ALL SELECT c FROM many) q;
+SELECT relations, bound FROM safebound.bounds('SELECT min(c) FROM (SELECT a.c FROM many a JOIN many b USING (c) UNION ALL SELECT c FROM many) q');
+RESET enable_hashjoin;
+-- A plan that was made before there was a budget has no bounds: SQL functions are planned as a whole.
+SET safebound.budget = 0;
+CREATE FUNCTION sets_budget() RETURNS bigint LANGUAGE sql VOLATILE AS $$ SELECT set_config('safebound.budget', '10', false); SELECT count(*) FROM many a, many b $$;
+SELECT sets_budget();
+DROP FUNCTION sets_budget;
 RESET constraint_exclusion;
 RESET safebound.budget;
 
@@ -152,8 +164,9 @@ CREATE INDEX ON keys ((c + fails_if(1)));
 SET safebound.budget = 10;
 SET fails.now = yes;
 DO $$ BEGIN ALTER TABLE many ADD FOREIGN KEY (c) REFERENCES keys; EXCEPTION WHEN undefined_column THEN RAISE WARNING 'failed'; SET fails.now = no; PERFORM count(*) FROM many fk, keys pk; END $$;
-CREATE FUNCTION joins_if(i integer) RETURNS integer LANGUAGE plpgsql STABLE AS $$ BEGIN RETURN CASE WHEN current_setting('safebound.budget') = '10' THEN (SELECT count(*) FROM viewed a, viewed b) ELSE i END; END $$;
+CREATE FUNCTION joins_if(i integer) RETURNS integer LANGUAGE plpgsql STABLE AS $$ BEGIN RETURN CASE WHEN current_setting('safebound.budget') = '10' THEN (SELECT count(*) FROM passing a, passing b) ELSE i END; END $$;
 RESET safebound.budget;
+CREATE TEMPORARY TABLE passing AS SELECT generate_series(1, 10);
 CREATE MATERIALIZED VIEW calling AS SELECT joins_if(c) AS c FROM many WHERE c < 3;
 CREATE UNIQUE INDEX ON calling (c);
 CREATE MATERIALIZED VIEW pruning AS SELECT c FROM parts WHERE k = joins_if(1);
@@ -163,5 +176,5 @@ REFRESH MATERIALIZED VIEW CONCURRENTLY calling;
 REFRESH MATERIALIZED VIEW CONCURRENTLY pruning;
 RESET safebound.budget;
 DROP MATERIALIZED VIEW viewed, calling, pruning;
-DROP TABLE none, many, parts, limited, keys;
+DROP TABLE none, many, parts, limited, keys, passing;
 DROP FUNCTION in_worker, joins_many, joins_if, fails_if;
