@@ -1,7 +1,7 @@
 /* Queries that are admitted whatever they join: those over PostgreSQL's own
-   catalogs alone, those that PostgreSQL makes itself to check a new foreign
-   key and to refresh a materialized view, and the part of a query that a
-   parallel worker runs.
+   catalogs alone, those that PostgreSQL makes itself to check foreign keys and
+   to refresh a materialized view, and the part of a query that a parallel
+   worker runs.
 
    Nobody may give another query the mark of one of these. So a mark is nothing
    that a query says, such as a name or a text: it is where in PostgreSQL the
@@ -276,32 +276,36 @@ is_key_check(QueryDesc *query)
 	return is_check;
 }
 
-/* A REFRESH MATERIALIZED VIEW CONCURRENTLY that is running. */
-typedef struct Refresh
+/* A statement that is running and asks joins of PostgreSQL's own: REFRESH
+ * MATERIALIZED VIEW CONCURRENTLY, or the detaching of a part to which a foreign
+ * key refers. */
+typedef struct AskingStatement
 {
-	struct Refresh *outer;
-	RangeVar *view;
-	int running; /* how many queries are running within it */
-} Refresh;
+	struct AskingStatement *outer;
+	RangeVar *refreshed; /* NULL: it detaches a part */
+	int running;		 /* how many queries are running within it */
+} AskingStatement;
 
-static Refresh *refresh;
+static AskingStatement *asking;
 
+/* Whether PostgreSQL's own queries may read a table: any one, or the refreshed
+ * view and the temporary table that has its new rows. */
 static bool
-is_refreshed(Oid relation)
+may_be_asked(Oid relation)
 {
-	return get_rel_persistence(relation) == RELPERSISTENCE_TEMP ||
+	return asking->refreshed == NULL ||
+		get_rel_persistence(relation) == RELPERSISTENCE_TEMP ||
 		(get_rel_relkind(relation) == RELKIND_MATVIEW &&
-		 relation == RangeVarGetRelid(refresh->view, NoLock, true));
+		 relation == RangeVarGetRelid(asking->refreshed, NoLock, true));
 }
 
-/* Whether PostgreSQL compares the new rows of a view with the old ones. The
-   new ones are in a temporary table. A function that the view calls runs
-   within a query or within the planner. */
+/* Whether the statement itself asks a query. A user's function runs within
+ * another query or within the planner. */
 static bool
-is_comparison(QueryDesc *query)
+is_of_statement(QueryDesc *query)
 {
-	return refresh && refresh->running == 0 && !is_planning() &&
-		reads_only(query->plannedstmt, is_refreshed);
+	return asking && asking->running == 0 && !is_planning() &&
+		reads_only(query->plannedstmt, may_be_asked);
 }
 
 /* Whether a query is a parallel worker's part of its leader's query, which was
@@ -318,17 +322,17 @@ is_exempt_start(QueryDesc *query)
 {
 	bool is_check = is_key_check(query);
 
-	return is_check || is_leaders(query) || is_comparison(query);
+	return is_check || is_leaders(query) || is_of_statement(query);
 }
 
-/* Notes that a query starts, runs or finishes within a refresh. Returns what
- * `end_running` takes; NULL if there is no refresh. */
+/* Notes that a query starts, runs or finishes within an asking statement.
+ * Returns what `end_running` takes; NULL if there is no such statement. */
 int *
 begin_running(void)
 {
-	if (refresh)
-		refresh->running++;
-	return refresh ? &refresh->running : NULL;
+	if (asking)
+		asking->running++;
+	return asking ? &asking->running : NULL;
 }
 
 void
@@ -406,23 +410,38 @@ run_utility(PlannedStmt *statement, const char *text, bool read_only,
 								parameters, environment, receiver, completion);
 }
 
+/* Whether a statement asks joins of PostgreSQL's own. Sets the view that it
+ * refreshes. */
+static bool
+is_asking(Node *statement, RangeVar **refreshed)
+{
+	RefreshMatViewStmt *refresh = (RefreshMatViewStmt *) statement;
+	AlterTableStmt *alter = (AlterTableStmt *) statement;
+
+	*refreshed = NULL;
+	if (IsA(statement, RefreshMatViewStmt))
+	{
+		*refreshed = refresh->relation;
+		return refresh->concurrent;
+	}
+	/* PostgreSQL combines the detaching of a part with nothing else. */
+	return IsA(statement, AlterTableStmt) && list_length(alter->cmds) == 1 &&
+		linitial_node(AlterTableCmd, alter->cmds)->subtype ==
+		AT_DetachPartition;
+}
+
 static void
 on_utility(PlannedStmt *statement, const char *text, bool read_only,
 		   ProcessUtilityContext context, ParamListInfo parameters,
 		   QueryEnvironment *environment, DestReceiver *receiver,
 		   QueryCompletion *completion)
 {
-	RefreshMatViewStmt *refreshing =
-		IsA(statement->utilityStmt, RefreshMatViewStmt)
-		? (RefreshMatViewStmt *) statement->utilityStmt
-		: NULL;
-	Refresh mine = {.outer = refresh};
+	AskingStatement mine = {.outer = asking};
 
-	if (refreshing == NULL || !refreshing->concurrent)
+	if (!is_asking(statement->utilityStmt, &mine.refreshed))
 		return run_utility(statement, text, read_only, context, parameters,
 						   environment, receiver, completion);
-	mine.view = refreshing->relation;
-	refresh = &mine;
+	asking = &mine;
 	PG_TRY();
 	{
 		run_utility(statement, text, read_only, context, parameters,
@@ -430,7 +449,7 @@ on_utility(PlannedStmt *statement, const char *text, bool read_only,
 	}
 	PG_FINALLY();
 	{
-		refresh = mine.outer;
+		asking = mine.outer;
 	}
 	PG_END_TRY();
 }

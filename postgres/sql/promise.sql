@@ -156,6 +156,10 @@ SELECT count(*) FROM ONLY many fk LEFT OUTER JOIN ONLY keys pk ON pk.c = fk.c WH
 REFRESH MATERIALIZED VIEW CONCURRENTLY viewed;
 ALTER TABLE many ALTER c TYPE bigint USING joins_many(), ADD FOREIGN KEY (c) REFERENCES keys;
 DO $$ BEGIN ALTER TABLE many ADD CHECK (joins_many() > 0); EXCEPTION WHEN sqlstate 'SB001' THEN RAISE WARNING 'refused'; END $$;
+-- A part to which a foreign key refers is detached.
+ALTER TABLE keys DETACH PARTITION keys_1;
+CREATE TABLE keys_2 PARTITION OF keys FOR VALUES FROM (2000) TO (3000);
+ALTER TABLE keys DETACH PARTITION keys_2;
 -- The check fails while it is planned. The next query isn't taken for it.
 CREATE FUNCTION fails_if(i integer) RETURNS integer LANGUAGE plpgsql IMMUTABLE AS $$ BEGIN IF current_setting('fails.now', true) = 'yes' THEN RAISE undefined_column; END IF; RETURN i; END $$;
 ALTER TABLE many DROP CONSTRAINT many_c_fkey;
@@ -176,5 +180,5 @@ REFRESH MATERIALIZED VIEW CONCURRENTLY calling;
 REFRESH MATERIALIZED VIEW CONCURRENTLY pruning;
 RESET safebound.budget;
 DROP MATERIALIZED VIEW viewed, calling, pruning;
-DROP TABLE none, many, parts, limited, keys, passing;
+DROP TABLE none, many, parts, limited, keys, keys_2, passing;
 DROP FUNCTION in_worker, joins_many, joins_if, fails_if;

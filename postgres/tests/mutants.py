@@ -180,17 +180,15 @@ EDITS = [
     Edit("a parallel worker counts what its leader is writing", "admit.c",
          [("TransactionIdIsValid(GetTopTransactionIdIfAny())", "false")], "promise"),
     Edit("functions beside a catalog are admitted", "exempt.c",
-         [("return !is_system_view(search->query) && !all_of_catalog(entry, search);", "return false;")], "promise"),
+         [("return !is_system_view(search->query) && !all_of_catalog(entry, search);", "return false;"),
+          ("((FuncExpr *) node)->funcretset &&", "false &&")], "promise"),
     Edit("the mark of a foreign key's check outlives its error", "exempt.c",
          [("static void\non_subtransaction_end(SubXactEvent event, SubTransactionId mine, SubTransactionId parent, "
            "void *argument)\n{\n\tforget_checked_key();",
            "static void\non_subtransaction_end(SubXactEvent event, SubTransactionId mine, SubTransactionId parent, "
            "void *argument)\n{\n")], "promise"),
     Edit("what runs within a refresh is taken for its comparison", "exempt.c",
-         [("refresh->running == 0 && ", "")], "promise"),
-    Edit("lists along a reference outlive the type of its column", "conditions.c",
-         [("return pair && same_column(context->relation, column, pair->filter_type, pair->filter_collation)"
-           " ? pair : NULL;", "return pair;")], "promise"),
+         [("asking->running == 0 && ", "")], "promise"),
     Edit("a partitioned table is known after a part was attached", "kept.c",
          [(" || !same_parts(&kept_row)", "")], "parts"),
     Edit("statements on parts bring no rows", "watch.c",
