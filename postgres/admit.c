@@ -42,10 +42,6 @@ static const struct config_enum_entry unbounded_choices[] = {
 static int budget;
 static int unbounded_setting;
 
-/* True while the extension runs a query of its own to count a table. Such a
- * query isn't checked. */
-bool admission_paused = false;
-
 static planner_hook_type planner_before;
 static set_rel_pathlist_hook_type rel_paths_before;
 static create_upper_paths_hook_type upper_paths_before;
@@ -335,14 +331,6 @@ admit(QueryDesc *query)
 	MemoryContextDelete(own);
 }
 
-/* Whether a query is the extension's own. While it is planned, other queries
- * may run in functions that the planner evaluates. */
-static bool
-is_own(void)
-{
-	return admission_paused && !is_planning();
-}
-
 /* EXPLAIN without ANALYZE runs nothing, so it isn't checked. */
 static void
 check_and_start(QueryDesc *query, int flags, bool exempt)
@@ -359,7 +347,7 @@ check_and_start(QueryDesc *query, int flags, bool exempt)
 static void
 on_start(QueryDesc *query, int flags)
 {
-	bool exempt = is_exempt_start(query) || is_own();
+	bool exempt = is_exempt_start(query);
 	int *running = begin_running();
 
 	if (running == NULL)

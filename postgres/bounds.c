@@ -178,6 +178,7 @@ safebound_bounds_of(PG_FUNCTION_ARGS)
 {
 	char *asked = text_to_cstring(PG_GETARG_TEXT_PP(0));
 
+	check_use();
 	kept_hold();
 	PG_TRY();
 	{

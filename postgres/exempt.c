@@ -12,10 +12,8 @@
 #include "access/parallel.h"
 #include "access/xact.h"
 #include "catalog/catalog.h"
-#include "catalog/dependency.h"
 #include "catalog/namespace.h"
 #include "catalog/pg_class.h"
-#include "commands/extension.h"
 #include "executor/executor.h"
 #include "nodes/nodeFuncs.h"
 #include "parser/parsetree.h"
@@ -43,11 +41,7 @@ static bool any_other_source(Query *query, CatalogSearch *outer);
 static bool
 is_catalog(Oid relation)
 {
-	Oid extension = get_extension_oid("safebound", true);
-
-	return IsCatalogRelationOid(relation) ||
-		(OidIsValid(extension) &&
-		 getExtensionOfObject(RelationRelationId, relation) == extension);
+	return IsCatalogRelationOid(relation) || is_own_table(relation);
 }
 
 /* Whether a subquery is the text of a view that came with PostgreSQL. The

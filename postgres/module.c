@@ -24,6 +24,7 @@ _PG_init(void)
 							 "geometric mean of both, never above the bound.",
 							 &estimates_mode, ESTIMATES_OFF, estimates_modes,
 							 PGC_USERSET, GUC_EXPLAIN, NULL, NULL, NULL);
+	own_tables_init();
 	kept_init();
 	planning_init();
 	admit_init();

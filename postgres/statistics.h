@@ -5,6 +5,10 @@
 
 #include "postgres.h"
 
+#if PG_VERSION_NUM < 150000 || PG_VERSION_NUM >= 160000
+#error "this version of safebound is for PostgreSQL 15 alone"
+#endif
+
 #include "lib/stringinfo.h"
 #include "nodes/pathnodes.h"
 #include "safebound.h"
@@ -112,8 +116,6 @@ extern DegreeList get_list(const char **at, const char *end);
 /* keep.c: makes the statistics of a table and stores them. */
 extern Relation open_owned(Oid relation);
 extern Oid sort_collation(Oid collation);
-extern uint64
-write_own(const char *statement, int length, Oid *types, Datum *values);
 extern int64
 keep_table(Oid relation, Bitmapset *joined, Bitmapset *filters,
 		   int most_common, int most_leaves, int accuracy, bool folding);
@@ -122,16 +124,16 @@ keep_table(Oid relation, Bitmapset *joined, Bitmapset *filters,
  * this table. The table itself is one of them. */
 extern List *tables_writing_to(Oid relation);
 
-/* admit.c: while this is true, no query is refused. */
-extern bool admission_paused;
-
 /* deltas.c: a list with the rows that came after its table was counted. Code
  * that returns a table's list passes it through this function. */
 extern DegreeList
 with_deltas(const KeptTable *table, AttrNumber joined, DegreeList list);
 
+/* use.c: checks before the extension does anything. */
+extern bool library_fits(void);
+extern void check_use(void);
+
 /* kept.c: the statistics that this backend has read, in its memory. */
-extern Oid extension_table(const char *name);
 extern const KeptTable *kept_table(Oid relation);
 extern char *why_not_known(Oid relation);
 extern const KeptPair *
