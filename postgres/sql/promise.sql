@@ -1,5 +1,6 @@
 \set VERBOSITY terse
 \set SHOW_CONTEXT never
+SET client_min_messages = warning;
 -- Set operations at the top have no input relation. The server lives, in all modes and with a budget.
 SET safebound.estimates = mean;
 SELECT 1 UNION SELECT 2 ORDER BY 1;
