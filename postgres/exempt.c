@@ -12,8 +12,10 @@
 #include "access/parallel.h"
 #include "access/xact.h"
 #include "catalog/catalog.h"
+#include "catalog/dependency.h"
 #include "catalog/namespace.h"
 #include "catalog/pg_class.h"
+#include "commands/extension.h"
 #include "executor/executor.h"
 #include "nodes/nodeFuncs.h"
 #include "parser/parsetree.h"
@@ -44,15 +46,36 @@ is_catalog(Oid relation)
 	return IsCatalogRelationOid(relation) || is_own_table(relation);
 }
 
-/* Whether a subquery is the text of a view that came with PostgreSQL. The
- * rewriter puts the view itself before its entries. */
+/* Whether a view came with PostgreSQL or with this extension. */
+static bool
+is_view_of_system(Oid view)
+{
+	Oid extension = get_extension_oid("safebound", true);
+
+	return view < FirstNormalObjectId ||
+		(OidIsValid(extension) &&
+		 getExtensionOfObject(RelationRelationId, view) == extension);
+}
+
+/* Whether a query is the text of such a view. The rewriter puts the view itself
+ * before its entries. */
 static bool
 is_system_view(Query *query)
 {
 	RangeTblEntry *first = query->rtable ? linitial(query->rtable) : NULL;
 
 	return first && first->rtekind == RTE_RELATION &&
-		first->relkind == RELKIND_VIEW && first->relid < FirstNormalObjectId;
+		first->relkind == RELKIND_VIEW && is_view_of_system(first->relid);
+}
+
+/* Whether a query is within the text of such a view. */
+static bool
+is_in_system_view(CatalogSearch *search)
+{
+	for (; search; search = search->outer)
+		if (is_system_view(search->query))
+			return true;
+	return false;
 }
 
 /* Whether an expression is a column of a catalog, perhaps as another type. An
@@ -139,7 +162,7 @@ is_other_source(RangeTblEntry *entry, CatalogSearch *search)
 		case RTE_CTE:
 			return entry->self_reference;
 		case RTE_FUNCTION:
-			return !is_system_view(search->query) &&
+			return !is_in_system_view(search) &&
 				!all_of_catalog(entry, search);
 		default:
 			return true;
@@ -156,7 +179,7 @@ find_other_source(Node *node, CatalogSearch *search)
 	if (IsA(node, Query))
 		return any_other_source((Query *) node, search);
 	if (IsA(node, FuncExpr) && ((FuncExpr *) node)->funcretset &&
-		!is_system_view(search->query) && !is_of_catalog(node, search))
+		!is_in_system_view(search) && !is_of_catalog(node, search))
 		return true;
 	return expression_tree_walker(node, find_other_source, search);
 }

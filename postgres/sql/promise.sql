@@ -120,6 +120,7 @@ DROP ROLE spy;
 SET safebound.budget = 100;
 SELECT count(*) > 0 AS some FROM pg_class c JOIN (SELECT oid FROM pg_namespace OFFSET 0) n ON n.oid = c.relnamespace, (VALUES (1), (2)) AS v;
 SELECT count(*) > 0 AS some FROM information_schema.columns JOIN pg_stat_activity ON true;
+SELECT count(*) >= 0 AS some FROM safebound.admission, safebound.kept;
 SELECT count(*) FROM generate_series(1, 1000) a, pg_am m WHERE m.amname = 'heap';
 SELECT count(*) FROM (SELECT generate_series(1, 1000)) a, pg_am m WHERE m.amname = 'heap';
 SELECT count(*) FROM unnest(xpath('/table/row/c/text()', query_to_xml('SELECT c FROM many', false, false, ''))) a, pg_am m WHERE m.amname = 'heap';

@@ -189,7 +189,7 @@ EDITS = [
     Edit("a parallel worker counts what its leader is writing", "admit.c",
          [("TransactionIdIsValid(GetTopTransactionIdIfAny())", "false")], "promise"),
     Edit("functions beside a catalog are admitted", "exempt.c",
-         [("return !is_system_view(search->query) && !all_of_catalog(entry, search);", "return false;"),
+         [("return !is_in_system_view(search) && !all_of_catalog(entry, search);", "return false;"),
           ("((FuncExpr *) node)->funcretset &&", "false &&")], "promise"),
     Edit("the mark of a foreign key's check outlives its error", "exempt.c",
          [("static void\non_subtransaction_end(SubXactEvent event, SubTransactionId mine, SubTransactionId parent, "
