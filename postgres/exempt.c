@@ -1,7 +1,7 @@
 /* Queries that are admitted whatever they join: those over PostgreSQL's own
-   catalogs alone, those that PostgreSQL makes itself to check a new foreign
-   key and to refresh a materialized view, and the part of a query that a
-   parallel worker runs.
+   catalogs alone, those that PostgreSQL makes itself to check foreign keys and
+   to refresh a materialized view, and the part of a query that a parallel
+   worker runs.
 
    Nobody may give another query the mark of one of these. So a mark is nothing
    that a query says, such as a name or a text: it is where in PostgreSQL the
@@ -12,8 +12,10 @@
 #include "access/parallel.h"
 #include "access/xact.h"
 #include "catalog/catalog.h"
+#include "catalog/dependency.h"
 #include "catalog/namespace.h"
 #include "catalog/pg_class.h"
+#include "commands/extension.h"
 #include "executor/executor.h"
 #include "nodes/nodeFuncs.h"
 #include "parser/parsetree.h"
@@ -44,15 +46,36 @@ is_catalog(Oid relation)
 	return IsCatalogRelationOid(relation) || is_own_table(relation);
 }
 
-/* Whether a subquery is the text of a view that came with PostgreSQL. The
- * rewriter puts the view itself before its entries. */
+/* Whether a view came with PostgreSQL or with this extension. */
+static bool
+is_view_of_system(Oid view)
+{
+	Oid extension = get_extension_oid("safebound", true);
+
+	return view < FirstNormalObjectId ||
+		(OidIsValid(extension) &&
+		 getExtensionOfObject(RelationRelationId, view) == extension);
+}
+
+/* Whether a query is the text of such a view. The rewriter puts the view itself
+ * before its entries. */
 static bool
 is_system_view(Query *query)
 {
 	RangeTblEntry *first = query->rtable ? linitial(query->rtable) : NULL;
 
 	return first && first->rtekind == RTE_RELATION &&
-		first->relkind == RELKIND_VIEW && first->relid < FirstNormalObjectId;
+		first->relkind == RELKIND_VIEW && is_view_of_system(first->relid);
+}
+
+/* Whether a query is within the text of such a view. */
+static bool
+is_in_system_view(CatalogSearch *search)
+{
+	for (; search; search = search->outer)
+		if (is_system_view(search->query))
+			return true;
+	return false;
 }
 
 /* Whether an expression is a column of a catalog, perhaps as another type. An
@@ -139,7 +162,7 @@ is_other_source(RangeTblEntry *entry, CatalogSearch *search)
 		case RTE_CTE:
 			return entry->self_reference;
 		case RTE_FUNCTION:
-			return !is_system_view(search->query) &&
+			return !is_in_system_view(search) &&
 				!all_of_catalog(entry, search);
 		default:
 			return true;
@@ -156,7 +179,7 @@ find_other_source(Node *node, CatalogSearch *search)
 	if (IsA(node, Query))
 		return any_other_source((Query *) node, search);
 	if (IsA(node, FuncExpr) && ((FuncExpr *) node)->funcretset &&
-		!is_system_view(search->query) && !is_of_catalog(node, search))
+		!is_in_system_view(search) && !is_of_catalog(node, search))
 		return true;
 	return expression_tree_walker(node, find_other_source, search);
 }
@@ -270,32 +293,36 @@ is_key_check(QueryDesc *query)
 	return is_check;
 }
 
-/* A REFRESH MATERIALIZED VIEW CONCURRENTLY that is running. */
-typedef struct Refresh
+/* A statement that is running and asks joins of PostgreSQL's own: REFRESH
+ * MATERIALIZED VIEW CONCURRENTLY, or the detaching of a part to which a foreign
+ * key refers. */
+typedef struct AskingStatement
 {
-	struct Refresh *outer;
-	RangeVar *view;
-	int running; /* how many queries are running within it */
-} Refresh;
+	struct AskingStatement *outer;
+	RangeVar *refreshed; /* NULL: it detaches a part */
+	int running;		 /* how many queries are running within it */
+} AskingStatement;
 
-static Refresh *refresh;
+static AskingStatement *asking;
 
+/* Whether PostgreSQL's own queries may read a table: any one, or the refreshed
+ * view and the temporary table that has its new rows. */
 static bool
-is_refreshed(Oid relation)
+may_be_asked(Oid relation)
 {
-	return get_rel_persistence(relation) == RELPERSISTENCE_TEMP ||
+	return asking->refreshed == NULL ||
+		get_rel_persistence(relation) == RELPERSISTENCE_TEMP ||
 		(get_rel_relkind(relation) == RELKIND_MATVIEW &&
-		 relation == RangeVarGetRelid(refresh->view, NoLock, true));
+		 relation == RangeVarGetRelid(asking->refreshed, NoLock, true));
 }
 
-/* Whether PostgreSQL compares the new rows of a view with the old ones. The
-   new ones are in a temporary table. A function that the view calls runs
-   within a query or within the planner. */
+/* Whether the statement itself asks a query. A user's function runs within
+ * another query or within the planner. */
 static bool
-is_comparison(QueryDesc *query)
+is_of_statement(QueryDesc *query)
 {
-	return refresh && refresh->running == 0 && !is_planning() &&
-		reads_only(query->plannedstmt, is_refreshed);
+	return asking && asking->running == 0 && !is_planning() &&
+		reads_only(query->plannedstmt, may_be_asked);
 }
 
 /* Whether a query is a parallel worker's part of its leader's query, which was
@@ -312,17 +339,17 @@ is_exempt_start(QueryDesc *query)
 {
 	bool is_check = is_key_check(query);
 
-	return is_check || is_leaders(query) || is_comparison(query);
+	return is_check || is_leaders(query) || is_of_statement(query);
 }
 
-/* Notes that a query starts, runs or finishes within a refresh. Returns what
- * `end_running` takes; NULL if there is no refresh. */
+/* Notes that a query starts, runs or finishes within an asking statement.
+ * Returns what `end_running` takes; NULL if there is no such statement. */
 int *
 begin_running(void)
 {
-	if (refresh)
-		refresh->running++;
-	return refresh ? &refresh->running : NULL;
+	if (asking)
+		asking->running++;
+	return asking ? &asking->running : NULL;
 }
 
 void
@@ -400,23 +427,38 @@ run_utility(PlannedStmt *statement, const char *text, bool read_only,
 								parameters, environment, receiver, completion);
 }
 
+/* Whether a statement asks joins of PostgreSQL's own. Sets the view that it
+ * refreshes. */
+static bool
+is_asking(Node *statement, RangeVar **refreshed)
+{
+	RefreshMatViewStmt *refresh = (RefreshMatViewStmt *) statement;
+	AlterTableStmt *alter = (AlterTableStmt *) statement;
+
+	*refreshed = NULL;
+	if (IsA(statement, RefreshMatViewStmt))
+	{
+		*refreshed = refresh->relation;
+		return refresh->concurrent;
+	}
+	/* PostgreSQL combines the detaching of a part with nothing else. */
+	return IsA(statement, AlterTableStmt) && list_length(alter->cmds) == 1 &&
+		linitial_node(AlterTableCmd, alter->cmds)->subtype ==
+		AT_DetachPartition;
+}
+
 static void
 on_utility(PlannedStmt *statement, const char *text, bool read_only,
 		   ProcessUtilityContext context, ParamListInfo parameters,
 		   QueryEnvironment *environment, DestReceiver *receiver,
 		   QueryCompletion *completion)
 {
-	RefreshMatViewStmt *refreshing =
-		IsA(statement->utilityStmt, RefreshMatViewStmt)
-		? (RefreshMatViewStmt *) statement->utilityStmt
-		: NULL;
-	Refresh mine = {.outer = refresh};
+	AskingStatement mine = {.outer = asking};
 
-	if (refreshing == NULL || !refreshing->concurrent)
+	if (!is_asking(statement->utilityStmt, &mine.refreshed))
 		return run_utility(statement, text, read_only, context, parameters,
 						   environment, receiver, completion);
-	mine.view = refreshing->relation;
-	refresh = &mine;
+	asking = &mine;
 	PG_TRY();
 	{
 		run_utility(statement, text, read_only, context, parameters,
@@ -424,7 +466,7 @@ on_utility(PlannedStmt *statement, const char *text, bool read_only,
 	}
 	PG_FINALLY();
 	{
-		refresh = mine.outer;
+		asking = mine.outer;
 	}
 	PG_END_TRY();
 }

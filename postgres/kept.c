@@ -378,13 +378,23 @@ drop_entry(TableEntry *entry)
 	hash_search(tables, &entry->relation, HASH_REMOVE, NULL);
 }
 
+/* Pairs are in the order of the tables to which they refer. */
 static bool
 refers_to(const KeptTable *table, Oid relation)
 {
-	for (int i = 0; i < table->length; i++)
-		if (table->pairs[i].referred == relation)
-			return true;
-	return false;
+	int from = 0;
+	int to = table->length;
+
+	while (from < to)
+	{
+		int middle = (from + to) / 2;
+
+		if (table->pairs[middle].referred < relation)
+			from = middle + 1;
+		else
+			to = middle;
+	}
+	return from < table->length && table->pairs[from].referred == relation;
 }
 
 /* Drops the statistics of a table that changed, and those along references to

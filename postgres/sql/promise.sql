@@ -1,5 +1,6 @@
 \set VERBOSITY terse
 \set SHOW_CONTEXT never
+SET client_min_messages = warning;
 -- Set operations at the top have no input relation. The server lives, in all modes and with a budget.
 SET safebound.estimates = mean;
 SELECT 1 UNION SELECT 2 ORDER BY 1;
@@ -38,6 +39,18 @@ SELECT a.c FROM many a JOIN many b USING (c) UNION SELECT 1;
 SELECT 1 INTERSECT SELECT a.c FROM many a JOIN many b USING (c);
 SELECT a.c FROM many a JOIN many b USING (c) EXCEPT ALL SELECT 1;
 WITH RECURSIVE n AS (SELECT a.c FROM many a JOIN many b USING (c) UNION SELECT n.c FROM n WHERE false) SELECT count(*) FROM n;
+-- The least value of a UNION ALL comes from paths of their own, which the result's paths don't lead to: its joins are unknown.
+CREATE INDEX ON many (c);
+ANALYZE many;
+SET enable_hashjoin = off;
+SELECT min(c) FROM (SELECT a.c FROM many a JOIN many b USING (c) UNION ALL SELECT c FROM many) q;
+SELECT relations, bound FROM safebound.bounds('SELECT min(c) FROM (SELECT a.c FROM many a JOIN many b USING (c) UNION ALL SELECT c FROM many) q');
+RESET enable_hashjoin;
+-- A plan that was made before there was a budget has no bounds: SQL functions are planned as a whole.
+SET safebound.budget = 0;
+CREATE FUNCTION sets_budget() RETURNS bigint LANGUAGE sql VOLATILE AS $$ SELECT set_config('safebound.budget', '10', false); SELECT count(*) FROM many a, many b $$;
+SELECT sets_budget();
+DROP FUNCTION sets_budget;
 RESET constraint_exclusion;
 RESET safebound.budget;
 
@@ -107,6 +120,7 @@ DROP ROLE spy;
 SET safebound.budget = 100;
 SELECT count(*) > 0 AS some FROM pg_class c JOIN (SELECT oid FROM pg_namespace OFFSET 0) n ON n.oid = c.relnamespace, (VALUES (1), (2)) AS v;
 SELECT count(*) > 0 AS some FROM information_schema.columns JOIN pg_stat_activity ON true;
+SELECT count(*) >= 0 AS some FROM safebound.admission, safebound.kept;
 SELECT count(*) FROM generate_series(1, 1000) a, pg_am m WHERE m.amname = 'heap';
 SELECT count(*) FROM (SELECT generate_series(1, 1000)) a, pg_am m WHERE m.amname = 'heap';
 SELECT count(*) FROM unnest(xpath('/table/row/c/text()', query_to_xml('SELECT c FROM many', false, false, ''))) a, pg_am m WHERE m.amname = 'heap';
@@ -144,6 +158,10 @@ SELECT count(*) FROM ONLY many fk LEFT OUTER JOIN ONLY keys pk ON pk.c = fk.c WH
 REFRESH MATERIALIZED VIEW CONCURRENTLY viewed;
 ALTER TABLE many ALTER c TYPE bigint USING joins_many(), ADD FOREIGN KEY (c) REFERENCES keys;
 DO $$ BEGIN ALTER TABLE many ADD CHECK (joins_many() > 0); EXCEPTION WHEN sqlstate 'SB001' THEN RAISE WARNING 'refused'; END $$;
+-- A part to which a foreign key refers is detached.
+ALTER TABLE keys DETACH PARTITION keys_1;
+CREATE TABLE keys_2 PARTITION OF keys FOR VALUES FROM (2000) TO (3000);
+ALTER TABLE keys DETACH PARTITION keys_2;
 -- The check fails while it is planned. The next query isn't taken for it.
 CREATE FUNCTION fails_if(i integer) RETURNS integer LANGUAGE plpgsql IMMUTABLE AS $$ BEGIN IF current_setting('fails.now', true) = 'yes' THEN RAISE undefined_column; END IF; RETURN i; END $$;
 ALTER TABLE many DROP CONSTRAINT many_c_fkey;
@@ -152,8 +170,9 @@ CREATE INDEX ON keys ((c + fails_if(1)));
 SET safebound.budget = 10;
 SET fails.now = yes;
 DO $$ BEGIN ALTER TABLE many ADD FOREIGN KEY (c) REFERENCES keys; EXCEPTION WHEN undefined_column THEN RAISE WARNING 'failed'; SET fails.now = no; PERFORM count(*) FROM many fk, keys pk; END $$;
-CREATE FUNCTION joins_if(i integer) RETURNS integer LANGUAGE plpgsql STABLE AS $$ BEGIN RETURN CASE WHEN current_setting('safebound.budget') = '10' THEN (SELECT count(*) FROM viewed a, viewed b) ELSE i END; END $$;
+CREATE FUNCTION joins_if(i integer) RETURNS integer LANGUAGE plpgsql STABLE AS $$ BEGIN RETURN CASE WHEN current_setting('safebound.budget') = '10' THEN (SELECT count(*) FROM passing a, passing b) ELSE i END; END $$;
 RESET safebound.budget;
+CREATE TEMPORARY TABLE passing AS SELECT generate_series(1, 10);
 CREATE MATERIALIZED VIEW calling AS SELECT joins_if(c) AS c FROM many WHERE c < 3;
 CREATE UNIQUE INDEX ON calling (c);
 CREATE MATERIALIZED VIEW pruning AS SELECT c FROM parts WHERE k = joins_if(1);
@@ -163,5 +182,5 @@ REFRESH MATERIALIZED VIEW CONCURRENTLY calling;
 REFRESH MATERIALIZED VIEW CONCURRENTLY pruning;
 RESET safebound.budget;
 DROP MATERIALIZED VIEW viewed, calling, pruning;
-DROP TABLE none, many, parts, limited, keys;
+DROP TABLE none, many, parts, limited, keys, keys_2, passing;
 DROP FUNCTION in_worker, joins_many, joins_if, fails_if;
