@@ -517,9 +517,9 @@ class Superuser(Hostile):
         self.assertEqual(other.execute(join).fetchone(), (30000,))
         other.execute("CREATE TEMP TABLE q (x int); DROP TABLE q; ANALYZE t; SET safebound.budget = 1000000")
         self.assertEqual(self.state(other, join), UNBOUNDED)
-        for call in ("keep", "watch", "INSERT INTO t VALUES (1)"):
-            statement = call if " " in call else f"SELECT safebound.{call}('t')"
-            self.assertEqual(self.state(other, statement), "55000")
+        for call in ("keep", "watch"):
+            self.assertEqual(self.state(other, f"SELECT safebound.{call}('t')"), "55000")
+        other.execute("INSERT INTO t VALUES (1)")
 
 
 class Beside(Hostile):
