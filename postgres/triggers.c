@@ -186,8 +186,7 @@ drop_trigger(Oid trigger)
 }
 
 /* Waits for all who are writing to the table. Triggers that are as they should
-   be stay: tables below need them, and would count as unknown if they were
-   made again. */
+ * be stay, and those that were changed are dropped. */
 void
 make_triggers(Oid table, bool applies)
 {

@@ -115,10 +115,6 @@ EDITS = [
          [("(OidIsValid(found[TRIGGER_APPLIED]) || !applies)", "true"),
           ("\treturn OidIsValid(found[TRIGGER_BEGINS]) &&\n\t\tOidIsValid(found[TRIGGER_INSERTED]) &&"
            "\n\t\tOidIsValid(found[TRIGGER_UPDATED]) &&", "\treturn")], "rows"),
-    Edit("triggers of a table above are made anew when it is watched itself", "triggers.c",
-         [("\tfind_triggers(table, found, &changed);",
-           "\tfind_triggers(table, found, &changed);\n\tif (applies && !OidIsValid(found[TRIGGER_APPLIED]))\n\t{"
-           "\n\t\tdrop_triggers(table, true, true);\n\t\tmemset(found, 0, sizeof(found));\n\t}")], "rows"),
     Edit("unwatching a table above drops triggers that tables below need", "watch.c",
          [("drop_triggers(source, !applies, followers == NIL)", "drop_triggers(source, !applies, true)")], "rows"),
     Edit("statements on tables above bring no rows", "watch.c",
