@@ -72,6 +72,15 @@ check_watched(Oid relation)
 		mark_not_counted(relation);
 }
 
+static void
+check_each(List *tables)
+{
+	ListCell *cell;
+
+	foreach (cell, tables)
+		check_watched(lfirst_oid(cell));
+}
+
 static List *
 with_descendants(Oid relation)
 {
@@ -79,23 +88,29 @@ with_descendants(Oid relation)
 								  : list_make1_oid(relation);
 }
 
+/* A table, all below it, and those of which it is a part. */
+static List *
+tables_around(Oid relation)
+{
+	List *around = is_there(relation) ? with_descendants(relation) : NIL;
+
+	return get_rel_relispartition(relation)
+		? list_concat(around, get_partition_ancestors(relation))
+		: around;
+}
+
 /* Checks the watched tables for which a table is or was a source: those that
- * say so, and those below and above it. */
+ * say so, and those around it. */
 static void
 check_around(Oid relation)
 {
-	List *around = NIL;
-	ListCell *cell;
+	List *around = tables_around(relation);
+	List *followers = followers_of(relation);
 
-	foreach (cell, followers_of(relation))
-		around = lappend_oid(around, ((KeptRow *) lfirst(cell))->relation);
-	if (is_there(relation))
-		around = list_concat_unique_oid(around, with_descendants(relation));
-	if (get_rel_relispartition(relation))
-		around =
-			list_concat_unique_oid(around, get_partition_ancestors(relation));
-	foreach (cell, around)
-		check_watched(lfirst_oid(cell));
+	for (int i = 0; i < list_length(followers); i++)
+		around = list_append_unique_oid(
+			around, ((KeptRow *) list_nth(followers, i))->relation);
+	check_each(around);
 }
 
 static void

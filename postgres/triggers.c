@@ -185,21 +185,28 @@ drop_trigger(Oid trigger)
 	CommandCounterIncrement();
 }
 
+static void
+drop_all(List *triggers)
+{
+	ListCell *cell;
+
+	foreach (cell, triggers)
+		drop_trigger(lfirst_oid(cell));
+}
+
 /* Waits for all who are writing to the table. Triggers that are as they should
  * be stay, and those that were changed are dropped. */
 void
 make_triggers(Oid table, bool applies)
 {
+	int length = applies ? TRIGGER_KINDS : TRIGGER_APPLIED;
 	Oid found[TRIGGER_KINDS];
 	List *changed = NIL;
-	ListCell *cell;
 
 	LockRelationOid(table, ShareRowExclusiveLock);
 	find_triggers(table, found, &changed);
-	foreach (cell, changed)
-		drop_trigger(lfirst_oid(cell));
-	for (int kind = 0; kind < (applies ? TRIGGER_KINDS : TRIGGER_APPLIED);
-		 kind++)
+	drop_all(changed);
+	for (int kind = 0; kind < length; kind++)
 		if (!OidIsValid(found[kind]))
 			make_trigger(table, &definitions[kind]);
 }
