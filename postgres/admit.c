@@ -10,8 +10,6 @@
 #include "access/parallel.h"
 #include "access/table.h"
 #include "access/xact.h"
-#include "catalog/catalog.h"
-#include "catalog/namespace.h"
 #include "catalog/pg_class.h"
 #include "catalog/pg_db_role_setting.h"
 #include "executor/executor.h"
@@ -44,12 +42,9 @@ static const struct config_enum_entry unbounded_choices[] = {
 static int budget;
 static int unbounded_setting;
 
-/* True while the extension runs a query of its own to count a table. Such a
- * query isn't checked. */
-bool admission_paused = false;
-
 static planner_hook_type planner_before;
 static set_rel_pathlist_hook_type rel_paths_before;
+static create_upper_paths_hook_type upper_paths_before;
 static ExecutorStart_hook_type start_before;
 
 /* A call of the planner. Calls may nest: the planner may evaluate a function,
@@ -57,7 +52,7 @@ static ExecutorStart_hook_type start_before;
 typedef struct PlannerCall
 {
 	struct PlannerCall *outer;
-	List *roots; /* each PlannerInfo that made paths */
+	List *roots; /* each PlannerInfo that made paths or a whole result */
 } PlannerCall;
 
 static PlannerCall *planner_call;
@@ -71,14 +66,37 @@ on_budget(int changed, void *extra)
 		ResetPlanCache();
 }
 
+/* Whether the planner is at work. It may evaluate a user's functions. */
+bool
+is_planning(void)
+{
+	return planner_call != NULL;
+}
+
 static void
-on_rel_paths(PlannerInfo *root, RelOptInfo *rel, Index rti, RangeTblEntry *rte)
+note_root(PlannerInfo *root)
 {
 	if (planner_call != NULL)
 		planner_call->roots =
 			list_append_unique_ptr(planner_call->roots, root);
+}
+
+static void
+on_rel_paths(PlannerInfo *root, RelOptInfo *rel, Index rti, RangeTblEntry *rte)
+{
+	note_root(root);
 	if (rel_paths_before)
 		rel_paths_before(root, rel, rti, rte);
+}
+
+static void
+on_upper_paths(PlannerInfo *root, UpperRelationKind stage, RelOptInfo *input,
+			   RelOptInfo *output, void *extra)
+{
+	if (stage == UPPERREL_FINAL)
+		note_root(root);
+	if (upper_paths_before)
+		upper_paths_before(root, stage, input, output, extra);
 }
 
 static PlannedStmt *
@@ -95,10 +113,11 @@ on_planner(Query *parse, const char *text, int options,
 {
 	PlannerCall mine = {planner_call, NIL};
 	PlannedStmt *plan;
-	List *joins;
+	bool exempt;
 
 	if (budget == 0)
 		return call_planner_before(parse, text, options, parameters);
+	exempt = reads_catalogs_alone(parse);
 	planner_call = &mine;
 	PG_TRY();
 	{
@@ -109,39 +128,13 @@ on_planner(Query *parse, const char *text, int options,
 		planner_call = mine.outer;
 	}
 	PG_END_TRY();
-	joins = joins_of_plan(plan, mine.roots);
-	if (joins != NIL)
-		put_bound_data(plan, joins);
+	if (!has_joins(plan))
+		return plan;
+	if (exempt)
+		put_exemption(plan);
+	else
+		put_bound_data(plan, joins_of_plan(plan, mine.roots));
 	return plan;
-}
-
-/* Whether a table is a system catalog or one of this extension's tables. */
-static bool
-is_exempt(Oid relation)
-{
-	return IsCatalogRelationOid(relation) ||
-		get_rel_namespace(relation) == get_namespace_oid("safebound", true);
-}
-
-/* Whether a plan reads tables and all of them are exempt. Such a plan is
- * always admitted: psql makes some to describe a table. */
-static bool
-all_exempt(PlannedStmt *plan)
-{
-	bool any = false;
-	ListCell *cell;
-
-	foreach (cell, plan->rtable)
-	{
-		RangeTblEntry *entry = lfirst_node(RangeTblEntry, cell);
-
-		if (entry->rtekind != RTE_RELATION || entry->relkind == RELKIND_VIEW)
-			continue;
-		if (!is_exempt(entry->relid))
-			return false;
-		any = true;
-	}
-	return any;
 }
 
 /* The relations of a join, as the query names them. */
@@ -211,6 +204,8 @@ why_unbounded(BoundedQuery *query, List *join, Relids relids)
 		return psprintf(
 			"A join with more than %d outer and semi-joins has no bound.",
 			MOST_SPECIAL_JOINS);
+	if (any_torn(query, relids))
+		return pstrdup("It joins a part of an outer or semi-join.");
 	if (list_length(join) > SAFEBOUND_MOST_ENTRIES)
 		return psprintf("A join of more than %d tables has no bound.",
 						SAFEBOUND_MOST_ENTRIES);
@@ -277,23 +272,35 @@ check_root(List *root_data, ParamListInfo parameters)
 		check_join(query, lfirst(cell));
 }
 
+/* In a parallel worker nobody knows which tables the leader's statements are
+ * writing to, so its rows may not be counted yet. */
+static bool
+may_be_writing(void)
+{
+	return IsParallelWorker() &&
+		TransactionIdIsValid(GetTopTransactionIdIfAny());
+}
+
 /* Bounds all joins of a plan in the active snapshot. Raises an error at the
- * first one that is refused. */
+   first one that is refused. An error tells something about the tables, so it
+   is raised for those alone who may read them. */
 static void
 check_plan(PlannedStmt *plan, ParamListInfo parameters)
 {
 	List *bound_data = bound_data_of(plan);
-	bool unknown_joins = bound_data == NIL
-		? has_joins(plan)
-		: linitial_int((List *) linitial(bound_data)) > 0;
 
-	if (all_exempt(plan))
+	if (bound_data == NIL ? !has_joins(plan) : is_exempt_data(bound_data))
 		return;
-	if (unknown_joins)
+	ExecCheckRTPerms(plan->rtable, true);
+	if (bound_data == NIL || unknown_joins_of_data(bound_data) > 0)
 		refuse_unbounded(
 			NULL,
-			"What it joins can't be told from the plan: some of its rows come "
-			"from no table, or another extension made the plan.");
+			"What it joins can't be told from the plan: another extension may "
+			"have made it.");
+	else if (may_be_writing())
+		refuse_unbounded(NULL,
+						 "A parallel worker runs it in a transaction that "
+						 "writes. max_parallel_workers_per_gather = 0 helps.");
 	for (int i = 1; i < list_length(bound_data); i++)
 		check_root(list_nth(bound_data, i), parameters);
 }
@@ -324,19 +331,36 @@ admit(QueryDesc *query)
 	MemoryContextDelete(own);
 }
 
-/* EXPLAIN without ANALYZE runs nothing, and a parallel worker's query was
- * checked in its leader. So neither is checked. */
+/* EXPLAIN without ANALYZE runs nothing, so it isn't checked. */
 static void
-on_start(QueryDesc *query, int flags)
+check_and_start(QueryDesc *query, int flags, bool exempt)
 {
-	if (budget > 0 && !admission_paused &&
-		!(flags & (EXEC_FLAG_EXPLAIN_ONLY | EXEC_FLAG_WITH_NO_DATA)) &&
-		!IsParallelWorker())
+	if (budget > 0 && !exempt &&
+		!(flags & (EXEC_FLAG_EXPLAIN_ONLY | EXEC_FLAG_WITH_NO_DATA)))
 		admit(query);
 	if (start_before)
 		start_before(query, flags);
 	else
 		standard_ExecutorStart(query, flags);
+}
+
+static void
+on_start(QueryDesc *query, int flags)
+{
+	bool exempt = is_exempt_start(query);
+	int *running = begin_running();
+
+	if (running == NULL)
+		return check_and_start(query, flags, exempt);
+	PG_TRY();
+	{
+		check_and_start(query, flags, exempt);
+	}
+	PG_FINALLY();
+	{
+		end_running(running);
+	}
+	PG_END_TRY();
 }
 
 /* Applies the settings of the role and the database again, as at the beginning
@@ -421,5 +445,6 @@ admit_init(void)
 	define_guarded_settings();
 	TAKE_HOOK(planner_hook, planner_before, on_planner);
 	TAKE_HOOK(set_rel_pathlist_hook, rel_paths_before, on_rel_paths);
+	TAKE_HOOK(create_upper_paths_hook, upper_paths_before, on_upper_paths);
 	TAKE_HOOK(ExecutorStart_hook, start_before, on_start);
 }

@@ -17,6 +17,9 @@
 /* The name that marks the entry. */
 #define BOUND_DATA_NAME "*safebound*"
 
+/* In place of the number of unknown joins: the plan is always admitted. */
+#define EXEMPT (-1)
+
 /* What is stored of one PlannerInfo, which is the query or a subquery: a list
  * for each thing that bounded_query reads. */
 enum
@@ -103,7 +106,7 @@ class_lists(EquivalenceClass *class)
 	List *members = NIL;
 	ListCell *cell;
 
-	if (class->ec_has_volatile || class->ec_merged)
+	if (!is_class_equal(class))
 		return NIL;
 	foreach (cell, class->ec_members)
 	{
@@ -174,14 +177,25 @@ root_data_of(PlannerInfo *root, List *joins)
 	return root_data;
 }
 
+static void
+put_data(PlannedStmt *plan, List *bound_data)
+{
+	RangeTblEntry *entry = makeNode(RangeTblEntry);
+
+	entry->rtekind = RTE_RESULT;
+	entry->eref = makeAlias(BOUND_DATA_NAME, NIL);
+	entry->values_lists = bound_data;
+	plan->rtable = lappend(plan->rtable, entry);
+}
+
 /* Stores in a plan what is needed to compute the bounds of its joins. The
-   first of values_lists has the number of joins whose relations aren't known;
-   each other one has the data of a PlannerInfo. */
+   first list has the number of joins whose relations aren't known; each other
+   one has the data of a PlannerInfo. */
 void
 put_bound_data(PlannedStmt *plan, List *joins)
 {
-	RangeTblEntry *entry = makeNode(RangeTblEntry);
 	List *roots = NIL;
+	List *bound_data;
 	int unknown_joins = 0;
 	ListCell *cell;
 
@@ -194,13 +208,29 @@ put_bound_data(PlannedStmt *plan, List *joins)
 		else
 			roots = list_append_unique_ptr(roots, join->root);
 	}
-	entry->rtekind = RTE_RESULT;
-	entry->eref = makeAlias(BOUND_DATA_NAME, NIL);
-	entry->values_lists = list_make1(list_make1_int(unknown_joins));
+	bound_data = list_make1(list_make1_int(unknown_joins));
 	foreach (cell, roots)
-		entry->values_lists =
-			lappend(entry->values_lists, root_data_of(lfirst(cell), joins));
-	plan->rtable = lappend(plan->rtable, entry);
+		bound_data = lappend(bound_data, root_data_of(lfirst(cell), joins));
+	put_data(plan, bound_data);
+}
+
+/* Stores in a plan that it is admitted whatever it joins. */
+void
+put_exemption(PlannedStmt *plan)
+{
+	put_data(plan, list_make1(list_make1_int(EXEMPT)));
+}
+
+int
+unknown_joins_of_data(List *bound_data)
+{
+	return linitial_int((List *) linitial(bound_data));
+}
+
+bool
+is_exempt_data(List *bound_data)
+{
+	return unknown_joins_of_data(bound_data) == EXEMPT;
 }
 
 /* What was stored in a plan; NIL if nothing was. */

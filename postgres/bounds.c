@@ -134,6 +134,16 @@ put_join(ReturnSetInfo *into, BoundedQuery *query, Relids relids)
 	tuplestore_putvalues(into->setResult, into->setDesc, values, nulls);
 }
 
+/* A join whose relations aren't known. */
+static void
+put_unknown_join(ReturnSetInfo *into)
+{
+	Datum values[] = {text_array(NIL), 0, 0, text_array(NIL)};
+	bool nulls[] = {false, true, true, false};
+
+	tuplestore_putvalues(into->setResult, into->setDesc, values, nulls);
+}
+
 static void
 put_bounds(FunctionCallInfo fcinfo, const char *asked)
 {
@@ -156,6 +166,8 @@ put_bounds(FunctionCallInfo fcinfo, const char *asked)
 		if (query != NULL)
 			put_join((ReturnSetInfo *) fcinfo->resultinfo, query,
 					 join->relids);
+		else
+			put_unknown_join((ReturnSetInfo *) fcinfo->resultinfo);
 	}
 }
 
@@ -166,6 +178,7 @@ safebound_bounds_of(PG_FUNCTION_ARGS)
 {
 	char *asked = text_to_cstring(PG_GETARG_TEXT_PP(0));
 
+	check_use();
 	kept_hold();
 	PG_TRY();
 	{

@@ -13,7 +13,6 @@
 #include "catalog/pg_collation.h"
 #include "catalog/pg_operator.h"
 #include "catalog/pg_type.h"
-#include "executor/spi.h"
 #include "executor/tuptable.h"
 #include "miscadmin.h"
 #include "utils/builtins.h"
@@ -73,7 +72,7 @@ begin_sort(TupleDesc desc, Form_pg_attribute attribute, int memory)
 								&nulls_first, memory, NULL, TUPLESORT_NONE);
 }
 
-static void
+void
 put_value(Tuplesortstate *sort, TupleTableSlot *slot, Datum value, bool null,
 		  uint32 row)
 {
@@ -322,122 +321,6 @@ columns_beside(Relation referred, AttrNumber key)
 	return numbers;
 }
 
-static void
-put_operator(StringInfo into, Oid operator)
-{
-	HeapTuple tuple = SearchSysCache1(OPEROID, ObjectIdGetDatum(operator));
-	Form_pg_operator form;
-
-	if (!HeapTupleIsValid(tuple))
-		elog(ERROR, "operator %u isn't there", operator);
-	form = (Form_pg_operator) GETSTRUCT(tuple);
-	appendStringInfo(into, "OPERATOR(%s.%s)",
-					 quote_identifier(get_namespace_name(form->oprnamespace)),
-					 NameStr(form->oprname));
-	ReleaseSysCache(tuple);
-}
-
-static const char *
-full_name(Relation relation)
-{
-	return quote_qualified_identifier(
-		get_namespace_name(RelationGetNamespace(relation)),
-		RelationGetRelationName(relation));
-}
-
-/* A query for columns of the referred rows, one row for each value of the
- * referring column, in the order of these values' codes. */
-static char *
-query_along(const TableCounting *table_count, const Column *along,
-			Relation referred, const ForeignKeyCacheInfo *reference,
-			List *numbers)
-{
-	StringInfoData query;
-	const char *name = quote_identifier(NameStr(along->attribute->attname));
-	Oid collation = along->attribute->attcollation;
-	ListCell *cell;
-
-	initStringInfo(&query);
-	appendStringInfoString(&query, "SELECT ");
-	foreach (cell, numbers)
-		appendStringInfo(
-			&query, "%ss.%s", foreach_current_index(cell) ? ", " : "",
-			quote_identifier(get_attname(RelationGetRelid(referred),
-										 lfirst_int(cell), false)));
-	appendStringInfo(
-		&query,
-		" FROM (SELECT DISTINCT %s AS value FROM %s%s WHERE %s IS NOT NULL) r "
-		"LEFT JOIN ONLY %s s ON s.%s ",
-		name,
-		table_count->relation->rd_rel->relkind == RELKIND_PARTITIONED_TABLE
-			? ""
-			: "ONLY ",
-		full_name(table_count->relation), name, full_name(referred),
-		quote_identifier(get_attname(RelationGetRelid(referred),
-									 reference->confkey[0], false)));
-	put_operator(&query, reference->conpfeqop[0]);
-	appendStringInfoString(&query, " r.value ORDER BY r.value");
-	if (sort_collation(collation) == C_COLLATION_OID &&
-		collation != C_COLLATION_OID)
-		appendStringInfoString(&query, " COLLATE \"C\"");
-	return query.data;
-}
-
-/* Opens a query of the extension's own, in the active snapshot. */
-static Portal
-open_own(const char *query)
-{
-	Portal portal;
-
-	admission_paused = true;
-	PG_TRY();
-	{
-		portal = SPI_cursor_open_with_args(NULL, query, 0, NULL, NULL, NULL,
-										   true, 0);
-	}
-	PG_FINALLY();
-	{
-		admission_paused = false;
-	}
-	PG_END_TRY();
-	return portal;
-}
-
-/* Puts each column of the query's rows into a sort of its own. Row 0 is for
- * NULL, which refers to no row. */
-static void
-sort_referred(const char *query, int length, Tuplesortstate **sorts,
-			  TupleTableSlot **slots, uint32 rows)
-{
-	Portal portal = open_own(query);
-	uint32 row = 0;
-
-	for (int i = 0; i < length; i++)
-		put_value(sorts[i], slots[i], (Datum) 0, true, 0);
-	for (SPI_cursor_fetch(portal, true, 10000); SPI_processed > 0;
-		 SPI_cursor_fetch(portal, true, 10000))
-	{
-		for (uint64 at = 0; at < SPI_processed; at++)
-		{
-			row++;
-			for (int i = 0; i < length; i++)
-			{
-				bool null;
-				Datum value =
-					SPI_getbinval(SPI_tuptable->vals[at],
-								  SPI_tuptable->tupdesc, i + 1, &null);
-
-				put_value(sorts[i], slots[i], value, null, row);
-			}
-		}
-		SPI_freetuptable(SPI_tuptable);
-	}
-	SPI_cursor_close(portal);
-	if (row + 1 != rows)
-		elog(ERROR, "%u values are referred to, and %u are referring", row,
-			 rows - 1);
-}
-
 /* How many rows have each code. */
 static uint32 *
 weights_of(const TableCounting *table_count, const Column *column)
@@ -507,9 +390,8 @@ referred_columns(const TableCounting *table_count, const Column *along,
 							  Max(64, maintenance_work_mem / (*length + 1)));
 	}
 	if (*length > 0)
-		sort_referred(
-			query_along(table_count, along, referred, reference, numbers),
-			*length, sorts, slots, along->highest + 1);
+		sort_referred(table_count, along, referred, reference->confkey[0],
+					  numbers, sorts, slots);
 	weights = weights_of(table_count, along);
 	for (int i = 0; i < *length; i++)
 	{

@@ -6,6 +6,7 @@
 #include "catalog/pg_collation.h"
 #include "catalog/pg_operator.h"
 #include "catalog/pg_opfamily.h"
+#include "catalog/pg_proc.h"
 #include "nodes/nodeFuncs.h"
 #include "optimizer/optimizer.h"
 #include "utils/array.h"
@@ -48,11 +49,18 @@ column_of(const ConditionContext *context, Node *node)
 	return 0;
 }
 
+/* The pair of a filter column, if the column still has the type and the
+ * collation with which it was counted. */
 static const KeptPair *
 pair_of(const ConditionContext *context, AttrNumber column)
 {
-	return kept_pair_along(context->table, context->joined, column,
-						   context->reference);
+	const KeptPair *pair = kept_pair_along(context->table, context->joined,
+										   column, context->reference);
+
+	return pair && same_column(context->relation, column, pair->filter_type,
+							   pair->filter_collation)
+		? pair
+		: NULL;
 }
 
 /* The operator family whose = the counting of this column used; InvalidOid if
@@ -71,6 +79,14 @@ equality_family(Oid relation, AttrNumber column, Oid collation)
 	return lookup_type_cache(type, TYPECACHE_BTREE_OPFAMILY)->btree_opf;
 }
 
+/* Whether an operator's answer depends on its values alone. That of timestamp
+ * = timestamptz depends on the time zone, and isn't transitive. */
+bool
+is_immutable(Oid operator)
+{
+	return op_volatile(operator) == PROVOLATILE_IMMUTABLE;
+}
+
 /* Whether an operator is the = by which equal values were found when the
  * column was counted. */
 bool
@@ -79,7 +95,8 @@ is_equality(Oid relation, AttrNumber column, Oid operator, Oid collation)
 	Oid family = equality_family(relation, column, collation);
 
 	return OidIsValid(family) &&
-		get_op_opfamily_strategy(operator, family) == BTEqualStrategyNumber;
+		get_op_opfamily_strategy(operator, family) == BTEqualStrategyNumber &&
+		is_immutable(operator);
 }
 
 /* A range of a column's values in its order, as a range of leaves. */
@@ -177,7 +194,8 @@ range_of_comparison(const ConditionContext *context, OpExpr *clause,
 									 BTLessEqualStrategyNumber);
 	if (strategy == BTEqualStrategyNumber || !IsA(other, Const) ||
 		((Const *) other)->constisnull || !OidIsValid(less) ||
-		!OidIsValid(less_equal))
+		!OidIsValid(less_equal) || !is_immutable(operator) ||
+		!is_immutable(less) || !is_immutable(less_equal))
 		return false;
 	set_range(range, pair, strategy, less, less_equal, clause->inputcollid,
 			  ((Const *) other)->constvalue);

@@ -8,6 +8,7 @@
 #include "catalog/pg_attribute.h"
 #include "executor/tuptable.h"
 #include "utils/rel.h"
+#include "utils/tuplesort.h"
 
 /* sorted.c: sorts numbers below 2^63, in memory if `most` numbers fit, else in
  * files. */
@@ -81,7 +82,15 @@ typedef struct TableCounting
 	int64 lists; /* how many lists were made */
 } TableCounting;
 
+/* referred.c */
+extern void
+sort_referred(const TableCounting *table_count, const Column *along,
+			  Relation referred, AttrNumber key, List *numbers,
+			  Tuplesortstate **sorts, TupleTableSlot **slots);
+
 /* columns.c */
+extern void put_value(Tuplesortstate *sort, TupleTableSlot *slot, Datum value,
+					  bool null, uint32 row);
 extern void read_columns(TableCounting *table_count);
 extern Column *
 referred_columns(const TableCounting *table_count, const Column *along,

@@ -7,15 +7,10 @@
    that the snapshot sees. */
 #include "watch.h"
 
-#include "access/genam.h"
 #include "access/htup_details.h"
-#include "access/table.h"
-#include "catalog/indexing.h"
 #include "catalog/pg_type.h"
-#include "commands/sequence.h"
 #include "utils/array.h"
 #include "utils/builtins.h"
-#include "utils/fmgroids.h"
 #include "utils/lsyscache.h"
 #include "utils/memutils.h"
 #include "utils/rel.h"
@@ -108,63 +103,71 @@ read_kept_row(Relation tables, HeapTuple tuple, KeptRow *kept_row)
 bool
 find_kept_row(Oid relation, Snapshot snapshot, KeptRow *kept_row)
 {
-	Oid tables_oid = extension_table("kept_table");
-	Relation tables;
-	ScanKeyData key;
-	SysScanDesc scan;
+	Datum key = ObjectIdGetDatum(relation);
+	OwnScan scan;
 	HeapTuple tuple;
 	bool found;
 
-	if (!OidIsValid(tables_oid))
+	if (extension_presence() != PRESENT)
 		return false;
-	tables = table_open(tables_oid, AccessShareLock);
-	ScanKeyInit(&key, TABLE_RELATION, BTEqualStrategyNumber, F_OIDEQ,
-				ObjectIdGetDatum(relation));
-	scan = systable_beginscan(tables, extension_table("kept_table_pkey"), true,
-							  snapshot, 1, &key);
-	tuple = systable_getnext(scan);
+	scan = begin_own_scan(KEPT_TABLE, snapshot, 1, &key);
+	tuple = next_own(&scan);
 	found = HeapTupleIsValid(tuple);
 	if (found)
-		read_kept_row(tables, tuple, kept_row);
-	systable_endscan(scan);
-	table_close(tables, AccessShareLock);
+		read_kept_row(scan.own, tuple, kept_row);
+	end_own_scan(&scan);
 	return found;
 }
 
-/* The kept tables that may get rows from a statement on `source`, as of now.
- * If `source` is InvalidOid, all kept tables. */
+/* The oids of all kept tables, as of now. */
+List *
+all_kept(void)
+{
+	OwnScan scan = begin_own_scan(KEPT_TABLE, NULL, 0, NULL);
+	List *all = NIL;
+	HeapTuple tuple;
+	bool null;
+
+	while (HeapTupleIsValid(tuple = next_own(&scan)))
+		all = lappend_oid(
+			all,
+			DatumGetObjectId(heap_getattr(tuple, TABLE_RELATION,
+										  RelationGetDescr(scan.own), &null)));
+	end_own_scan(&scan);
+	return all;
+}
+
+/* The watched tables that may get rows from a statement on `source`, as of
+ * now. */
 List *
 followers_of(Oid source)
 {
-	Relation tables =
-		table_open(extension_table("kept_table"), AccessShareLock);
-	SysScanDesc scan =
-		systable_beginscan(tables, InvalidOid, false, NULL, 0, NULL);
+	Datum key = ObjectIdGetDatum(source);
+	OwnScan scan = begin_own_scan(KEPT_SOURCE, NULL, 1, &key);
 	List *followers = NIL;
 	HeapTuple tuple;
 
-	while (HeapTupleIsValid(tuple = systable_getnext(scan)))
+	while (HeapTupleIsValid(tuple = next_own(&scan)))
 	{
 		KeptRow *kept_row = palloc0(sizeof(KeptRow));
+		bool null;
+		Oid relation = DatumGetObjectId(heap_getattr(
+			tuple, SOURCE_RELATION, RelationGetDescr(scan.own), &null));
 
-		read_kept_row(tables, tuple, kept_row);
-		if (!OidIsValid(source) || list_member_oid(kept_row->sources, source))
+		if (find_kept_row(relation, NULL, kept_row) &&
+			list_member_oid(kept_row->sources, source))
 			followers = lappend(followers, kept_row);
 	}
-	systable_endscan(scan);
-	table_close(tables, AccessShareLock);
+	end_own_scan(&scan);
 	return followers;
 }
 
-static SysScanDesc
-begin_scan(Relation deltas, Oid relation, Snapshot snapshot)
+static OwnScan
+begin_scan(Oid relation, Snapshot snapshot)
 {
-	ScanKeyData key;
+	Datum key = ObjectIdGetDatum(relation);
 
-	ScanKeyInit(&key, DELTA_RELATION, BTEqualStrategyNumber, F_OIDEQ,
-				ObjectIdGetDatum(relation));
-	return systable_beginscan(deltas, extension_table("kept_delta_pkey"), true,
-							  snapshot, 1, &key);
+	return begin_own_scan(KEPT_DELTA, snapshot, 1, &key);
 }
 
 static int64
@@ -180,31 +183,25 @@ number_of(Relation deltas, HeapTuple tuple, int column)
 bool
 has_mark(Oid relation, Snapshot snapshot)
 {
-	Relation deltas =
-		table_open(extension_table("kept_delta"), AccessShareLock);
-	SysScanDesc scan = begin_scan(deltas, relation, snapshot);
+	OwnScan scan = begin_scan(relation, snapshot);
 	bool found = false;
 	HeapTuple tuple;
 
-	while (!found && HeapTupleIsValid(tuple = systable_getnext(scan)))
-		found = number_of(deltas, tuple, DELTA_ROWS) == NOT_COUNTED;
-	systable_endscan(scan);
-	table_close(deltas, AccessShareLock);
+	while (!found && HeapTupleIsValid(tuple = next_own(&scan)))
+		found = number_of(scan.own, tuple, DELTA_ROWS) == NOT_COUNTED;
+	end_own_scan(&scan);
 	return found;
 }
 
 int64
 count_deltas(Oid relation, Snapshot snapshot)
 {
-	Relation deltas =
-		table_open(extension_table("kept_delta"), AccessShareLock);
-	SysScanDesc scan = begin_scan(deltas, relation, snapshot);
+	OwnScan scan = begin_scan(relation, snapshot);
 	int64 count = 0;
 
-	while (HeapTupleIsValid(systable_getnext(scan)))
+	while (HeapTupleIsValid(next_own(&scan)))
 		count++;
-	systable_endscan(scan);
-	table_close(deltas, AccessShareLock);
+	end_own_scan(&scan);
 	return count;
 }
 
@@ -295,29 +292,28 @@ add_delta(Deltas *sums, const KeptRow *kept_row, Relation deltas,
 
 /* The ids of the deltas that a snapshot sees, without their lists. */
 static Deltas *
-read_ids(const KeptRow *kept_row, Relation deltas, Snapshot snapshot)
+read_ids(const KeptRow *kept_row, Snapshot snapshot)
 {
-	SysScanDesc scan = begin_scan(deltas, kept_row->relation, snapshot);
+	OwnScan scan = begin_scan(kept_row->relation, snapshot);
 	Deltas *sums = palloc0(sizeof(Deltas));
 	int capacity = 16;
 	HeapTuple tuple;
 
 	sums->ids = palloc(capacity * sizeof(int64));
-	while (HeapTupleIsValid(tuple = systable_getnext(scan)))
+	while (HeapTupleIsValid(tuple = next_own(&scan)))
 	{
 		if (sums->length == capacity)
 			sums->ids = repalloc(sums->ids, (capacity *= 2) * sizeof(int64));
-		sums->ids[sums->length++] = number_of(deltas, tuple, DELTA_ID);
+		sums->ids[sums->length++] = number_of(scan.own, tuple, DELTA_ID);
 	}
-	systable_endscan(scan);
+	end_own_scan(&scan);
 	return sums;
 }
 
 static void
-sum_deltas(Deltas *sums, const KeptRow *kept_row, Relation deltas,
-		   Snapshot snapshot)
+sum_deltas(Deltas *sums, const KeptRow *kept_row, Snapshot snapshot)
 {
-	SysScanDesc scan = begin_scan(deltas, kept_row->relation, snapshot);
+	OwnScan scan = begin_scan(kept_row->relation, snapshot);
 	HeapTuple tuple;
 	int number = -1;
 
@@ -327,9 +323,9 @@ sum_deltas(Deltas *sums, const KeptRow *kept_row, Relation deltas,
 		palloc0(sizeof(DegreeList) * (bms_num_members(kept_row->joined) + 1));
 	while ((number = bms_next_member(kept_row->joined, number)) >= 0)
 		sums->numbers[sums->lists_length++] = number;
-	while (HeapTupleIsValid(tuple = systable_getnext(scan)))
-		add_delta(sums, kept_row, deltas, tuple);
-	systable_endscan(scan);
+	while (HeapTupleIsValid(tuple = next_own(&scan)))
+		add_delta(sums, kept_row, scan.own, tuple);
+	end_own_scan(&scan);
 }
 
 static bool
@@ -345,19 +341,16 @@ same_ids(const Deltas *one, const Deltas *other)
 Deltas *
 find_deltas(const KeptRow *kept_row, Snapshot snapshot, Deltas *known)
 {
-	Relation deltas =
-		table_open(extension_table("kept_delta"), AccessShareLock);
 	MemoryContext context = AllocSetContextCreate(
 		CurrentMemoryContext, "safebound deltas", ALLOCSET_SMALL_SIZES);
 	MemoryContext before = MemoryContextSwitchTo(context);
-	Deltas *sums = read_ids(kept_row, deltas, snapshot);
+	Deltas *sums = read_ids(kept_row, snapshot);
 	bool same = same_ids(known, sums);
 
 	sums->context = context;
 	if (!same)
-		sum_deltas(sums, kept_row, deltas, snapshot);
+		sum_deltas(sums, kept_row, snapshot);
 	MemoryContextSwitchTo(before);
-	table_close(deltas, AccessShareLock);
 	if (!same)
 		return sums;
 	MemoryContextDelete(context);
@@ -379,25 +372,17 @@ with_deltas(const KeptTable *table, AttrNumber joined, DegreeList list)
 	return all;
 }
 
-/* Inserts into the heap directly, since a user who may write to a table has no
- * rights on the extension's tables. */
 void
 write_delta(Oid relation, int64 rows, StringInfo lists)
 {
-	Relation deltas =
-		table_open(extension_table("kept_delta"), RowExclusiveLock);
 	bytea *bytes = palloc(VARHDRSZ + lists->len);
-	bool nulls[DELTA_LISTS] = {false};
-	Datum values[DELTA_LISTS] = {
-		ObjectIdGetDatum(relation),
-		Int64GetDatum(nextval_internal(extension_table("versions"), false)),
+	Datum values[DELTA_COLUMNS] = {
+		ObjectIdGetDatum(relation), Int64GetDatum(next_version()),
 		Int64GetDatum(rows), PointerGetDatum(bytes)};
 
 	SET_VARSIZE(bytes, VARHDRSZ + lists->len);
 	memcpy(VARDATA(bytes), lists->data, lists->len);
-	CatalogTupleInsert(
-		deltas, heap_form_tuple(RelationGetDescr(deltas), values, nulls));
-	table_close(deltas, NoLock);
+	insert_own(KEPT_DELTA, values, NULL);
 }
 
 /* Deletes the deltas that a snapshot sees. Their rows are now counted in the
@@ -405,13 +390,7 @@ write_delta(Oid relation, int64 rows, StringInfo lists)
 void
 delete_deltas(Oid relation, Snapshot snapshot)
 {
-	Relation deltas =
-		table_open(extension_table("kept_delta"), RowExclusiveLock);
-	SysScanDesc scan = begin_scan(deltas, relation, snapshot);
-	HeapTuple tuple;
+	Datum key = ObjectIdGetDatum(relation);
 
-	while (HeapTupleIsValid(tuple = systable_getnext(scan)))
-		CatalogTupleDelete(deltas, &tuple->t_self);
-	systable_endscan(scan);
-	table_close(deltas, NoLock);
+	delete_own(KEPT_DELTA, snapshot, 1, &key);
 }

@@ -5,6 +5,7 @@
    since a query within the statement may see rows that aren't counted yet.
    Other backends don't see them before the commit. For rows that a replica
    applies, only row triggers run. They mark the table as unknown. */
+#include "triggers.h"
 #include "watch.h"
 
 #include "access/xact.h"
@@ -402,26 +403,39 @@ end_statement(TriggerData *trigger)
 	end_writing(RelationGetRelid(trigger->tg_relation));
 }
 
+/* Which of the extension's triggers calls. Anybody who may make a trigger of
+ * this function could have made it for another event or without rows. */
+static TriggerKind
+kind_of_call(FunctionCallInfo fcinfo)
+{
+	TriggerKind kind = CALLED_AS_TRIGGER(fcinfo)
+		? kind_of_trigger(((TriggerData *) fcinfo->context)->tg_trigger)
+		: TRIGGER_OTHER;
+
+	if (kind == TRIGGER_OTHER)
+		ereport(ERROR,
+				(errcode(ERRCODE_E_R_I_E_TRIGGER_PROTOCOL_VIOLATED),
+				 errmsg("safebound.follow is called by the triggers of "
+						"safebound.watch alone")));
+	return kind;
+}
+
 Datum
 safebound_follow(PG_FUNCTION_ARGS)
 {
+	TriggerKind kind = kind_of_call(fcinfo);
 	TriggerData *trigger = (TriggerData *) fcinfo->context;
 
-	if (!CALLED_AS_TRIGGER(fcinfo))
-		ereport(ERROR,
-				(errcode(ERRCODE_E_R_I_E_TRIGGER_PROTOCOL_VIOLATED),
-				 errmsg("safebound.follow is called by triggers alone")));
-	if (!OidIsValid(extension_table("kept_delta")))
+	/* The update of the extension's SQL marks all tables: rows that come to
+	 * tables of another version aren't counted. */
+	if (extension_presence() != PRESENT)
 		return PointerGetDatum(NULL);
-	if (TRIGGER_FIRED_FOR_ROW(trigger->tg_event))
-	{
-		if (IsLogicalWorker())
-			mark_applied(RelationGetRelid(trigger->tg_relation));
-	}
-	else if (TRIGGER_FIRED_BEFORE(trigger->tg_event))
+	if (kind == TRIGGER_BEGINS)
 		begin_writing(RelationGetRelid(trigger->tg_relation));
-	else
+	else if (kind != TRIGGER_APPLIED)
 		end_statement(trigger);
+	else if (IsLogicalWorker())
+		mark_applied(RelationGetRelid(trigger->tg_relation));
 	return PointerGetDatum(NULL);
 }
 

@@ -2,6 +2,7 @@
  * may include outer, semi- and anti-joins. */
 #include "planning.h"
 
+#include "access/stratnum.h"
 #include "catalog/pg_class.h"
 #include "nodes/nodeFuncs.h"
 #include "optimizer/optimizer.h"
@@ -73,6 +74,47 @@ joined_column(BoundedQuery *query, Var *var)
 		.list = compressed_if_long(list_under(entry->table, entry->rel,
 											  var->varattno, &entry->used))};
 	return query->columns_length++;
+}
+
+/* Whether the = of two members' types depends on their values alone, where the
+ * families have one. */
+static bool
+is_equality_immutable(List *families, Oid left, Oid right)
+{
+	ListCell *cell;
+
+	foreach (cell, families)
+	{
+		Oid equality = get_opfamily_member(lfirst_oid(cell), left, right,
+										   BTEqualStrategyNumber);
+
+		if (OidIsValid(equality) && !is_immutable(equality))
+			return false;
+	}
+	return true;
+}
+
+/* Whether the members of an equivalence class are equal in each row. They
+   aren't if an expression is volatile, or if the = of two of their types isn't
+   immutable: PostgreSQL tests some of the class's equalities and takes the
+   others to follow. */
+bool
+is_class_equal(EquivalenceClass *class)
+{
+	List *types = NIL;
+	ListCell *cell, *other;
+
+	if (class->ec_has_volatile || class->ec_merged)
+		return false;
+	foreach (cell, class->ec_members)
+		types = list_append_unique_oid(
+			types, lfirst_node(EquivalenceMember, cell)->em_datatype);
+	foreach (cell, types)
+		foreach (other, types)
+			if (!is_equality_immutable(class->ec_opfamilies, lfirst_oid(cell),
+									   lfirst_oid(other)))
+				return false;
+	return true;
 }
 
 /* Adds the columns of one of PostgreSQL's equivalence classes as equal
@@ -369,10 +411,8 @@ bounded_query(PlannerInfo *root)
 	}
 	foreach (cell, root->eq_classes)
 	{
-		EquivalenceClass *class = lfirst(cell);
-
-		if (!class->ec_has_volatile && class->ec_merged == NULL)
-			add_class(query, class);
+		if (is_class_equal(lfirst(cell)))
+			add_class(query, lfirst(cell));
 	}
 	for (int i = 1; i < root->simple_rel_array_size; i++)
 		if (query->entries[i].table)
@@ -624,14 +664,40 @@ special_joins_within(BoundedQuery *query, Relids relids)
 	return joins;
 }
 
+/* Whether relations on both sides of an outer, semi- or anti-join are joined,
+   but not all that it needs. The planner makes no such join, with one
+   exception: it may join the distinct rows of a semi-join's right side first,
+   as in an inner join. */
+static bool
+is_torn(SpecialJoinInfo *join, Relids relids)
+{
+	bool distinct = join->jointype == JOIN_SEMI &&
+		bms_is_subset(join->syn_righthand, relids);
+
+	return bms_overlap(join->min_lefthand, relids) &&
+		bms_overlap(join->min_righthand, relids) && !is_within(join, relids) &&
+		!distinct;
+}
+
+bool
+any_torn(BoundedQuery *query, Relids relids)
+{
+	ListCell *cell;
+
+	foreach (cell, query->root->join_info_list)
+		if (is_torn(lfirst(cell), relids))
+			return true;
+	return false;
+}
+
 /* The bound of the join of these relations. UNKNOWN if it has more outer,
- * semi- and anti-joins than MOST_SPECIAL_JOINS. */
+   semi- and anti-joins than MOST_SPECIAL_JOINS, or a part of one. */
 uint64
 bound_of_join(BoundedQuery *query, Relids relids)
 {
 	List *joins = special_joins_within(query, relids);
 
-	return list_length(joins) > MOST_SPECIAL_JOINS
+	return list_length(joins) > MOST_SPECIAL_JOINS || any_torn(query, relids)
 		? UNKNOWN
 		: bound_of_ways(query, relids, joins);
 }

@@ -1,6 +1,7 @@
 /* safebound.keep and safebound.forget: which columns of a table are counted,
  * and where the lists are written. */
 #include "counting.h"
+#include "owner.h"
 #include "watch.h"
 
 #include "access/htup_details.h"
@@ -13,7 +14,6 @@
 #include "catalog/pg_class.h"
 #include "catalog/pg_collation.h"
 #include "catalog/pg_type.h"
-#include "executor/spi.h"
 #include "executor/tuptable.h"
 #include "miscadmin.h"
 #include "storage/lmgr.h"
@@ -33,42 +33,12 @@
 PG_FUNCTION_INFO_V1(safebound_keep);
 PG_FUNCTION_INFO_V1(safebound_forget);
 
-static Oid
-owner_of(Oid relation)
-{
-	Relation opened = relation_open(relation, AccessShareLock);
-	Oid owner = opened->rd_rel->relowner;
-
-	relation_close(opened, AccessShareLock);
-	return owner;
-}
-
-/* Changes the extension's own tables as their owner, since a user who keeps a
- * table has no rights on them. */
-uint64
-write_own(const char *statement, int length, Oid *types, Datum *values)
-{
-	Oid user;
-	int context;
-
-	GetUserIdAndSecContext(&user, &context);
-	SetUserIdAndSecContext(owner_of(extension_table("kept_lists")),
-						   context | SECURITY_LOCAL_USERID_CHANGE);
-	if (SPI_execute_with_args(statement, length, types, values, NULL, false,
-							  0) < 0)
-		elog(ERROR, "can't be executed: %s", statement);
-	SetUserIdAndSecContext(user, context);
-	return SPI_processed;
-}
-
 void
 save_pair(const TableCounting *table_count, const Column *joined,
 		  const Column *filter, StringInfo bytes)
 {
-	Oid types[] = {REGCLASSOID, INT2OID,    INT2OID, INT2OID, OIDOID,  INT2OID,
-				   REGTYPEOID,  REGTYPEOID, OIDOID,  OIDOID,  BYTEAOID};
 	bytea *lists = palloc(VARHDRSZ + bytes->len);
-	Datum values[] = {
+	Datum values[LISTS_COLUMNS] = {
 		ObjectIdGetDatum(RelationGetRelid(table_count->relation)),
 		Int16GetDatum(joined ? joined->number : 0),
 		Int16GetDatum(filter ? filter->number : 0),
@@ -85,9 +55,8 @@ save_pair(const TableCounting *table_count, const Column *joined,
 
 	SET_VARSIZE(lists, VARHDRSZ + bytes->len);
 	memcpy(VARDATA(lists), bytes->data, bytes->len);
-	write_own("INSERT INTO safebound.kept_lists VALUES ($1, $2, $3, $4, $5, "
-			  "$6, $7, $8, $9, $10, $11)",
-			  11, types, values);
+	insert_own(KEPT_LISTS, values, NULL);
+	pfree(lists);
 }
 
 /* Whether a column's type has an order, so that equal values can be found. */
@@ -261,34 +230,6 @@ open_owned(Oid relation)
 	return opened;
 }
 
-static bool
-forget_table(Oid relation)
-{
-	Oid types[] = {REGCLASSOID};
-	Datum values[] = {ObjectIdGetDatum(relation)};
-
-	write_own("DELETE FROM safebound.kept_lists WHERE relation = $1", 1, types,
-			  values);
-	CacheInvalidateRelcacheByRelid(relation);
-	return write_own("DELETE FROM safebound.kept_table WHERE relation = $1", 1,
-					 types, values) > 0;
-}
-
-static void
-save_table(const TableCounting *table_count)
-{
-	Oid types[] = {REGCLASSOID, INT8OID, INT2OID, INT2OID, INT2OID};
-	Datum values[] = {
-		ObjectIdGetDatum(RelationGetRelid(table_count->relation)),
-		Int64GetDatum(table_count->rows), Int16GetDatum(table_count->accuracy),
-		Int16GetDatum(table_count->most_common),
-		Int16GetDatum(table_count->most_leaves)};
-
-	write_own(
-		"INSERT INTO safebound.kept_table VALUES ($1, $2, $3, $4, $5, now())",
-		5, types, values);
-}
-
 static int
 within(int value, int least, int most, const char *name)
 {
@@ -309,21 +250,21 @@ keep_table(Oid relation, Bitmapset *joined, Bitmapset *filters,
 								 .most_leaves = most_leaves,
 								 .accuracy = accuracy,
 								 .relation = open_owned(relation)};
+	Caller caller = begin_as_owner(table_count.relation->rd_rel->relowner);
 	bool followed;
 	KeptRow before;
 
-	SPI_connect();
 	choose_columns(&table_count, joined, filters);
 	begin_counting(table_count.relation, folding, &before, &followed);
-	forget_table(relation);
+	forget_kept(relation);
+	CacheInvalidateRelcache(table_count.relation);
 	read_columns(&table_count);
 	keep_whole(&table_count);
 	keep_filters(&table_count, table_count.columns, table_count.length);
 	keep_references(&table_count);
 	end_columns(table_count.columns, table_count.length);
-	save_table(&table_count);
-	end_counting(&before, followed);
-	SPI_finish();
+	end_counting(&table_count, &before, followed);
+	end_as_owner(&caller);
 	relation_close(table_count.relation, NoLock);
 	return table_count.lists;
 }
@@ -342,34 +283,58 @@ named_or_all(Oid relation, FunctionCallInfo fcinfo, int argument)
 	return numbers;
 }
 
+/* Tells a session once that a budget needs more than kept tables. */
+static void
+say_not_watched(Oid relation)
+{
+	static bool told = false;
+	KeptRow kept_row;
+
+	if (told || !find_kept_row(relation, NULL, &kept_row) ||
+		kept_row.sources != NIL)
+		return;
+	told = true;
+	ereport(NOTICE,
+			(errmsg("\"%s\" is kept, and not watched: safebound.budget takes "
+					"bounds of watched tables alone",
+					get_rel_name(relation)),
+			 errhint("safebound.watch counts a table and follows the rows "
+					 "that come.")));
+}
+
 Datum
 safebound_keep(PG_FUNCTION_ARGS)
 {
 	Oid relation = PG_GETARG_OID(0);
+	int64 lists;
 
+	check_use();
 	if (PG_ARGISNULL(0) || PG_ARGISNULL(3) || PG_ARGISNULL(4) ||
 		PG_ARGISNULL(5))
 		PG_RETURN_NULL();
-	PG_RETURN_INT64(keep_table(
+	lists = keep_table(
 		relation, named_or_all(relation, fcinfo, 1),
 		named_or_all(relation, fcinfo, 2),
 		within(PG_GETARG_INT32(3), 0, 1000, "common"),
 		within(PG_GETARG_INT32(4), 0, 1000, "ranges"),
 		within(PG_GETARG_INT32(5), 1, SAFEBOUND_MOST_ACCURACY, "accuracy"),
-		false));
+		false);
+	say_not_watched(relation);
+	PG_RETURN_INT64(lists);
 }
 
 Datum
 safebound_forget(PG_FUNCTION_ARGS)
 {
-	Relation opened = open_owned(PG_GETARG_OID(0));
+	Relation opened;
 	bool were;
 
+	check_use();
+	opened = open_owned(PG_GETARG_OID(0));
 	LockRelationOid(PG_GETARG_OID(0), ShareUpdateExclusiveLock);
-	SPI_connect();
-	were = forget_table(PG_GETARG_OID(0));
-	SPI_finish();
+	were = forget_kept(PG_GETARG_OID(0));
 	delete_deltas(PG_GETARG_OID(0), NULL);
+	CacheInvalidateRelcache(opened);
 	relation_close(opened, NoLock);
 	PG_RETURN_BOOL(were);
 }

@@ -3,15 +3,11 @@
    is counted again. */
 #include "watch.h"
 
-#include "access/genam.h"
 #include "access/htup_details.h"
-#include "access/table.h"
-#include "catalog/namespace.h"
 #include "catalog/pg_class.h"
 #include "catalog/pg_type.h"
 #include "utils/builtins.h"
 #include "utils/datum.h"
-#include "utils/fmgroids.h"
 #include "utils/hsearch.h"
 #include "utils/inval.h"
 #include "utils/lsyscache.h"
@@ -20,23 +16,6 @@
 #include "utils/snapmgr.h"
 #include "utils/syscache.h"
 
-/* The columns of safebound.kept_lists. */
-enum
-{
-	LISTS_RELATION = 1,
-	LISTS_JOINED,
-	LISTS_FILTER,
-	LISTS_ALONG,
-	LISTS_REFERRED,
-	LISTS_KEY,
-	LISTS_JOINED_TYPE,
-	LISTS_FILTER_TYPE,
-	LISTS_JOINED_COLLATION,
-	LISTS_FILTER_COLLATION,
-	LISTS_BYTES,
-	LISTS_COLUMNS = LISTS_BYTES
-};
-
 static HTAB *tables;
 
 /* Statistics that are out of date, but that a plan being made may still point
@@ -44,19 +23,9 @@ static HTAB *tables;
 static KeptTable *dropped;
 static List *dropped_deltas;
 
-/* A table of the extension, or InvalidOid if this database doesn't have the
- * extension. */
-Oid
-extension_table(const char *name)
-{
-	Oid schema = get_namespace_oid("safebound", true);
-
-	return OidIsValid(schema) ? get_relname_relid(name, schema) : InvalidOid;
-}
-
 /* Whether a column still has the type and the collation with which it was
  * counted. If not, its values may have changed. */
-static bool
+bool
 same_column(Oid relation, AttrNumber number, Oid type, Oid collation)
 {
 	HeapTuple tuple;
@@ -104,7 +73,11 @@ read_pair(Datum *row)
 					 .filter = DatumGetInt16(row[LISTS_FILTER - 1]),
 					 .along = DatumGetInt16(row[LISTS_ALONG - 1]),
 					 .referred = DatumGetObjectId(row[LISTS_REFERRED - 1]),
-					 .key = DatumGetInt16(row[LISTS_KEY - 1])};
+					 .key = DatumGetInt16(row[LISTS_KEY - 1]),
+					 .filter_type =
+						 DatumGetObjectId(row[LISTS_FILTER_TYPE - 1]),
+					 .filter_collation =
+						 DatumGetObjectId(row[LISTS_FILTER_COLLATION - 1])};
 	bytea *bytes = DatumGetByteaP(row[LISTS_BYTES - 1]);
 	const char *at = VARDATA_ANY(bytes);
 	const char *end = at + VARSIZE_ANY_EXHDR(bytes);
@@ -155,24 +128,20 @@ by_columns(const void *left, const void *right)
 }
 
 static void
-read_table(KeptTable *table, Relation lists, Snapshot snapshot)
+read_table(KeptTable *table, Snapshot snapshot)
 {
-	ScanKeyData key;
-	SysScanDesc scan;
+	Datum relation = ObjectIdGetDatum(table->relation);
+	OwnScan scan = begin_own_scan(KEPT_LISTS, snapshot, 1, &relation);
 	HeapTuple tuple;
 	int capacity = 16;
 
 	table->pairs = palloc(capacity * sizeof(KeptPair));
-	ScanKeyInit(&key, LISTS_RELATION, BTEqualStrategyNumber, F_OIDEQ,
-				ObjectIdGetDatum(table->relation));
-	scan = systable_beginscan(lists, extension_table("kept_lists_pkey"), true,
-							  snapshot, 1, &key);
-	while (HeapTupleIsValid(tuple = systable_getnext(scan)))
+	while (HeapTupleIsValid(tuple = next_own(&scan)))
 	{
 		Datum row[LISTS_COLUMNS];
 		bool nulls[LISTS_COLUMNS];
 
-		heap_deform_tuple(tuple, RelationGetDescr(lists), row, nulls);
+		heap_deform_tuple(tuple, RelationGetDescr(scan.own), row, nulls);
 		if (!same_column(table->relation, DatumGetInt16(row[LISTS_JOINED - 1]),
 						 DatumGetObjectId(row[LISTS_JOINED_TYPE - 1]),
 						 DatumGetObjectId(row[LISTS_JOINED_COLLATION - 1])) ||
@@ -188,7 +157,7 @@ read_table(KeptTable *table, Relation lists, Snapshot snapshot)
 				repalloc(table->pairs, (capacity *= 2) * sizeof(KeptPair));
 		table->pairs[table->length++] = read_pair(row);
 	}
-	systable_endscan(scan);
+	end_own_scan(&scan);
 	qsort(table->pairs, table->length, sizeof(KeptPair), by_columns);
 	table->valid = kept_pair(table, 0, 0) != NULL;
 }
@@ -198,7 +167,6 @@ read_table(KeptTable *table, Relation lists, Snapshot snapshot)
 static KeptTable *
 load_table(const KeptRow *kept_row, Snapshot snapshot)
 {
-	Oid lists_oid = extension_table("kept_lists");
 	MemoryContext context = AllocSetContextCreate(
 		CurrentMemoryContext, "safebound statistics", ALLOCSET_SMALL_SIZES);
 	MemoryContext before = MemoryContextSwitchTo(context);
@@ -207,13 +175,11 @@ load_table(const KeptRow *kept_row, Snapshot snapshot)
 	table->relation = kept_row->relation;
 	table->version = kept_row->version;
 	table->context = context;
-	if (OidIsValid(lists_oid))
-	{
-		Relation lists = table_open(lists_oid, AccessShareLock);
-
-		read_table(table, lists, snapshot);
-		table_close(lists, AccessShareLock);
-	}
+	read_table(table, snapshot);
+	/* pg_upgrade takes statistics along, and no internal triggers. */
+	table->valid = table->valid &&
+		(kept_row->sources == NIL ||
+		 is_intact(kept_row->relation, kept_row->sources));
 	MemoryContextSwitchTo(before);
 	return table;
 }
@@ -412,7 +378,27 @@ drop_entry(TableEntry *entry)
 	hash_search(tables, &entry->relation, HASH_REMOVE, NULL);
 }
 
-/* InvalidOid means that all tables may have changed. */
+/* Pairs are in the order of the tables to which they refer. */
+static bool
+refers_to(const KeptTable *table, Oid relation)
+{
+	int from = 0;
+	int to = table->length;
+
+	while (from < to)
+	{
+		int middle = (from + to) / 2;
+
+		if (table->pairs[middle].referred < relation)
+			from = middle + 1;
+		else
+			to = middle;
+	}
+	return from < table->length && table->pairs[from].referred == relation;
+}
+
+/* Drops the statistics of a table that changed, and those along references to
+ * it. InvalidOid means that all tables may have changed. */
 static void
 on_invalidation(Datum argument, Oid relation)
 {
@@ -421,7 +407,8 @@ on_invalidation(Datum argument, Oid relation)
 
 	hash_seq_init(&status, tables);
 	while ((entry = hash_seq_search(&status)) != NULL)
-		if (!OidIsValid(relation) || entry->relation == relation)
+		if (!OidIsValid(relation) || entry->relation == relation ||
+			refers_to(entry->table, relation))
 			drop_entry(entry);
 }
 

@@ -24,9 +24,11 @@ _PG_init(void)
 							 "geometric mean of both, never above the bound.",
 							 &estimates_mode, ESTIMATES_OFF, estimates_modes,
 							 PGC_USERSET, GUC_EXPLAIN, NULL, NULL, NULL);
+	own_tables_init();
 	kept_init();
 	planning_init();
 	admit_init();
+	exempt_init();
 	followed_init();
 	watch_init();
 	MarkGUCPrefixReserved("safebound");

@@ -1,5 +1,30 @@
-/* The joins of a finished plan, each with the relations of the planner that it
-   joins.
+/* The joins of a finished plan, each with the relations that it joins.
+
+   While a query is planned, each path points to the relation whose rows it
+   makes, and a join relation has the set of relations that it joins. A plan is
+   made from the chosen path, node by node, and doesn't have these sets. So
+   both trees are walked together, and each join node gets the set of the path
+   from which it was made.
+
+   Why the bound of this set is never less than the rows of the node:
+
+   - A path of a join relation makes the rows of the query's join of exactly
+     the relations in the set, whatever the order in which it joins them. If
+     it is repeated for each row of another relation, or joins parts of
+     partitioned tables, it makes some of them. The planner may replace a side
+     by a node without rows, since its conditions contradict each other or all
+     its parts were pruned. The set of the join has the relations of that side
+     still, though no scan of the plan names them.
+   - The walk starts at the paths of the whole query, or of a subquery of its
+     own, within the planner's call that made this plan: both have the same
+     range table in memory. It goes on only while both trees agree: a node and
+     a path are the same kind of join, with the same numbers of rows and costs,
+     and have equally many nodes below. If they differ anywhere, all joins of
+     the tree are unknown.
+   - The sets aren't trusted blindly. All scans below a node have to be of
+     relations of its set, or of subqueries in it. Otherwise the node is
+     unknown.
+   - A join that is unknown has no bound, and never a smaller one.
 
    A plan's scans name entries of the plan's own range table, which has the
    entries of all subqueries one behind the other. The planner copies an entry
@@ -12,13 +37,6 @@
 #include "nodes/pathnodes.h"
 #include "utils/hsearch.h"
 
-/* The scans below a node, as numbers in the plan's range table. */
-typedef struct Scans
-{
-	Bitmapset *numbers;
-	bool complete; /* false: some rows may come from no scan */
-} Scans;
-
 /* The origin of an entry of the range table. */
 typedef struct Origin
 {
@@ -27,14 +45,22 @@ typedef struct Origin
 	Index relid;
 } Origin;
 
+/* A node that joins, and what its path joins. */
+typedef struct MatchedJoin
+{
+	Plan *node;
+	PlannerInfo *root;
+	Relids relids;
+} MatchedJoin;
+
 typedef struct JoinSearch
 {
 	PlannedStmt *plan;
-	HTAB *origins;
-	List *joins; /* of PlanJoin */
+	HTAB *origins; /* of Origin, by names */
+	HTAB *matched; /* of MatchedJoin, by node */
+	List *joins;   /* of PlanJoin */
 } JoinSearch;
 
-static Scans scans_below(JoinSearch *search, Plan *plan);
 
 /* The entries that a single scan joins, for example on a foreign server or by
  * another extension. */
@@ -107,21 +133,6 @@ has_joins(PlannedStmt *plan)
 	return any_join(plan->planTree);
 }
 
-/* Whether the planner found that this node has no rows. */
-static bool
-is_empty(Plan *plan)
-{
-	Node *condition =
-		IsA(plan, Result) ? ((Result *) plan)->resconstantqual : NULL;
-
-	if (condition && IsA(condition, List) &&
-		list_length((List *) condition) == 1)
-		condition = linitial((List *) condition);
-	return condition && IsA(condition, Const) &&
-		(((Const *) condition)->constisnull ||
-		 !DatumGetBool(((Const *) condition)->constvalue));
-}
-
 /* The entry that a scan reads; 0 if the node isn't a scan of a single entry.
  */
 static Index
@@ -150,18 +161,16 @@ scanned_entry(Plan *plan)
 	}
 }
 
-/* The scans of a node that is a leaf of its subquery's plan. */
-static Scans
-leaf_scans(Plan *plan)
+/* The entries that a node without join nodes below it reads. */
+static Bitmapset *
+entries_of_scan(Plan *plan)
 {
-	if (scanned_entry(plan))
-		return (Scans){bms_make_singleton(scanned_entry(plan)), true};
 	if (IsA(plan, ForeignScan))
-		return (Scans){((ForeignScan *) plan)->fs_relids, true};
+		return ((ForeignScan *) plan)->fs_relids;
 	if (IsA(plan, CustomScan))
-		return (Scans){((CustomScan *) plan)->custom_relids,
-					   !bms_is_empty(((CustomScan *) plan)->custom_relids)};
-	return (Scans){NULL, is_empty(plan)};
+		return ((CustomScan *) plan)->custom_relids;
+	return scanned_entry(plan) ? bms_make_singleton(scanned_entry(plan))
+							   : NULL;
 }
 
 /* The parent of a child in its own PlannerInfo, or 0 if it isn't a child. In a
@@ -212,89 +221,250 @@ origin_of(JoinSearch *search, int number)
 	return hash_search(search->origins, &names, HASH_FIND, NULL);
 }
 
-/* The numbers in `root` of all these scans; NULL if one of them isn't below
- * `root`. */
-static Relids
-relids_in(JoinSearch *search, PlannerInfo *root, Bitmapset *numbers)
+/* Whether all these scans are of relations of a join, or of subqueries in it.
+ */
+static bool
+covers(JoinSearch *search, const MatchedJoin *match, Bitmapset *scans)
 {
-	Relids relids = NULL;
 	int number = -1;
 
-	while ((number = bms_next_member(numbers, number)) >= 0)
+	while ((number = bms_next_member(scans, number)) >= 0)
 	{
 		const Origin *origin = origin_of(search, number);
-		Index relid = origin ? relid_in(root, origin) : 0;
+		Index relid = origin ? relid_in(match->root, origin) : 0;
 
-		if (relid == 0)
-			return NULL;
-		relids = bms_add_member(relids, relid);
+		if (relid == 0 || !bms_is_member(relid, match->relids))
+			return false;
 	}
-	return relids;
+	return true;
 }
 
-/* Finds the PlannerInfo that made a join: the innermost one in which all scans
- * of both sides have numbers. */
 static void
-note_join(JoinSearch *search, Bitmapset *outer, Bitmapset *inner,
-		  bool complete)
+note_join(JoinSearch *search, Plan *node, Bitmapset *scans)
 {
 	PlanJoin *join = palloc0(sizeof(PlanJoin));
-	int first = bms_next_member(outer ? outer : inner, -1);
-	const Origin *origin = first > 0 ? origin_of(search, first) : NULL;
+	const MatchedJoin *match =
+		hash_search(search->matched, &node, HASH_FIND, NULL);
 
 	search->joins = lappend(search->joins, join);
-	for (PlannerInfo *root = complete && origin ? origin->root : NULL;
-		 root != NULL; root = root->parent_root)
-	{
-		Relids left = relids_in(search, root, outer);
-		Relids right = relids_in(search, root, inner);
-
-		if ((outer && !left) || (inner && !right))
-			continue;
-		if (bms_overlap(left, right))
-			return;
-		join->root = root;
-		join->relids = bms_union(left, right);
+	if (match == NULL || !covers(search, match, scans))
 		return;
-	}
+	join->root = match->root;
+	join->relids = match->relids;
 }
 
-static Scans
-scans_of_join(JoinSearch *search, Plan *plan)
+/* Notes all joins at a node and below it. Returns the scans there, as numbers
+ * in the plan's range table. */
+static Bitmapset *
+note_joins(JoinSearch *search, Plan *plan)
 {
-	Scans outer = scans_below(search, outerPlan(plan));
-	Scans inner = scans_below(search, innerPlan(plan));
-
-	note_join(search, outer.numbers, inner.numbers,
-			  outer.complete && inner.complete);
-	return (Scans){bms_union(outer.numbers, inner.numbers),
-				   outer.complete && inner.complete};
-}
-
-static Scans
-scans_below(JoinSearch *search, Plan *plan)
-{
-	Scans all = {NULL, true};
-	List *children;
+	Bitmapset *scans = NULL;
 	ListCell *cell;
 
 	check_stack_depth();
-	if (is_join(plan))
-		return scans_of_join(search, plan);
-	if (joined_elsewhere(plan))
-		note_join(search, joined_elsewhere(plan), NULL, true);
-	children = children_of(plan);
-	foreach (cell, children)
-	{
-		Scans some = scans_below(search, lfirst(cell));
-
-		all.numbers = bms_union(all.numbers, some.numbers);
-		all.complete = all.complete && some.complete;
-	}
+	foreach (cell, children_of(plan))
+		scans = bms_add_members(scans, note_joins(search, lfirst(cell)));
+	if (is_join(plan) || joined_elsewhere(plan))
+		note_join(search, plan,
+				  is_join(plan) ? scans : joined_elsewhere(plan));
 	/* A scan stands for all nodes below it. */
-	return children == NIL || scanned_entry(plan) || IsA(plan, CustomScan)
-		? leaf_scans(plan)
-		: all;
+	return entries_of_scan(plan) ? entries_of_scan(plan) : scans;
+}
+
+/* The paths directly below a path. */
+static List *
+paths_below(Path *path)
+{
+#define BELOW(kind) \
+	case T_##kind: \
+		return list_make1(((kind *) path)->subpath)
+
+	switch (nodeTag(path))
+	{
+		case T_NestPath:
+		case T_MergePath:
+		case T_HashPath:
+			return list_make2(((JoinPath *) path)->outerjoinpath,
+							  ((JoinPath *) path)->innerjoinpath);
+		case T_RecursiveUnionPath:
+			return list_make2(((RecursiveUnionPath *) path)->leftpath,
+							  ((RecursiveUnionPath *) path)->rightpath);
+		case T_AppendPath:
+			return ((AppendPath *) path)->subpaths;
+		case T_MergeAppendPath:
+			return ((MergeAppendPath *) path)->subpaths;
+		case T_CustomPath:
+			return ((CustomPath *) path)->custom_paths;
+		case T_ForeignPath:
+			return ((ForeignPath *) path)->fdw_outerpath
+				? list_make1(((ForeignPath *) path)->fdw_outerpath)
+				: NIL;
+			BELOW(SubqueryScanPath);
+			BELOW(MaterialPath);
+			BELOW(MemoizePath);
+			BELOW(UniquePath);
+			BELOW(GatherPath);
+			BELOW(GatherMergePath);
+			BELOW(ProjectionPath);
+			BELOW(ProjectSetPath);
+			BELOW(SortPath);
+			BELOW(GroupPath);
+			BELOW(UpperUniquePath);
+			BELOW(AggPath);
+			BELOW(GroupingSetsPath);
+			BELOW(WindowAggPath);
+			BELOW(SetOpPath);
+			BELOW(LockRowsPath);
+			BELOW(ModifyTablePath);
+			BELOW(LimitPath);
+		case T_IncrementalSortPath:
+			return list_make1(((IncrementalSortPath *) path)->spath.subpath);
+		default:
+			return NIL;
+	}
+#undef BELOW
+}
+
+/* Whether another server or another extension may make the rows. */
+static bool
+is_made_elsewhere(Node *node)
+{
+	return IsA(node, ForeignPath) || IsA(node, CustomPath) ||
+		IsA(node, ForeignScan) || IsA(node, CustomScan);
+}
+
+/* The join, the branch or the scan at or below a node: nodes with a single one
+ * below, such as a sort, are passed. Their paths and nodes may differ. */
+static Plan *
+plan_at_branch(Plan *plan)
+{
+	List *below = children_of(plan);
+
+	while (list_length(below) == 1 && !is_made_elsewhere((Node *) plan))
+	{
+		plan = linitial(below);
+		below = children_of(plan);
+	}
+	return plan;
+}
+
+static bool
+has_numbers_of(Plan *plan, Path *path)
+{
+	return plan->startup_cost == path->startup_cost &&
+		plan->total_cost == path->total_cost && plan->plan_rows == path->rows;
+}
+
+/* The same for paths. `root` becomes that of the subquery which has the path,
+   and `same` says whether one of the paths has the node's numbers. A projection
+   that needs no node of its own gives its numbers to the node below. */
+static Path *
+path_at_branch(Path *path, PlannerInfo **root, Plan *plan, bool *same)
+{
+	List *below = paths_below(path);
+
+	*same = has_numbers_of(plan, path);
+	while (list_length(below) == 1 && !is_made_elsewhere((Node *) path))
+	{
+		if (IsA(path, SubqueryScanPath))
+			*root = path->parent->subroot;
+		path = linitial(below);
+		below = paths_below(path);
+		*same = *same || has_numbers_of(plan, path);
+	}
+	return path;
+}
+
+/* Whether both are the same kind of join, or none. */
+static bool
+is_same_join(Plan *plan, Path *path)
+{
+	switch (nodeTag(plan))
+	{
+		case T_NestLoop:
+			return IsA(path, NestPath) &&
+				((Join *) plan)->jointype == ((JoinPath *) path)->jointype;
+		case T_MergeJoin:
+			return IsA(path, MergePath) &&
+				((Join *) plan)->jointype == ((JoinPath *) path)->jointype;
+		case T_HashJoin:
+			return IsA(path, HashPath) &&
+				((Join *) plan)->jointype == ((JoinPath *) path)->jointype;
+		case T_ForeignScan:
+			return IsA(path, ForeignPath);
+		case T_CustomScan:
+			return IsA(path, CustomPath);
+		default:
+			return true;
+	}
+}
+
+static MatchedJoin *
+new_match(Plan *plan, PlannerInfo *root, RelOptInfo *rel)
+{
+	MatchedJoin *match = palloc(sizeof(MatchedJoin));
+
+	*match = (MatchedJoin){
+		plan, root, IS_OTHER_REL(rel) ? rel->top_parent_relids : rel->relids};
+	return match;
+}
+
+/* Walks both trees. Adds to `matches` the joins of the plan. False if the trees
+ * differ. */
+static bool
+match_trees(Plan *plan, Path *path, PlannerInfo *root, List **matches)
+{
+	Path *at;
+	List *plans, *paths;
+	ListCell *one, *other;
+	bool same;
+
+	check_stack_depth();
+	plan = plan_at_branch(plan);
+	at = path_at_branch(path, &root, plan, &same);
+	plans = children_of(plan);
+	paths = paths_below(at);
+	if (list_length(plans) != list_length(paths) || !is_same_join(plan, at))
+		return false;
+	if (is_join(plan) || joined_elsewhere(plan))
+	{
+		if (!same || root == NULL)
+			return false;
+		*matches = lappend(*matches, new_match(plan, root, at->parent));
+	}
+	forboth (one, plans, other, paths)
+		if (!match_trees(lfirst(one), lfirst(other), root, matches))
+			return false;
+	return true;
+}
+
+/* Matches the plan of a query, or of a subquery of its own, with the path from
+ * which it was made: one of those that make the query's whole result. */
+static void
+match_query(JoinSearch *search, Plan *plan, PlannerInfo *root)
+{
+	RelOptInfo *whole = plan && root && root->upper_rels[UPPERREL_FINAL]
+		? linitial(root->upper_rels[UPPERREL_FINAL])
+		: NULL;
+	List *matches = NIL;
+	bool found = false;
+	ListCell *cell;
+
+	foreach (cell, whole ? whole->pathlist : NIL)
+	{
+		matches = NIL;
+		found = match_trees(plan, lfirst(cell), root, &matches);
+		if (found)
+			break;
+	}
+	foreach (cell, found ? matches : NIL)
+	{
+		MatchedJoin *match = lfirst(cell);
+		bool known;
+
+		*(MatchedJoin *) hash_search(search->matched, &match->node, HASH_ENTER,
+									 &known) = *match;
+	}
 }
 
 static void
@@ -316,28 +486,59 @@ note_origins(JoinSearch *search, PlannerInfo *root)
 	}
 }
 
-/* All joins of a plan. `roots` has each PlannerInfo that made paths for it. */
+static HTAB *
+table_by_pointer(const char *name, Size entry_size)
+{
+	HASHCTL control = {.keysize = sizeof(void *),
+					   .entrysize = entry_size,
+					   .hcxt = CurrentMemoryContext};
+
+	return hash_create(name, 64, &control,
+					   HASH_ELEM | HASH_BLOBS | HASH_CONTEXT);
+}
+
+/* Notes the entries of a PlannerInfo and of those above it. Returns the topmost
+ * one if the plan was made by its call of the planner, else NULL. */
+static PlannerInfo *
+note_roots(JoinSearch *search, PlannerInfo *root)
+{
+	note_origins(search, root);
+	while (root->parent_root != NULL)
+	{
+		root = root->parent_root;
+		note_origins(search, root);
+	}
+	return root->glob->finalrtable == search->plan->rtable ? root : NULL;
+}
+
+/* All joins of a plan: those of subqueries with plans of their own, then the
+   others, each after the joins below it. `roots` has each PlannerInfo that made
+   paths for it. */
 List *
 joins_of_plan(PlannedStmt *plan, List *roots)
 {
-	HASHCTL control = {.keysize = sizeof(Alias *),
-					   .entrysize = sizeof(Origin),
-					   .hcxt = CurrentMemoryContext};
-	JoinSearch search = {plan,
-						 hash_create("safebound origins", 64, &control,
-									 HASH_ELEM | HASH_BLOBS | HASH_CONTEXT),
-						 NIL};
-	ListCell *cell;
+	JoinSearch search = {
+		plan, table_by_pointer("safebound origins", sizeof(Origin)),
+		table_by_pointer("safebound joins", sizeof(MatchedJoin)), NIL};
+	PlannerInfo *top = NULL;
+	ListCell *cell, *other;
 
 	foreach (cell, roots)
-		for (PlannerInfo *root = lfirst(cell); root != NULL;
-			 root = root->parent_root)
-			note_origins(&search, root);
-	foreach (cell, plan->subplans)
+	{
+		PlannerInfo *root = note_roots(&search, lfirst(cell));
+
+		top = root ? root : top;
+	}
+	if (top != NULL)
+	{
+		forboth (cell, plan->subplans, other, top->glob->subroots)
+			match_query(&search, lfirst(cell), lfirst(other));
+		match_query(&search, plan->planTree, top);
+	}
+	foreach (cell, lappend(list_copy(plan->subplans), plan->planTree))
 		if (lfirst(cell) != NULL)
-			scans_below(&search, lfirst(cell));
-	if (plan->planTree != NULL)
-		scans_below(&search, plan->planTree);
+			note_joins(&search, lfirst(cell));
 	hash_destroy(search.origins);
+	hash_destroy(search.matched);
 	return search.joins;
 }

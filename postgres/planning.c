@@ -278,13 +278,14 @@ on_rel_paths(PlannerInfo *root, RelOptInfo *rel, Index rti, RangeTblEntry *rte)
 }
 
 /* For a query over a single partitioned table, PostgreSQL makes the table's
-   paths once more from those of its parts. So their rows are set again. */
+   paths once more from those of its parts. So their rows are set again. At a
+   set operation there is no input. */
 static void
 on_upper_paths(PlannerInfo *root, UpperRelationKind stage, RelOptInfo *input,
 			   RelOptInfo *output, void *extra)
 {
 	BoundedQuery *query = estimates_mode != ESTIMATES_OFF && planner_call &&
-			input->reloptkind == RELOPT_BASEREL
+			input != NULL && input->reloptkind == RELOPT_BASEREL
 		? query_of(root, false)
 		: NULL;
 

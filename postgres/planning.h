@@ -97,9 +97,11 @@ typedef struct BoundedQuery
 /* joins.c */
 extern Var *var_of(Expr *expression);
 extern Entry *entry_of(BoundedQuery *query, int relid);
+extern bool is_class_equal(EquivalenceClass *class);
 extern BoundedQuery *bounded_query(PlannerInfo *root);
 extern uint64 bound_of_set(BoundedQuery *query, Relids relids);
 extern List *special_joins_within(BoundedQuery *query, Relids relids);
+extern bool any_torn(BoundedQuery *query, Relids relids);
 extern uint64 bound_of_join(BoundedQuery *query, Relids relids);
 extern const DegreeList *
 carried_list(BoundedQuery *query, CarrierReference *carried, int column);

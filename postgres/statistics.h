@@ -5,6 +5,10 @@
 
 #include "postgres.h"
 
+#if PG_VERSION_NUM < 150000 || PG_VERSION_NUM >= 160000
+#error "this version of safebound is for PostgreSQL 15 alone"
+#endif
+
 #include "lib/stringinfo.h"
 #include "nodes/pathnodes.h"
 #include "safebound.h"
@@ -57,6 +61,8 @@ typedef struct KeptPair
 	AttrNumber along;
 	Oid referred;
 	AttrNumber key;
+	Oid filter_type; /* as it was when the column was counted */
+	Oid filter_collation;
 	int length;
 	KeptList *lists;
 	int first_leaf;
@@ -110,8 +116,6 @@ extern DegreeList get_list(const char **at, const char *end);
 /* keep.c: makes the statistics of a table and stores them. */
 extern Relation open_owned(Oid relation);
 extern Oid sort_collation(Oid collation);
-extern uint64
-write_own(const char *statement, int length, Oid *types, Datum *values);
 extern int64
 keep_table(Oid relation, Bitmapset *joined, Bitmapset *filters,
 		   int most_common, int most_leaves, int accuracy, bool folding);
@@ -120,16 +124,16 @@ keep_table(Oid relation, Bitmapset *joined, Bitmapset *filters,
  * this table. The table itself is one of them. */
 extern List *tables_writing_to(Oid relation);
 
-/* admit.c: while this is true, no query is refused. */
-extern bool admission_paused;
-
 /* deltas.c: a list with the rows that came after its table was counted. Code
  * that returns a table's list passes it through this function. */
 extern DegreeList
 with_deltas(const KeptTable *table, AttrNumber joined, DegreeList list);
 
+/* use.c: checks before the extension does anything. */
+extern bool library_fits(void);
+extern void check_use(void);
+
 /* kept.c: the statistics that this backend has read, in its memory. */
-extern Oid extension_table(const char *name);
 extern const KeptTable *kept_table(Oid relation);
 extern char *why_not_known(Oid relation);
 extern const KeptPair *
@@ -139,6 +143,8 @@ kept_pair_along(const KeptTable *table, AttrNumber joined, AttrNumber filter,
 				const Reference *reference);
 extern bool
 has_pairs_along(const KeptTable *table, const Reference *reference);
+extern bool
+same_column(Oid relation, AttrNumber number, Oid type, Oid collation);
 extern bool kept_fresh_only; /* if true, only watched tables are known */
 extern void kept_hold(void);
 extern void kept_release(void);
@@ -147,6 +153,7 @@ extern void kept_init(void);
 
 /* conditions.c: lists of the rows that satisfy a relation's own conditions. */
 extern Oid equality_family(Oid relation, AttrNumber column, Oid collation);
+extern bool is_immutable(Oid operator);
 extern bool
 is_equality(Oid relation, AttrNumber column, Oid operator, Oid collation);
 extern DegreeList list_under(const KeptTable *table, RelOptInfo *rel,

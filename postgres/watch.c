@@ -1,5 +1,5 @@
-/* safebound.watch, unwatch and fold; and changes of a table that its triggers
- * don't see. */
+/* safebound.watch, unwatch and fold. */
+#include "triggers.h"
 #include "watch.h"
 
 #include "access/genam.h"
@@ -7,21 +7,14 @@
 #include "access/relation.h"
 #include "access/table.h"
 #include "access/xact.h"
+#include "catalog/namespace.h"
 #include "catalog/pg_class.h"
 #include "catalog/pg_inherits.h"
-#include "catalog/pg_trigger.h"
-#include "catalog/pg_type.h"
 #include "commands/defrem.h"
-#include "commands/event_trigger.h"
-#include "commands/trigger.h"
-#include "executor/spi.h"
 #include "miscadmin.h"
-#include "parser/parse_func.h"
 #include "storage/lmgr.h"
 #include "tcop/utility.h"
 #include "utils/acl.h"
-#include "utils/array.h"
-#include "utils/builtins.h"
 #include "utils/fmgroids.h"
 #include "utils/lsyscache.h"
 #include "utils/rel.h"
@@ -31,7 +24,6 @@
 PG_FUNCTION_INFO_V1(safebound_watch);
 PG_FUNCTION_INFO_V1(safebound_unwatch);
 PG_FUNCTION_INFO_V1(safebound_fold);
-PG_FUNCTION_INFO_V1(safebound_on_change);
 
 /* ANALYZE folds the deltas of a table that has at least this many. */
 #define MANY_DELTAS 100
@@ -84,47 +76,9 @@ applies_rows(Oid source, Oid relation)
 		(source == relation || is_part_of(source, relation));
 }
 
-/* Counts our triggers on a source: statement triggers that always fire, and
- * row triggers that fire on replicas. */
-static void
-count_triggers(Oid source, int *statements, int *rows)
-{
-	Relation opened = try_relation_open(source, AccessShareLock);
-	TriggerDesc *triggers = opened ? opened->trigdesc : NULL;
-	Oid follow = LookupFuncName(
-		list_make2(makeString("safebound"), makeString("follow")), 0, NULL,
-		true);
-
-	*statements = *rows = 0;
-	for (int i = 0; triggers && i < triggers->numtriggers; i++)
-	{
-		Trigger *trigger = &triggers->triggers[i];
-
-		if (trigger->tgfoid != follow)
-			continue;
-		if (TRIGGER_FOR_ROW(trigger->tgtype))
-			*rows += trigger->tgenabled == TRIGGER_FIRES_ON_REPLICA;
-		else
-			*statements += trigger->tgenabled == TRIGGER_FIRES_ALWAYS;
-	}
-	if (opened)
-		relation_close(opened, AccessShareLock);
-}
-
-/* Whether a source has all its triggers: three for statements, and one for
- * rows if a replica may apply them. */
-static bool
-has_triggers(Oid source, bool applies)
-{
-	int statements, rows;
-
-	count_triggers(source, &statements, &rows);
-	return statements == 3 && (rows == 1 || !applies);
-}
-
 /* Whether `followed` has all tables on which a statement may write rows of
  * this one, and each of them has its triggers. */
-static bool
+bool
 is_intact(Oid relation, List *followed)
 {
 	List *sources = tables_writing_to(relation);
@@ -192,197 +146,49 @@ begin_counting(Relation relation, bool folding, KeptRow *before,
 	forget_marks();
 }
 
-static Datum
-oid_array(List *oids)
-{
-	Datum *values = palloc(sizeof(Datum) * (list_length(oids) + 1));
-	ListCell *cell;
-
-	foreach (cell, oids)
-		values[foreach_current_index(cell)] =
-			ObjectIdGetDatum(lfirst_oid(cell));
-	return PointerGetDatum(construct_array(values, list_length(oids), OIDOID,
-										   4, true, TYPALIGN_INT));
-}
-
-/* Stores with the new statistics which columns they count, and the tables on
- * which a statement may write rows. */
-static void
-note_sources(Oid relation, List *sources)
-{
-	Oid types[] = {REGCLASSOID, OIDARRAYOID};
-	Datum values[] = {ObjectIdGetDatum(relation), oid_array(sources)};
-
-	write_own(
-		"UPDATE safebound.kept_table SET sources = nullif($2, '{}'::oid[]),"
-		" joined = ARRAY(SELECT joined FROM safebound.kept_lists WHERE "
-		"relation = $1 AND along = 0 AND filter = 0 AND joined > 0),"
-		" filters = ARRAY(SELECT filter FROM safebound.kept_lists WHERE "
-		"relation = $1 AND along = 0 AND joined = 0 AND filter > 0)"
-		" WHERE relation = $1",
-		2, types, values);
-}
-
-/* The columns of a table whose changes are followed. NULL unless the table is
- * watched and known. */
-static Bitmapset *
-followed_columns(Oid relation, KeptRow *kept_row)
-{
-	if (!find_kept_row(relation, GetActiveSnapshot(), kept_row) ||
-		kept_row->sources == NIL || has_mark(relation, GetActiveSnapshot()))
-		return NULL;
-	return bms_union(kept_row->joined, kept_row->filters);
-}
-
-/* The referred tables that have lists along a reference, as the active
-   snapshot sees them. A table is left out if changes of a column that was used
-   aren't followed. */
-static List *
-followed_references(Oid relation, uint64 rows, SPITupleTable *lists)
-{
-	List *followed = NIL;
-
-	for (uint64 at = 0; at < rows; at++)
-	{
-		bool null;
-		Oid referred = DatumGetObjectId(
-			SPI_getbinval(lists->vals[at], lists->tupdesc, 1, &null));
-		KeptRow kept_row;
-		Bitmapset *columns = followed_columns(referred, &kept_row);
-		ReferredTable *table = palloc(sizeof(ReferredTable));
-
-		if (columns == NULL ||
-			!bms_is_subset(numbers_in_array(SPI_getbinval(
-							   lists->vals[at], lists->tupdesc, 2, &null)),
-						   columns))
-			continue;
-		*table = (ReferredTable){referred, kept_row.version,
-								 count_deltas(referred, GetActiveSnapshot())};
-		followed = lappend(followed, table);
-	}
-	return followed;
-}
-
-static void
-note_references(Oid relation)
-{
-	Oid types[] = {REGCLASSOID, INT8ARRAYOID};
-	Datum values[2] = {ObjectIdGetDatum(relation)};
-	List *followed;
-	Datum *numbers;
-	ListCell *cell;
-	int length = 0;
-
-	write_own("SELECT referred, array_agg(DISTINCT filter) || "
-			  "array_agg(DISTINCT key) FROM safebound.kept_lists"
-			  " WHERE relation = $1 AND along > 0 GROUP BY referred",
-			  1, types, values);
-	followed = followed_references(relation, SPI_processed, SPI_tuptable);
-	numbers = palloc(sizeof(Datum) * 3 * (list_length(followed) + 1));
-	foreach (cell, followed)
-	{
-		ReferredTable *table = lfirst(cell);
-
-		numbers[length++] = Int64GetDatum(table->relation);
-		numbers[length++] = Int64GetDatum(table->version);
-		numbers[length++] = Int64GetDatum(table->deltas);
-	}
-	values[1] = PointerGetDatum(construct_array(
-		numbers, length, INT8OID, 8, FLOAT8PASSBYVAL, TYPALIGN_DOUBLE));
-	write_own(
-		"UPDATE safebound.kept_table SET referred = $2 WHERE relation = $1", 2,
-		types, values);
-}
-
 void
-end_counting(const KeptRow *before, bool was_followed)
+end_counting(const TableCounting *table_count, const KeptRow *before,
+			 bool was_followed)
 {
-	note_references(before->relation);
+	save_kept(table_count,
+			  was_followed && is_intact(before->relation, before->sources)
+				  ? before->sources
+				  : NIL);
 	PopActiveSnapshot();
-	note_sources(before->relation,
-				 was_followed && is_intact(before->relation, before->sources)
-					 ? before->sources
-					 : NIL);
 }
 
+/* Gives a source its triggers. Writers of the table and of its parts are
+   waited for. A table above has another owner, perhaps: it isn't locked where
+   it has its triggers already. */
 static void
-execute(const char *format, const char *table)
+follow_source(Oid source, Oid relation)
 {
-	char *statement = psprintf(format, table);
+	bool applies = applies_rows(source, relation);
 
-	if (SPI_execute(statement, false, 0) < 0)
-		elog(ERROR, "can't be executed: %s", statement);
-}
-
-static char *
-quoted_name(Oid relation)
-{
-	return quote_qualified_identifier(
-		get_namespace_name(get_rel_namespace(relation)),
-		get_rel_name(relation));
-}
-
-static void
-make_statement_triggers(const char *name)
-{
-	execute(
-		"CREATE OR REPLACE TRIGGER safebound_begin BEFORE INSERT OR UPDATE ON "
-		"%s FOR EACH STATEMENT EXECUTE FUNCTION safebound.follow()",
-		name);
-	execute("CREATE OR REPLACE TRIGGER safebound_insert AFTER INSERT ON %s "
-			"REFERENCING NEW TABLE AS new_rows FOR EACH STATEMENT EXECUTE "
-			"FUNCTION safebound.follow()",
-			name);
-	execute("CREATE OR REPLACE TRIGGER safebound_update AFTER UPDATE ON %s "
-			"REFERENCING OLD TABLE AS old_rows NEW TABLE AS new_rows FOR EACH "
-			"STATEMENT EXECUTE FUNCTION safebound.follow()",
-			name);
-	execute(
-		"ALTER TABLE %s ENABLE ALWAYS TRIGGER safebound_begin, ENABLE ALWAYS "
-		"TRIGGER safebound_insert, ENABLE ALWAYS TRIGGER safebound_update",
-		name);
-}
-
-/* Makes the triggers of a source, and waits for all who are writing to it.
-   Existing triggers stay: tables below need them, and would count as unknown
-   if the triggers were made again. */
-static void
-make_triggers(Oid source, bool applies)
-{
-	char *name = quoted_name(source);
-	int statements, rows;
-
-	LockRelationOid(source, ShareRowExclusiveLock);
-	count_triggers(source, &statements, &rows);
-	if (statements != 3)
-		make_statement_triggers(name);
-	if (!applies || rows == 1)
+	if (source == relation || is_part_of(source, relation))
+		LockRelationOid(source, ShareRowExclusiveLock);
+	if (has_triggers(source, applies))
 		return;
-	execute("CREATE OR REPLACE TRIGGER safebound_applied AFTER INSERT OR "
-			"UPDATE ON %s FOR EACH ROW EXECUTE FUNCTION safebound.follow()",
-			name);
-	execute("ALTER TABLE %s ENABLE REPLICA TRIGGER safebound_applied", name);
+	if (!pg_class_ownercheck(source, GetUserId()))
+		aclcheck_error(ACLCHECK_NOT_OWNER, OBJECT_TABLE, get_rel_name(source));
+	make_triggers(source, applies);
 }
 
 /* Drops the triggers on a source of a table that isn't watched any more,
  * unless another table needs them. */
 static void
-drop_triggers(Oid source)
+leave_source(Oid source)
 {
-	char *name = quoted_name(source);
+	List *followers = followers_of(source);
 	bool applies = false;
 	ListCell *cell;
 
-	foreach (cell, followers_of(source))
+	if (!pg_class_ownercheck(source, GetUserId()))
+		return;
+	foreach (cell, followers)
 		applies = applies ||
 			applies_rows(source, ((KeptRow *) lfirst(cell))->relation);
-	if (!applies && get_rel_relkind(source) == RELKIND_RELATION)
-		execute("DROP TRIGGER IF EXISTS safebound_applied ON %s", name);
-	if (followers_of(source) != NIL)
-		return;
-	execute("DROP TRIGGER IF EXISTS safebound_begin ON %s", name);
-	execute("DROP TRIGGER IF EXISTS safebound_insert ON %s", name);
-	execute("DROP TRIGGER IF EXISTS safebound_update ON %s", name);
+	drop_triggers(source, !applies, followers == NIL);
 }
 
 /* Counts a table again. If it has statistics, the same columns are counted. */
@@ -427,16 +233,17 @@ Datum
 safebound_watch(PG_FUNCTION_ARGS)
 {
 	Oid relation = PG_GETARG_OID(0);
-	bool triggers = may_have_triggers(relation);
-	List *sources = tables_writing_to(relation);
+	bool triggers;
+	List *sources;
 	int64 lists;
 	ListCell *cell;
 
+	check_use();
+	triggers = may_have_triggers(relation);
+	sources = tables_writing_to(relation);
 	refuse_old_snapshot();
-	SPI_connect();
 	foreach (cell, triggers ? sources : NIL)
-		make_triggers(lfirst_oid(cell),
-					  applies_rows(lfirst_oid(cell), relation));
+		follow_source(lfirst_oid(cell), relation);
 	LockRelationOid(relation, ShareRowExclusiveLock);
 	CommandCounterIncrement();
 	lists = keep_again(relation, false);
@@ -446,7 +253,6 @@ safebound_watch(PG_FUNCTION_ARGS)
 				 errmsg("what \"%s\" inherits from changed meanwhile",
 						get_rel_name(relation))));
 	note_sources(relation, sources);
-	SPI_finish();
 	PG_RETURN_INT64(lists);
 }
 
@@ -456,20 +262,20 @@ Datum
 safebound_unwatch(PG_FUNCTION_ARGS)
 {
 	Oid relation = PG_GETARG_OID(0);
-	bool triggers = may_have_triggers(relation);
+	bool triggers, were;
 	KeptRow kept_row = {0};
-	bool were =
-		find_kept_row(relation, NULL, &kept_row) && kept_row.sources != NIL;
 	ListCell *cell;
 
-	SPI_connect();
+	check_use();
+	triggers = may_have_triggers(relation);
+	LockRelationOid(relation, ShareUpdateExclusiveLock);
+	were = find_kept_row(relation, NULL, &kept_row) && kept_row.sources != NIL;
 	if (were)
 		note_sources(relation, NIL);
 	foreach (cell, triggers ? tables_writing_to(relation) : NIL)
 		if (lfirst_oid(cell) == relation ||
 			is_part_of(lfirst_oid(cell), relation))
-			drop_triggers(lfirst_oid(cell));
-	SPI_finish();
+			leave_source(lfirst_oid(cell));
 	PG_RETURN_BOOL(were);
 }
 
@@ -479,6 +285,7 @@ safebound_fold(PG_FUNCTION_ARGS)
 	Oid relation = PG_GETARG_OID(0);
 	KeptRow kept_row;
 
+	check_use();
 	if (!find_kept_row(relation, NULL, &kept_row))
 		ereport(ERROR,
 				(errcode(ERRCODE_OBJECT_NOT_IN_PREREQUISITE_STATE),
@@ -487,25 +294,28 @@ safebound_fold(PG_FUNCTION_ARGS)
 	PG_RETURN_INT64(keep_again(relation, true));
 }
 
-/* Folds after ANALYZE: the tables that it names, or without names all tables
- * that the user owns. */
+/* Folds a table if it has many deltas and the user owns it. */
+static void
+fold_if_many(Oid relation)
+{
+	KeptRow kept_row;
+
+	if (find_kept_row(relation, NULL, &kept_row) && kept_row.sources != NIL &&
+		SearchSysCacheExists1(RELOID, ObjectIdGetDatum(relation)) &&
+		pg_class_ownercheck(relation, GetUserId()) &&
+		count_deltas(relation, NULL) >= MANY_DELTAS)
+		keep_again(relation, true);
+}
+
+/* Folds after ANALYZE: the tables that it names, or without names all. */
 static void
 fold_full(List *named)
 {
+	List *tables = named == NIL ? all_kept() : named;
 	ListCell *cell;
 
-	foreach (cell, followers_of(InvalidOid))
-	{
-		KeptRow *kept_row = lfirst(cell);
-
-		if (kept_row->sources != NIL &&
-			(named == NIL || list_member_oid(named, kept_row->relation)) &&
-			SearchSysCacheExists1(RELOID,
-								  ObjectIdGetDatum(kept_row->relation)) &&
-			pg_class_ownercheck(kept_row->relation, GetUserId()) &&
-			count_deltas(kept_row->relation, NULL) >= MANY_DELTAS)
-			keep_again(kept_row->relation, true);
-	}
+	foreach (cell, tables)
+		fold_if_many(lfirst_oid(cell));
 }
 
 static bool
@@ -558,114 +368,12 @@ on_utility(PlannedStmt *statement, const char *text, bool read_only,
 		standard_ProcessUtility(statement, text, read_only, context,
 								parameters, environment, destination,
 								completion);
-	if (folds && OidIsValid(extension_table("kept_delta")))
+	if (folds && extension_presence() == PRESENT)
 	{
 		PushActiveSnapshot(GetTransactionSnapshot());
 		fold_full(named);
 		PopActiveSnapshot();
 	}
-}
-
-/* Marks a table that isn't followed completely any more. An existing mark is
- * enough, unless somebody is about to delete it. */
-static void
-mark_broken(Oid relation)
-{
-	if (!has_mark(relation, NULL) ||
-		!ConditionalLockRelationOid(relation, ShareUpdateExclusiveLock))
-		mark_not_counted(relation);
-}
-
-static void
-forget_dropped(Oid relation)
-{
-	Oid types[] = {REGCLASSOID};
-	Datum values[] = {ObjectIdGetDatum(relation)};
-
-	write_own("DELETE FROM safebound.kept_lists WHERE relation = $1", 1, types,
-			  values);
-	write_own("DELETE FROM safebound.kept_delta WHERE relation = $1", 1, types,
-			  values);
-	write_own("DELETE FROM safebound.kept_table WHERE relation = $1", 1, types,
-			  values);
-}
-
-static void
-check_all(void)
-{
-	ListCell *cell;
-
-	foreach (cell, followers_of(InvalidOid))
-	{
-		KeptRow *kept_row = lfirst(cell);
-
-		if (!SearchSysCacheExists1(RELOID,
-								   ObjectIdGetDatum(kept_row->relation)))
-			forget_dropped(kept_row->relation);
-		else if (kept_row->sources != NIL &&
-				 !is_intact(kept_row->relation, kept_row->sources))
-			mark_broken(kept_row->relation);
-	}
-}
-
-/* Marks each refreshed materialized view, since its rows have changed. */
-static void
-mark_refreshed(void)
-{
-	if (SPI_execute(
-			"SELECT objid FROM pg_catalog.pg_event_trigger_ddl_commands()",
-			false, 0) < 0)
-		elog(ERROR, "can't read what was refreshed");
-	for (uint64 i = 0; i < SPI_processed; i++)
-	{
-		bool null;
-		Oid relation = DatumGetObjectId(SPI_getbinval(
-			SPI_tuptable->vals[i], SPI_tuptable->tupdesc, 1, &null));
-		KeptRow kept_row;
-
-		if (find_kept_row(relation, NULL, &kept_row))
-			mark_not_counted(relation);
-	}
-}
-
-/* Marks the table whose rows ALTER TABLE rewrites, perhaps with other values.
- */
-static void
-mark_rewritten(void)
-{
-	Oid relation = DatumGetObjectId(
-		OidFunctionCall0(F_PG_EVENT_TRIGGER_TABLE_REWRITE_OID));
-	KeptRow kept_row;
-	ListCell *cell;
-
-	if (find_kept_row(relation, NULL, &kept_row))
-		mark_not_counted(relation);
-	foreach (cell, followers_of(relation))
-		if (is_part_of(relation, ((KeptRow *) lfirst(cell))->relation))
-			mark_not_counted(((KeptRow *) lfirst(cell))->relation);
-}
-
-Datum
-safebound_on_change(PG_FUNCTION_ARGS)
-{
-	EventTriggerData *event = (EventTriggerData *) fcinfo->context;
-
-	if (!CALLED_AS_EVENT_TRIGGER(fcinfo))
-		ereport(
-			ERROR,
-			(errcode(ERRCODE_E_R_I_E_EVENT_TRIGGER_PROTOCOL_VIOLATED),
-			 errmsg("safebound.on_change is called by event triggers alone")));
-	if (!OidIsValid(extension_table("kept_delta")))
-		return PointerGetDatum(NULL);
-	SPI_connect();
-	if (strcmp(event->event, "table_rewrite") == 0)
-		mark_rewritten();
-	else if (event->tag == CMDTAG_REFRESH_MATERIALIZED_VIEW)
-		mark_refreshed();
-	else
-		check_all();
-	SPI_finish();
-	return PointerGetDatum(NULL);
 }
 
 void

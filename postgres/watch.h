@@ -2,35 +2,12 @@
 #ifndef SAFEBOUND_WATCH_H
 #define SAFEBOUND_WATCH_H
 
+#include "counting.h"
+#include "own_tables.h"
 #include "statistics.h"
 
 #include "utils/relcache.h"
 #include "utils/snapshot.h"
-
-/* The columns of safebound.kept_table and of safebound.kept_delta. */
-enum
-{
-	TABLE_RELATION = 1,
-	TABLE_ROWS,
-	TABLE_ACCURACY,
-	TABLE_COMMON,
-	TABLE_RANGES,
-	TABLE_MADE,
-	TABLE_VERSION,
-	TABLE_SOURCES,
-	TABLE_JOINED,
-	TABLE_FILTERS,
-	TABLE_REFERRED,
-	TABLE_COLUMNS = TABLE_REFERRED
-};
-
-enum
-{
-	DELTA_RELATION = 1,
-	DELTA_ID,
-	DELTA_ROWS,
-	DELTA_LISTS
-};
 
 /* The value of DELTA_ROWS if rows came or changed without being counted. */
 #define NOT_COUNTED (-1)
@@ -79,16 +56,24 @@ extern Deltas *
 find_deltas(const KeptRow *kept_row, Snapshot snapshot, Deltas *known);
 extern void write_delta(Oid relation, int64 rows, StringInfo lists);
 extern void delete_deltas(Oid relation, Snapshot snapshot);
+extern List *all_kept(void);
 extern List *followers_of(Oid source);
 
 extern bool has_mark(Oid relation, Snapshot snapshot);
 extern int64 count_deltas(Oid relation, Snapshot snapshot);
 extern List *unchanged_references(const KeptRow *kept_row, Snapshot snapshot);
 
+/* kept_rows.c: what is stored of a table beside its lists. */
+extern bool forget_kept(Oid relation);
+extern void save_kept(const TableCounting *table_count, List *sources);
+extern void note_sources(Oid relation, List *sources);
+
 /* watch.c */
+extern bool is_intact(Oid relation, List *followed);
 extern void begin_counting(Relation relation, bool folding, KeptRow *before,
 						   bool *was_followed);
-extern void end_counting(const KeptRow *before, bool was_followed);
+extern void end_counting(const TableCounting *table_count,
+						 const KeptRow *before, bool was_followed);
 extern void watch_init(void);
 
 /* followed.c: the triggers */

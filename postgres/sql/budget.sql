@@ -93,7 +93,7 @@ SELECT count(*) FROM r JOIN unknown USING (x);
 SELECT count(*) FROM r JOIN generate_series(1, 9) AS x USING (x);
 RESET safebound.unbounded;
 -- Queries over the system's own tables alone are always admitted.
-SELECT count(*) > 0 AS some FROM pg_class JOIN pg_namespace n ON n.oid = relnamespace, generate_series(1, 2);
+SELECT count(*) > 0 AS some FROM pg_class JOIN pg_namespace n ON n.oid = relnamespace;
 \d unknown
 SELECT "table", rows FROM safebound.kept WHERE "table" IN ('r'::regclass, 's'::regclass) ORDER BY rows;
 -- Only a superuser changes the budget.

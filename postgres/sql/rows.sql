@@ -111,20 +111,23 @@ RESET safebound.budget;
 SELECT known('r'), deltas('r');
 
 -- What no trigger sees makes the table unknown until it is watched anew. So does a trigger that is disabled, even if it is enabled again.
-ALTER TABLE r DISABLE TRIGGER safebound_insert;
+SELECT tgname AS ours FROM pg_trigger WHERE tgrelid = 'r'::regclass AND tgname LIKE 'safebound_insert%' \gset
+ALTER TABLE r DISABLE TRIGGER :"ours";
 SELECT known('r');
 SET safebound.budget = 1000000;
 SELECT count(*) FROM r JOIN s USING (x);
 RESET safebound.budget;
-ALTER TABLE r ENABLE ALWAYS TRIGGER safebound_insert;
+ALTER TABLE r ENABLE ALWAYS TRIGGER :"ours";
 SELECT known('r');
 SELECT safebound.watch('r') > 0 AS watched, known('r');
-ALTER TABLE r ENABLE TRIGGER safebound_insert;
+SELECT tgname AS ours FROM pg_trigger WHERE tgrelid = 'r'::regclass AND tgname LIKE 'safebound_insert%' \gset
+ALTER TABLE r ENABLE TRIGGER :"ours";
 SELECT known('r');
 -- If the table is counted anew without its triggers, it isn't watched.
 SELECT safebound.keep('r') > 0 AS kept, known('r');
 SELECT safebound.watch('r') > 0 AS watched, known('r');
-DROP TRIGGER safebound_update ON r;
+SELECT tgname AS ours FROM pg_trigger WHERE tgrelid = 'r'::regclass AND tgname LIKE 'safebound_update%' \gset
+DROP TRIGGER :"ours" ON r;
 SELECT known('r'), safebound.watch('r') > 0 AS watched, known('r');
 -- ALTER TABLE writes rows anew, with the same type or with another one.
 ALTER TABLE r ALTER x TYPE integer USING x % 2;

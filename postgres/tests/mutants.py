@@ -111,18 +111,23 @@ EDITS = [
     Edit("a table is known while a statement writes to it", "kept.c",
          [(" || is_being_written(&kept_row)", "")], "rows"),
     Edit("a table with a mark is known", "kept.c", [("table->deltas && table->deltas->not_counted", "false")], "rows"),
-    Edit("a table whose triggers were dropped is known", "watch.c",
-         [("return statements == 3 && (rows == 1 || !applies)", "return true")], "rows"),
-    Edit("triggers of a table above are made anew when it is watched itself", "watch.c",
-         [("\tif (statements != 3)", "\tif (statements != 3 || (applies && rows != 1))")], "rows"),
+    Edit("a table whose triggers were dropped is known", "triggers.c",
+         [("(OidIsValid(found[TRIGGER_APPLIED]) || !applies)", "true"),
+          ("\treturn OidIsValid(found[TRIGGER_BEGINS]) &&\n\t\tOidIsValid(found[TRIGGER_INSERTED]) &&"
+           "\n\t\tOidIsValid(found[TRIGGER_UPDATED]) &&", "\treturn")], "rows"),
     Edit("unwatching a table above drops triggers that tables below need", "watch.c",
-         [("\tif (followers_of(source) != NIL)", "\tif (false)")], "rows"),
+         [("drop_triggers(source, !applies, followers == NIL)", "drop_triggers(source, !applies, true)")], "rows"),
     Edit("statements on tables above bring no rows", "watch.c",
          [("list_append_unique_oid(sources, ((Form_pg_inherits) GETSTRUCT(tuple))->inhparent)", "sources")], "rows"),
-    Edit("a table is known after its rows were rewritten", "watch.c", [("\t\tmark_rewritten();", "\t\t;")], "rows"),
-    Edit("a materialized view is known after a refresh", "watch.c", [("\t\tmark_refreshed();", "\t\t;")], "rows"),
-    Edit("statistics outlive a table that was dropped", "watch.c",
-         [("\t\t\tforget_dropped(kept_row->relation);", "\t\t\tcontinue;")], "rows"),
+    Edit("a table is known after its rows were rewritten", "changes.c", [("\t\tmark_rewritten();", "\t\t;")], "rows"),
+    Edit("a materialized view is known after a refresh", "changes.c",
+         [("tag == CMDTAG_REFRESH_MATERIALIZED_VIEW && is_watched(object)", "false")], "rows"),
+    Edit("statistics outlive a table that was dropped", "changes.c",
+         [("\tforget_dropped(object);", "")], "rows"),
+    Edit("a table is known after ALTER TABLE disabled a trigger", "changes.c",
+         [("\tcheck_around(object);\n\tif (!null", "\tif (!null")], "rows"),
+    Edit("a table is known after one of its triggers was dropped", "changes.c",
+         [("\tif (class == TriggerRelationId && !null)", "\tif (false)")], "rows"),
     Edit("deltas of a referred table aren't looked at", "deltas.c",
          [("count_deltas(then->relation, snapshot) == then->deltas", "true")], "rows"),
     Edit("a referred table may have been counted anew", "deltas.c", [("now.version == then->version", "true")], "rows"),
@@ -141,12 +146,11 @@ EDITS = [
     Edit("deltas stay when they are counted", "watch.c",
          [("\tdelete_deltas(id, GetActiveSnapshot());", "")], "counting"),
     Edit("a plan is checked when it is made, and not when it runs", "admit.c",
-         [("\tif (joins != NIL)\n\t\tput_bound_data(plan, joins);",
-           "\tif (joins != NIL)\n\t\tput_bound_data(plan, joins);\n\tcheck_plan(plan, parameters);"),
+         [("put_bound_data(plan, joins_of_plan(plan, mine.roots));",
+           "put_bound_data(plan, joins_of_plan(plan, mine.roots));\n\tcheck_plan(plan, parameters);"),
           ("static void\non_budget",
            "static void check_plan(PlannedStmt *plan, ParamListInfo parameters);\n\nstatic void\non_budget"),
-          ("if (budget > 0 && !admission_paused && !(flags",
-           "if (false && !admission_paused && !(flags"),
+          ("if (budget > 0 && !exempt && !(flags", "if (false && !exempt && !(flags"),
           ("static void\nadmit(",
            "__attribute__((unused)) static void\nadmit(")], "admission"),
     Edit("a plan is bounded in the snapshot of another statement", "admit.c",
@@ -159,16 +163,45 @@ EDITS = [
     Edit("cached plans aren't made anew when a budget is set", "admit.c",
          [("\t\tResetPlanCache();", "\t\t;")], "budget"),
     Edit("joins of subqueries aren't checked", "plan_joins.c",
-         [("\t\tif (lfirst(cell) != NULL)\n\t\t\tscans_below", "\t\tif (false)\n\t\t\tscans_below")], "budget"),
-    Edit("rows that no scan makes aren't noticed", "plan_joins.c",
-         [("return (Scans) {NULL, is_empty(plan)}", "return (Scans) {NULL, true}")], "budget"),
+         [("lappend(list_copy(plan->subplans), plan->planTree)", "list_make1(plan->planTree)")], "budget"),
+    Edit("the input of a set operation is read without a look", "planning.c", [("input != NULL && ", "")], "promise"),
+    Edit("rights are checked after the bound", "admit.c",
+         [("\tExecCheckRTPerms(plan->rtable, true);", "")], "promise"),
+    Edit("a stable operator counts", "conditions.c",
+         [("op_volatile(operator) == PROVOLATILE_IMMUTABLE", "true")], "promise"),
+    Edit("equalities of a class count though their operators are stable", "joins.c",
+         [("OidIsValid(equality) && !is_immutable(equality)", "false")], "promise"),
+    Edit("the relations of an empty side are lost", "plan_joins.c",
+         [("join->relids = match->relids;",
+           "for (int i = -1; (i = bms_next_member(scans, i)) >= 0;)\n\t\tjoin->relids = bms_add_member("
+           "join->relids, relid_in(match->root, origin_of(search, i)));")], "promise"),
+    Edit("a join that isn't matched has the least bound", "bound_data.c", [("unknown_joins++;", ";")], "promise"),
+    Edit("a plan without bounds is admitted", "admit.c",
+         [("bound_data == NIL ? !has_joins(plan) : is_exempt_data(bound_data)",
+           "bound_data == NIL || is_exempt_data(bound_data)")], "promise"),
+    Edit("a parallel worker's joins aren't checked", "exempt.c",
+         [("IsParallelWorker() && query->dest && query->dest->mydest == DestTupleQueue", "IsParallelWorker()")],
+         "promise"),
+    Edit("a parallel worker counts what its leader is writing", "admit.c",
+         [("TransactionIdIsValid(GetTopTransactionIdIfAny())", "false")], "promise"),
+    Edit("functions beside a catalog are admitted", "exempt.c",
+         [("return !is_in_system_view(search) && !all_of_catalog(entry, search);", "return false;"),
+          ("((FuncExpr *) node)->funcretset &&", "false &&")], "promise"),
+    Edit("the mark of a foreign key's check outlives its error", "exempt.c",
+         [("static void\non_subtransaction_end(SubXactEvent event, SubTransactionId mine, SubTransactionId parent, "
+           "void *argument)\n{\n\tforget_checked_key();",
+           "static void\non_subtransaction_end(SubXactEvent event, SubTransactionId mine, SubTransactionId parent, "
+           "void *argument)\n{\n")], "promise"),
+    Edit("what runs within a refresh is taken for its comparison", "exempt.c",
+         [("asking->running == 0 && ", "")], "promise"),
     Edit("a partitioned table is known after a part was attached", "kept.c",
          [(" || !same_parts(&kept_row)", "")], "parts"),
     Edit("statements on parts bring no rows", "watch.c",
          [("sources = list_concat_unique_oid(sources, parts);", "list_free(parts);")], "partitions"),
     Edit("replicas apply rows to the whole alone", "watch.c",
-         [("(source == relation || is_part_of(source, relation))", "source == relation")], "partitions"),
-    Edit("a partitioned table is known after a part's rows were rewritten", "watch.c",
+         [("RELKIND_RELATION && (source == relation || is_part_of(source, relation))",
+           "RELKIND_RELATION && source == relation")], "partitions"),
+    Edit("a partitioned table is known after a part's rows were rewritten", "changes.c",
          [("if (is_part_of(relation, ((KeptRow *) lfirst(cell))->relation))", "if (false)")], "partitions"),
     Edit("new rows of a part are read by the whole's column numbers", "followed.c",
          [("new->written == new->kept_row->relation ? number : name ?", "true ? number : name ?")], "partitions"),
@@ -179,6 +212,39 @@ EDITS = [
          [("set_path_rows(path, path->param_info ? path->param_info->ppi_rows : rel->rows);", ";")], "partitions"),
     Edit("numbers of distinct values of a partitioned table are PostgreSQL's", "expected.c",
          [("BoolGetDatum(asked->inh)", "BoolGetDatum(false)")], "partitions"),
+    Edit("a count has the rights of whoever calls", "owner.c",
+         [("SetUserIdAndSecContext(owner,", "SetUserIdAndSecContext(caller.user,")], "hostile_roles"),
+    Edit("a count leaves its search_path to the session", "owner.c",
+         [("AtEOXact_GUC(false, caller->level)", "AtEOXact_GUC(true, caller->level)"),
+          ("GUC_ACTION_SAVE", "GUC_ACTION_SET")], "hostile_roles"),
+    Edit("a trigger's function doesn't ask who calls", "followed.c",
+         [("\tif (kind == TRIGGER_OTHER)", "\tif (false)")], "hostile_roles"),
+    Edit("a trigger without its rows is one of ours", "triggers.c",
+         [("definitions[kind].new_rows == new_rows", "true")], "hostile_roles"),
+    Edit("a trigger that is disabled is one of ours", "triggers.c",
+         [("form->tgenabled == definitions[kind].enabled", "true")], "hostile_roles"),
+    Edit("any role makes triggers of the extension's function", "safebound--0.4.0.sql",
+         [("REVOKE EXECUTE ON FUNCTION safebound.follow(), safebound.on_change() FROM PUBLIC;", "")], "hostile_roles"),
+    Edit("tables in a schema of that name are the extension's", "own_tables.c",
+         [("\t\tif (OidIsValid(relation) && identity.tables[i] == relation)",
+           "\t\tif (get_rel_namespace(relation) == get_namespace_oid(EXTENSION, true))"),
+          ("extension_presence() != ABSENT && i < OWN_LENGTH", "i < OWN_LENGTH"),
+          ('#include "catalog/indexing.h"', '#include "catalog/indexing.h"\n#include "catalog/namespace.h"')],
+         "hostile_roles"),
+    Edit("the extension's tables are found by the name of their schema", "own_tables.c",
+         [("Oid extension = get_extension_oid(EXTENSION, true);",
+           "Oid extension = get_namespace_oid(EXTENSION, true);"),
+          ("\t\t\tfind_members(extension, &found);",
+           "\t\t\tfor (int i = 0; i < OWN_LENGTH; i++)\n\t\t\t\tfound.tables[i] = "
+           "get_relname_relid(definitions[i].name, extension);\n\t\t\tfound.follow = 1;"),
+          ("library_fits() ? presence_of(&found) : DIFFERENT", "presence_of(&found)"),
+          ('#include "catalog/indexing.h"', '#include "catalog/indexing.h"\n#include "catalog/namespace.h"')],
+         "hostile_roles"),
+    Edit("columns of the extension's tables aren't looked at", "own_tables.c",
+         [("\tif (own->rd_rel->relkind != definition->kind ||\n\t\tdesc->natts != definition->columns)"
+           "\n\t\treturn false;", "\tif (desc->natts >= 0)\n\t\treturn true;")], "hostile_roles"),
+    Edit("a type's arrays and domains keep their values", "changes.c",
+         [("\tif (dependent->classid == TypeRelationId)", "\tif (false)")], "hostile_roles"),
     Edit("any user changes the budget", "admit.c", [("INT_MAX, PGC_SUSET", "INT_MAX, PGC_USERSET")], "budget"),
 ]
 
@@ -200,6 +266,9 @@ def apply(edit: Edit, folder: Path) -> None:
 
 def passes(folder: Path, test: str) -> bool:
     """Whether one test of the folder passes, on a new server with the extension that was built there."""
+    if (folder / "tests" / f"{test}.py").exists():
+        command = [sys.executable, "-B", str(folder / "tests" / f"{test}.py")]
+        return subprocess.run(command, capture_output=True).returncode == 0
     kind = "ISOLATION" if (folder / "specs" / f"{test}.spec").exists() else "REGRESS"
     other = {"ISOLATION": "REGRESS", "REGRESS": "ISOLATION"}[kind]
     with TemporaryServer(SETTINGS) as server:
@@ -222,7 +291,7 @@ def main() -> int:
     with tempfile.TemporaryDirectory(prefix="safebound-wrong-") as root:
         os.chmod(root, 0o755)
         os.environ["PATH"] = copy_server(root) + os.pathsep + os.environ["PATH"]
-        for name in ("include", "dist", "library", "python", "tools"):
+        for name in ("include", "dist", "library", "python", "tools", "engines"):
             os.symlink(ROOT / name, Path(root) / name)
         built, folder = Path(root) / "built", Path(root) / "postgres"
         shutil.copytree(HERE.parent, built)

@@ -173,7 +173,7 @@ class Restored(Connected):
         """Statistics aren't dumped. A restored table is unknown, accepts rows, and can be watched again."""
         words = [os.path.join(programs() or "", "pg_dump"), server.url]
         dump = subprocess.run(words, check=True, capture_output=True, text=True).stdout
-        self.assertIn("safebound_insert", dump)
+        self.assertNotIn("safebound_insert", dump)
         self.owner.execute("CREATE DATABASE restored")
         self.addCleanup(self.owner.execute, "DROP DATABASE restored")
         restored = server.url.replace("/postgres?", "/restored?")

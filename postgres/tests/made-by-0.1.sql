@@ -1,0 +1,30 @@
+-- Tables with what version 0.1 wrote for keep('kinds', common => 3, ranges => 2), for keep('things', '{kind}', '{weight}', common => 3, ranges => 2)
+-- and watch('things'), and for one row that came later.
+CREATE EXTENSION safebound VERSION '0.1';
+CREATE TABLE kinds (id integer PRIMARY KEY, kind text);
+INSERT INTO kinds VALUES (1, 'rare'), (2, 'usual'), (3, 'usual');
+CREATE TABLE things (kind integer REFERENCES kinds, weight integer);
+INSERT INTO things SELECT 2 + i % 2, i % 5 FROM generate_series(1, 50) AS i;
+INSERT INTO things VALUES (1, 7), (3, 7), (2, 7);
+INSERT INTO safebound.kept_table VALUES ('kinds', '3', '8', '3', '2', '2026-12-01 15:12:02.593217+00', '4', NULL, '{1,2}', '{1,2}', '{}');
+INSERT INTO safebound.kept_table VALUES ('things', '52', '8', '3', '2', '2026-12-01 15:12:02.749219+00', '6', ARRAY['things'::regclass::oid], '{1}', '{2}', '{}');
+INSERT INTO safebound.kept_lists VALUES ('kinds', '0', '0', '0', '0', '0', '-', '-', '0', '0', '\x770300');
+INSERT INTO safebound.kept_lists VALUES ('kinds', '0', '1', '0', '0', '0', '-', 'integer', '0', '0', '\x6e00007604010000000000000001007604020000000000000001007604030000000000000001006f00006101006c04020000000000000002006c04030000000000000001006d0300');
+INSERT INTO safebound.kept_lists VALUES ('kinds', '0', '2', '0', '0', '0', '-', 'text', '0', '100', '\x6e000076050b72617265010076060d757375616c02006f0000610200');
+INSERT INTO safebound.kept_lists VALUES ('kinds', '1', '0', '0', '0', '0', 'integer', '-', '0', '0', '\x7703010103');
+INSERT INTO safebound.kept_lists VALUES ('kinds', '1', '1', '0', '0', '0', 'integer', 'integer', '0', '0', '\x6e00007604010000000000000001010101760402000000000000000101010176040300000000000000010101016f000061010101016c040200000000000000020101026c040300000000000000010101016d03010103');
+INSERT INTO safebound.kept_lists VALUES ('kinds', '1', '2', '0', '0', '0', 'integer', 'text', '0', '100', '\x6e000076050b726172650101010176060d757375616c020101026f00006102010102');
+INSERT INTO safebound.kept_lists VALUES ('kinds', '2', '0', '0', '0', '0', 'text', '-', '100', '0', '\x77030202010101');
+INSERT INTO safebound.kept_lists VALUES ('kinds', '2', '1', '0', '0', '0', 'text', 'integer', '100', '0', '\x6e00007604010000000000000001010101760402000000000000000101010176040300000000000000010101016f000061010101016c040200000000000000020101026c040300000000000000010101016d030202010101');
+INSERT INTO safebound.kept_lists VALUES ('kinds', '2', '2', '0', '0', '0', 'text', 'text', '100', '100', '\x6e000076050b726172650101010176060d757375616c020102016f00006102010201');
+INSERT INTO safebound.kept_lists VALUES ('things', '0', '0', '0', '0', '0', '-', '-', '0', '0', '\x773400');
+INSERT INTO safebound.kept_lists VALUES ('things', '0', '2', '0', '0', '0', '-', 'integer', '0', '0', '\x6e0000760400000000000000000a00760401000000000000000a00760402000000000000000a006f0a00610a006c0402000000000000001e006c04070000000000000016006d3400');
+INSERT INTO safebound.kept_lists VALUES ('things', '0', '2', '1', 'kinds'::regclass, '1', '-', 'text', '0', '100', '\x6e000076050b72617265010076060d757375616c33006f0000613300');
+INSERT INTO safebound.kept_lists VALUES ('things', '1', '0', '0', '0', '0', 'integer', '-', '0', '0', '\x7734011a02');
+INSERT INTO safebound.kept_lists VALUES ('things', '1', '2', '0', '0', '0', 'integer', 'integer', '0', '0', '\x6e0000760400000000000000000a010502760401000000000000000a010502760402000000000000000a0105026f0a010502610a0105026c0402000000000000001e010f026c04070000000000000016010b026d34011a02');
+INSERT INTO safebound.kept_lists VALUES ('things', '1', '2', '1', 'kinds'::regclass, '1', 'integer', 'text', '0', '100', '\x6e000076050b726172650101010176060d757375616c33021a0119016f00006133021a011901');
+INSERT INTO safebound.kept_delta VALUES ('things'::regclass, '7', '1', '\x0101010101');
+CREATE TRIGGER safebound_begin BEFORE INSERT OR UPDATE ON public.things FOR EACH STATEMENT EXECUTE FUNCTION safebound.follow();
+CREATE TRIGGER safebound_insert AFTER INSERT ON public.things REFERENCING NEW TABLE AS new_rows FOR EACH STATEMENT EXECUTE FUNCTION safebound.follow();
+CREATE TRIGGER safebound_update AFTER UPDATE ON public.things REFERENCING OLD TABLE AS old_rows NEW TABLE AS new_rows FOR EACH STATEMENT EXECUTE FUNCTION safebound.follow();
+CREATE TRIGGER safebound_applied AFTER INSERT OR UPDATE ON public.things FOR EACH ROW EXECUTE FUNCTION safebound.follow();
