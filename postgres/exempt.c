@@ -57,8 +57,8 @@ is_view_of_system(Oid view)
 		 getExtensionOfObject(RelationRelationId, view) == extension);
 }
 
-/* Whether a query is the text of such a view. The rewriter puts the view itself
- * before its entries. */
+/* Whether a query is the text of such a view. The rewriter puts the view
+ * itself before its entries. */
 static bool
 is_system_view(Query *query)
 {
@@ -294,13 +294,13 @@ is_key_check(QueryDesc *query)
 }
 
 /* A statement that is running and asks joins of PostgreSQL's own: REFRESH
- * MATERIALIZED VIEW CONCURRENTLY, or the detaching of a part to which a foreign
- * key refers. */
+ * MATERIALIZED VIEW CONCURRENTLY, or the detaching of a part to which a
+ * foreign key refers. */
 typedef struct AskingStatement
 {
 	struct AskingStatement *outer;
 	RangeVar *refreshed; /* NULL: it detaches a part */
-	int running;		 /* how many queries are running within it */
+	int running;         /* how many queries are running within it */
 } AskingStatement;
 
 static AskingStatement *asking;
