@@ -426,22 +426,10 @@ safebound_follow(PG_FUNCTION_ARGS)
 	TriggerKind kind = kind_of_call(fcinfo);
 	TriggerData *trigger = (TriggerData *) fcinfo->context;
 
-	switch (extension_presence())
-	{
-		case ABSENT:
-			return PointerGetDatum(NULL);
-		case DIFFERENT:
-			/* Its rows couldn't be counted, and would never be. */
-			ereport(ERROR,
-					(errcode(ERRCODE_OBJECT_NOT_IN_PREREQUISITE_STATE),
-					 errmsg("\"%s\" is watched by another version of the "
-							"extension safebound",
-							RelationGetRelationName(trigger->tg_relation)),
-					 errhint("ALTER EXTENSION safebound UPDATE brings it to "
-							 "the library's version.")));
-		case PRESENT:
-			break;
-	}
+	/* The update of the extension's SQL marks all tables: rows that come to
+	 * tables of another version aren't counted. */
+	if (extension_presence() != PRESENT)
+		return PointerGetDatum(NULL);
 	if (kind == TRIGGER_BEGINS)
 		begin_writing(RelationGetRelid(trigger->tg_relation));
 	else if (kind != TRIGGER_APPLIED)

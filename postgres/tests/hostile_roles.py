@@ -1,6 +1,6 @@
-"""What roles that mean harm may learn, change or end: one that owns a table, one that may only connect, one with TRIGGER
-on a table, one with CREATE on the database; and what a superuser may do over others' tables without giving them its
-rights. After each test the server still runs, and none of these roles is a superuser.
+"""What roles that mean harm may learn, change or end: one that owns a table, one that may only connect, one with
+TRIGGER on a table, one with CREATE on the database; and what a superuser may do over others' tables without giving them
+its rights. After each test the server still runs, and none of these roles is a superuser.
 
     postgres/tests/hostile_roles.py
 """
@@ -19,7 +19,7 @@ import psycopg
 sys.dont_write_bytecode = True
 HERE = os.path.dirname(os.path.abspath(__file__))
 sys.path[:0] = [os.path.join(HERE, "..")]
-from installed import Installed
+from installed import Installed, TemporaryServer
 
 ROLES = ("owner", "guest", "triggers", "creator")
 DENIED = "42501"
@@ -68,8 +68,8 @@ CREATE TABLE safebound.kept_table (
     relation regclass PRIMARY KEY, rows bigint, accuracy smallint, common smallint, ranges smallint, made timestamptz,
     version bigint, sources oid[], joined smallint[], filters smallint[], referred bigint[]);
 CREATE TABLE safebound.kept_lists (
-    relation regclass, joined smallint, filter smallint, along smallint, referred oid, key smallint, joined_type regtype,
-    filter_type regtype, joined_collation oid, filter_collation oid, lists bytea,
+    relation regclass, joined smallint, filter smallint, along smallint, referred oid, key smallint,
+    joined_type regtype, filter_type regtype, joined_collation oid, filter_collation oid, lists bytea,
     PRIMARY KEY (relation, joined, filter, along, referred, key));
 CREATE TABLE safebound.kept_delta (relation oid, id bigint, rows bigint, lists bytea, PRIMARY KEY (relation, id));
 CREATE TABLE safebound.kept_source (source oid, relation oid, PRIMARY KEY (source, relation));
@@ -77,7 +77,7 @@ INSERT INTO safebound.kept_table VALUES ('t', 1, 8, 100, 64, now(), 1, NULL, '{}
 INSERT INTO safebound.kept_lists VALUES ('t', 0, 0, 0, 0, 0, 0, 0, 0, 0, '\\x7777');
 """
 
-server: Installed
+server: TemporaryServer
 
 
 def connected(database: str, role: str) -> psycopg.Connection[Any]:
@@ -156,7 +156,8 @@ class Owner(Hostile):
     """A role that owns a table, and may use the schema safebound."""
 
     def test_operators_and_functions_of_its_own(self) -> None:
-        owner = self.run_all("owner", TRAPS, "CREATE TABLE t (x int PRIMARY KEY)", "CREATE TABLE u (x int REFERENCES t)",
+        owner = self.run_all("owner", TRAPS, "CREATE TABLE t (x int PRIMARY KEY)",
+                             "CREATE TABLE u (x int REFERENCES t)",
                              "INSERT INTO t VALUES (1), (2); INSERT INTO u VALUES (1), (1)")
         for path in ("owner", "owner, pg_catalog"):
             owner.execute(f"SET search_path = {path}")
@@ -258,7 +259,8 @@ class Owner(Hostile):
             for column, value in (("pair", "ROW(1, i)::pair"), ("pair[]", "ARRAY[ROW(1, i)::pair]"),
                                   ("outer_pair", "ROW(ROW(1, i)::pair)::outer_pair"), ("some_pair", "ROW(1, i)::pair")):
                 with self.subTest(lost=lost, column=column):
-                    self.superuser.execute("DROP SCHEMA IF EXISTS owner CASCADE; CREATE SCHEMA owner AUTHORIZATION owner")
+                    self.superuser.execute("DROP SCHEMA IF EXISTS owner CASCADE")
+                    self.superuser.execute("CREATE SCHEMA owner AUTHORIZATION owner")
                     owner = self.run_all("owner", types, "CREATE TYPE outer_pair AS (p pair)",
                                          "CREATE DOMAIN some_pair AS pair", f"CREATE TABLE t (c {column})",
                                          f"INSERT INTO t SELECT {value} FROM generate_series(1, 100) i",
@@ -327,23 +329,28 @@ class Guest(Hostile):
             connection.execute("CREATE TEMP TABLE mine (x int); COMMIT")
 
     def test_many_watched_tables(self) -> None:
-        """DDL and writes of other tables take no longer with 300 watched tables: least of several, with a margin."""
+        """DDL and writes of other tables take at most 1.3 times as long with 300 watched tables."""
         guest = self.run_all("guest", "CREATE TABLE guest.t (x int)", "SET client_min_messages = error")
-        loop = ("DO $$ BEGIN FOR i IN 1..60 LOOP CREATE TEMP TABLE q (x int); DROP TABLE q;"
+        loop = ("DO $$ BEGIN FOR i IN 1..40 LOOP CREATE TEMP TABLE q (x int); DROP TABLE q;"
                 " INSERT INTO guest.t VALUES (1); END LOOP; END $$")
         before = self.least(guest, loop)
         self.superuser.execute("DO $$ BEGIN FOR i IN 1..300 LOOP EXECUTE format('CREATE TABLE many_%s (x int)', i);"
                                " PERFORM safebound.watch(format('many_%s', i)); END LOOP; END $$")
         self.superuser.execute("VACUUM ANALYZE pg_class, pg_attribute, pg_trigger, pg_depend, pg_type")
-        self.assertLess(self.least(guest, loop), 2 * before + 0.01)
+        self.assertTrue(any(self.least(guest, loop) < 1.3 * before for _ in range(5)))
 
-    def least(self, connection: psycopg.Connection[Any], statement: str) -> float:
+    def least(self, connection: psycopg.Connection[Any], statement: str) -> int:
+        """The least time of the processor that a session takes for a statement, of several."""
         times = []
         for _ in range(9):
-            begun = time.perf_counter()
+            begun = self.processor_time(connection)
             connection.execute(statement)
-            times.append(time.perf_counter() - begun)
+            times.append(self.processor_time(connection) - begun)
         return min(times)
+
+    def processor_time(self, connection: psycopg.Connection[Any]) -> int:
+        with open(f"/proc/{connection.info.backend_pid}/schedstat", encoding="ascii") as file:
+            return int(file.read().split()[0])
 
 
 class Triggers(Hostile):
@@ -400,7 +407,8 @@ class Creator(Hostile):
         """They are none of the extension's, whatever they say of a table."""
         self.creator.execute("SET search_path = safebound, public")
         self.creator.execute(OWN_TABLES)
-        self.creator.execute("GRANT USAGE ON SCHEMA safebound TO PUBLIC; GRANT ALL ON ALL TABLES IN SCHEMA safebound TO PUBLIC")
+        self.creator.execute("GRANT USAGE ON SCHEMA safebound TO PUBLIC")
+        self.creator.execute("GRANT ALL ON ALL TABLES IN SCHEMA safebound TO PUBLIC")
         for mode in ("mean", "bound"):
             self.superuser.execute(f"SET safebound.estimates = {mode}")
             joined = self.superuser.execute("SELECT count(*) FROM t a JOIN t b USING (x)").fetchone()
@@ -454,7 +462,8 @@ class Superuser(Hostile):
             for i in range(120):
                 owner.execute(f"INSERT INTO owner.t VALUES (1, {i})")
             self.superuser.execute("TRUNCATE keys.seen")
-            for statement in ("ANALYZE owner.t", "SELECT safebound.fold('owner.t')", "SELECT safebound.watch('owner.t')"):
+            for statement in ("ANALYZE owner.t", "SELECT safebound.fold('owner.t')",
+                              "SELECT safebound.watch('owner.t')"):
                 self.superuser.execute(statement)
                 self.assertEqual(self.seen(), set(), statement)
             owner.execute("SELECT safebound.fold('owner.t'), safebound.keep('owner.t')")
@@ -475,7 +484,7 @@ class Superuser(Hostile):
         self.assertLessEqual(self.seen(), {"creator"})
 
     def test_lists_along_a_reference_that_the_owner_may_not_read(self) -> None:
-        """A superuser may read the referred table. Its values don't get into statistics of a table whose owner may not."""
+        """A superuser may read the referred table. The statistics of a table whose owner may not have none of it."""
         self.superuser.execute("CREATE TABLE pk (id int PRIMARY KEY, c int); INSERT INTO pk VALUES (1, 42)")
         self.superuser.execute("GRANT REFERENCES ON pk TO owner")
         self.run_all("owner", "CREATE TABLE owner.t (r int REFERENCES pk)", "INSERT INTO owner.t VALUES (1)")
@@ -495,7 +504,6 @@ class Superuser(Hostile):
         session = self.superuser.execute("SELECT current_user, current_setting('search_path')").fetchone()
         self.assertEqual(session, ("postgres", "owner, public"))
 
-
     def test_own_tables_that_were_changed(self) -> None:
         """The extension does nothing with tables of other columns, and doesn't read them."""
         self.superuser.execute("CREATE TABLE t (x int); INSERT INTO t SELECT i % 3 FROM generate_series(1, 300) i")
@@ -509,9 +517,9 @@ class Superuser(Hostile):
         self.assertEqual(other.execute(join).fetchone(), (30000,))
         other.execute("CREATE TEMP TABLE q (x int); DROP TABLE q; ANALYZE t; SET safebound.budget = 1000000")
         self.assertEqual(self.state(other, join), UNBOUNDED)
-        for call in ("keep", "watch", "INSERT INTO t VALUES (1)"):
-            statement = call if " " in call else f"SELECT safebound.{call}('t')"
-            self.assertEqual(self.state(other, statement), "55000")
+        for call in ("keep", "watch"):
+            self.assertEqual(self.state(other, f"SELECT safebound.{call}('t')"), "55000")
+        other.execute("INSERT INTO t VALUES (1)")
 
 
 class Beside(Hostile):

@@ -273,7 +273,8 @@ def apply(edit: Edit, folder: Path) -> None:
 def passes(folder: Path, test: str) -> bool:
     """Whether one test of the folder passes, on a new server with the extension that was built there."""
     if (folder / "tests" / f"{test}.py").exists():
-        return subprocess.run([sys.executable, "-B", folder / "tests" / f"{test}.py"], capture_output=True).returncode == 0
+        command = [sys.executable, "-B", str(folder / "tests" / f"{test}.py")]
+        return subprocess.run(command, capture_output=True).returncode == 0
     kind = "ISOLATION" if (folder / "specs" / f"{test}.spec").exists() else "REGRESS"
     other = {"ISOLATION": "REGRESS", "REGRESS": "ISOLATION"}[kind]
     with TemporaryServer(SETTINGS) as server:
