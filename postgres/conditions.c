@@ -57,8 +57,9 @@ pair_of(const ConditionContext *context, AttrNumber column)
 	const KeptPair *pair = kept_pair_along(context->table, context->joined,
 										   column, context->reference);
 
-	return pair && same_column(context->relation, column, pair->filter_type,
-							   pair->filter_collation)
+	return pair &&
+			same_column(context->relation, column, pair->filter_type,
+						pair->filter_collation)
 		? pair
 		: NULL;
 }

@@ -9,12 +9,15 @@
 #include "admit.h"
 #include "watch.h"
 
+#include "access/htup_details.h"
 #include "access/parallel.h"
+#include "access/table.h"
 #include "access/xact.h"
 #include "catalog/catalog.h"
 #include "catalog/dependency.h"
 #include "catalog/namespace.h"
 #include "catalog/pg_class.h"
+#include "catalog/pg_index.h"
 #include "commands/extension.h"
 #include "executor/executor.h"
 #include "nodes/nodeFuncs.h"
@@ -22,7 +25,10 @@
 #include "tcop/utility.h"
 #include "utils/fmgroids.h"
 #include "utils/lsyscache.h"
+#include "utils/rel.h"
+#include "utils/relcache.h"
 #include "utils/rls.h"
+#include "utils/syscache.h"
 
 static ExecutorCheckPerms_hook_type check_rights_before;
 static ExecutorRun_hook_type run_before;
@@ -57,8 +63,8 @@ is_view_of_system(Oid view)
 		 getExtensionOfObject(RelationRelationId, view) == extension);
 }
 
-/* Whether a query is the text of such a view. The rewriter puts the view itself
- * before its entries. */
+/* Whether a query is the text of such a view. The rewriter puts the view
+ * itself before its entries. */
 static bool
 is_system_view(Query *query)
 {
@@ -294,26 +300,62 @@ is_key_check(QueryDesc *query)
 }
 
 /* A statement that is running and asks joins of PostgreSQL's own: REFRESH
- * MATERIALIZED VIEW CONCURRENTLY, or the detaching of a part to which a foreign
- * key refers. */
+ * MATERIALIZED VIEW CONCURRENTLY, or the detaching of a part to which a
+ * foreign key refers. */
 typedef struct AskingStatement
 {
 	struct AskingStatement *outer;
 	RangeVar *refreshed; /* NULL: it detaches a part */
-	int running;		 /* how many queries are running within it */
+	int running;         /* how many queries are running within it */
 } AskingStatement;
 
 static AskingStatement *asking;
 
-/* Whether PostgreSQL's own queries may read a table: any one, or the refreshed
- * view and the temporary table that has its new rows. */
 static bool
-may_be_asked(Oid relation)
+has_expressions(Oid index)
 {
-	return asking->refreshed == NULL ||
-		get_rel_persistence(relation) == RELPERSISTENCE_TEMP ||
+	HeapTuple tuple = SearchSysCache1(INDEXRELID, ObjectIdGetDatum(index));
+	bool any = !HeapTupleIsValid(tuple) ||
+		!heap_attisnull(tuple, Anum_pg_index_indexprs, NULL) ||
+		!heap_attisnull(tuple, Anum_pg_index_indpred, NULL);
+
+	if (HeapTupleIsValid(tuple))
+		ReleaseSysCache(tuple);
+	return any;
+}
+
+/* Whether a view has an index with expressions. PostgreSQL evaluates them when
+ * it looks at the index, outside of any query. */
+static bool
+has_index_expressions(Oid view)
+{
+	Relation relation = table_open(view, AccessShareLock);
+	bool any = false;
+	ListCell *cell;
+
+	foreach (cell, RelationGetIndexList(relation))
+		any = any || has_expressions(lfirst_oid(cell));
+	table_close(relation, AccessShareLock);
+	return any;
+}
+
+static bool
+is_refreshed_table(Oid relation)
+{
+	return get_rel_persistence(relation) == RELPERSISTENCE_TEMP ||
 		(get_rel_relkind(relation) == RELKIND_MATVIEW &&
 		 relation == RangeVarGetRelid(asking->refreshed, NoLock, true));
+}
+
+/* Whether a plan reads the refreshed view and the temporary tables that have
+ * its new rows, and a user's function can't have asked it. */
+static bool
+compares_refreshed(PlannedStmt *plan)
+{
+	Oid view = RangeVarGetRelid(asking->refreshed, NoLock, true);
+
+	return OidIsValid(view) && reads_only(plan, is_refreshed_table) &&
+		!has_index_expressions(view);
 }
 
 /* Whether the statement itself asks a query. A user's function runs within
@@ -322,7 +364,7 @@ static bool
 is_of_statement(QueryDesc *query)
 {
 	return asking && asking->running == 0 && !is_planning() &&
-		reads_only(query->plannedstmt, may_be_asked);
+		(asking->refreshed == NULL || compares_refreshed(query->plannedstmt));
 }
 
 /* Whether a query is a parallel worker's part of its leader's query, which was

@@ -9,21 +9,21 @@
    Why the bound of this set is never less than the rows of the node:
 
    - A path of a join relation makes the rows of the query's join of exactly
-     the relations in the set, whatever the order in which it joins them. If
-     it is repeated for each row of another relation, or joins parts of
-     partitioned tables, it makes some of them. The planner may replace a side
-     by a node without rows, since its conditions contradict each other or all
-     its parts were pruned. The set of the join has the relations of that side
-     still, though no scan of the plan names them.
+	 the relations in the set, whatever the order in which it joins them. If
+	 it is repeated for each row of another relation, or joins parts of
+	 partitioned tables, it makes some of them. The planner may replace a side
+	 by a node without rows, since its conditions contradict each other or all
+	 its parts were pruned. The set of the join has the relations of that side
+	 still, though no scan of the plan names them.
    - The walk starts at the paths of the whole query, or of a subquery of its
-     own, within the planner's call that made this plan: both have the same
-     range table in memory. It goes on only while both trees agree: a node and
-     a path are the same kind of join, with the same numbers of rows and costs,
-     and have equally many nodes below. If they differ anywhere, all joins of
-     the tree are unknown.
+	 own, within the planner's call that made this plan: both have the same
+	 range table in memory. It goes on only while both trees agree: a node and
+	 a path are the same kind of join, with the same numbers of rows and costs,
+	 and have equally many nodes below. If they differ anywhere, all joins of
+	 the tree are unknown.
    - The sets aren't trusted blindly. All scans below a node have to be of
-     relations of its set, or of subqueries in it. Otherwise the node is
-     unknown.
+	 relations of its set, or of subqueries in it. Otherwise the node is
+	 unknown.
    - A join that is unknown has no bound, and never a smaller one.
 
    A plan's scans name entries of the plan's own range table, which has the
@@ -60,7 +60,6 @@ typedef struct JoinSearch
 	HTAB *matched; /* of MatchedJoin, by node */
 	List *joins;   /* of PlanJoin */
 } JoinSearch;
-
 
 /* The entries that a single scan joins, for example on a foreign server or by
  * another extension. */
@@ -271,14 +270,72 @@ note_joins(JoinSearch *search, Plan *plan)
 	return entries_of_scan(plan) ? entries_of_scan(plan) : scans;
 }
 
+/* The path below one that has its rows; NULL if this isn't such a path. */
+static Path *
+path_below(Path *path)
+{
+	switch (nodeTag(path))
+	{
+		case T_SubqueryScanPath:
+			return ((SubqueryScanPath *) path)->subpath;
+		case T_MaterialPath:
+			return ((MaterialPath *) path)->subpath;
+		case T_MemoizePath:
+			return ((MemoizePath *) path)->subpath;
+		case T_UniquePath:
+			return ((UniquePath *) path)->subpath;
+		case T_GatherPath:
+			return ((GatherPath *) path)->subpath;
+		case T_GatherMergePath:
+			return ((GatherMergePath *) path)->subpath;
+		case T_ProjectionPath:
+			return ((ProjectionPath *) path)->subpath;
+		case T_ProjectSetPath:
+			return ((ProjectSetPath *) path)->subpath;
+		case T_SortPath:
+			return ((SortPath *) path)->subpath;
+		case T_IncrementalSortPath:
+			return ((IncrementalSortPath *) path)->spath.subpath;
+		case T_LockRowsPath:
+			return ((LockRowsPath *) path)->subpath;
+		case T_ModifyTablePath:
+			return ((ModifyTablePath *) path)->subpath;
+		case T_LimitPath:
+			return ((LimitPath *) path)->subpath;
+		default:
+			return NULL;
+	}
+}
+
+/* The same, also for paths that group rows or that another server makes. */
+static Path *
+path_below_group(Path *path)
+{
+	switch (nodeTag(path))
+	{
+		case T_GroupPath:
+			return ((GroupPath *) path)->subpath;
+		case T_UpperUniquePath:
+			return ((UpperUniquePath *) path)->subpath;
+		case T_AggPath:
+			return ((AggPath *) path)->subpath;
+		case T_GroupingSetsPath:
+			return ((GroupingSetsPath *) path)->subpath;
+		case T_WindowAggPath:
+			return ((WindowAggPath *) path)->subpath;
+		case T_SetOpPath:
+			return ((SetOpPath *) path)->subpath;
+		case T_ForeignPath:
+			return ((ForeignPath *) path)->fdw_outerpath;
+		default:
+			return path_below(path);
+	}
+}
+
 /* The paths directly below a path. */
 static List *
 paths_below(Path *path)
 {
-#define BELOW(kind) \
-	case T_##kind: \
-		return list_make1(((kind *) path)->subpath)
-
 	switch (nodeTag(path))
 	{
 		case T_NestPath:
@@ -295,34 +352,10 @@ paths_below(Path *path)
 			return ((MergeAppendPath *) path)->subpaths;
 		case T_CustomPath:
 			return ((CustomPath *) path)->custom_paths;
-		case T_ForeignPath:
-			return ((ForeignPath *) path)->fdw_outerpath
-				? list_make1(((ForeignPath *) path)->fdw_outerpath)
-				: NIL;
-			BELOW(SubqueryScanPath);
-			BELOW(MaterialPath);
-			BELOW(MemoizePath);
-			BELOW(UniquePath);
-			BELOW(GatherPath);
-			BELOW(GatherMergePath);
-			BELOW(ProjectionPath);
-			BELOW(ProjectSetPath);
-			BELOW(SortPath);
-			BELOW(GroupPath);
-			BELOW(UpperUniquePath);
-			BELOW(AggPath);
-			BELOW(GroupingSetsPath);
-			BELOW(WindowAggPath);
-			BELOW(SetOpPath);
-			BELOW(LockRowsPath);
-			BELOW(ModifyTablePath);
-			BELOW(LimitPath);
-		case T_IncrementalSortPath:
-			return list_make1(((IncrementalSortPath *) path)->spath.subpath);
 		default:
-			return NIL;
+			return path_below_group(path) ? list_make1(path_below_group(path))
+										  : NIL;
 	}
-#undef BELOW
 }
 
 /* Whether another server or another extension may make the rows. */
@@ -356,8 +389,9 @@ has_numbers_of(Plan *plan, Path *path)
 }
 
 /* The same for paths. `root` becomes that of the subquery which has the path,
-   and `same` says whether one of the paths has the node's numbers. A projection
-   that needs no node of its own gives its numbers to the node below. */
+   and `same` says whether one of the paths has the node's numbers. A
+   projection that needs no node of its own gives its numbers to the node
+   below. */
 static Path *
 path_at_branch(Path *path, PlannerInfo **root, Plan *plan, bool *same)
 {
@@ -409,8 +443,8 @@ new_match(Plan *plan, PlannerInfo *root, RelOptInfo *rel)
 	return match;
 }
 
-/* Walks both trees. Adds to `matches` the joins of the plan. False if the trees
- * differ. */
+/* Walks both trees. Adds to `matches` the joins of the plan. False if the
+ * trees differ. */
 static bool
 match_trees(Plan *plan, Path *path, PlannerInfo *root, List **matches)
 {
@@ -497,8 +531,8 @@ table_by_pointer(const char *name, Size entry_size)
 					   HASH_ELEM | HASH_BLOBS | HASH_CONTEXT);
 }
 
-/* Notes the entries of a PlannerInfo and of those above it. Returns the topmost
- * one if the plan was made by its call of the planner, else NULL. */
+/* Notes the entries of a PlannerInfo and of those above it. Returns the
+ * topmost one if the plan was made by its call of the planner, else NULL. */
 static PlannerInfo *
 note_roots(JoinSearch *search, PlannerInfo *root)
 {
@@ -512,8 +546,8 @@ note_roots(JoinSearch *search, PlannerInfo *root)
 }
 
 /* All joins of a plan: those of subqueries with plans of their own, then the
-   others, each after the joins below it. `roots` has each PlannerInfo that made
-   paths for it. */
+   others, each after the joins below it. `roots` has each PlannerInfo that
+   made paths for it. */
 List *
 joins_of_plan(PlannedStmt *plan, List *roots)
 {

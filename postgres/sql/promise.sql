@@ -181,6 +181,12 @@ SET safebound.budget = 10;
 REFRESH MATERIALIZED VIEW CONCURRENTLY calling;
 REFRESH MATERIALIZED VIEW CONCURRENTLY pruning;
 RESET safebound.budget;
+-- Expressions of an index may be evaluated outside of any query: no query is PostgreSQL's own then.
+CREATE FUNCTION joins_passing(i integer) RETURNS integer LANGUAGE plpgsql IMMUTABLE AS $$ BEGIN IF current_setting('safebound.budget') = '10' THEN BEGIN PERFORM count(*) FROM passing a, passing b; RAISE WARNING 'joined'; EXCEPTION WHEN OTHERS THEN NULL; END; END IF; RETURN i; END $$;
+CREATE INDEX ON viewed ((c + joins_passing(1)));
+SET safebound.budget = 10;
+REFRESH MATERIALIZED VIEW CONCURRENTLY viewed;
+RESET safebound.budget;
 DROP MATERIALIZED VIEW viewed, calling, pruning;
 DROP TABLE none, many, parts, limited, keys, keys_2, passing;
-DROP FUNCTION in_worker, joins_many, joins_if, fails_if;
+DROP FUNCTION in_worker, joins_many, joins_if, joins_passing, fails_if;

@@ -192,6 +192,8 @@ EDITS = [
            "void *argument)\n{\n\tforget_checked_key();",
            "static void\non_subtransaction_end(SubXactEvent event, SubTransactionId mine, SubTransactionId parent, "
            "void *argument)\n{\n")], "promise"),
+    Edit("expressions of a refreshed view's index are taken for its comparison", "exempt.c",
+         [(" && !has_index_expressions(view)", "")], "promise"),
     Edit("what runs within a refresh is taken for its comparison", "exempt.c",
          [("asking->running == 0 && ", "")], "promise"),
     Edit("a partitioned table is known after a part was attached", "kept.c",
