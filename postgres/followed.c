@@ -431,7 +431,10 @@ safebound_follow(PG_FUNCTION_ARGS)
 		case ABSENT:
 			return PointerGetDatum(NULL);
 		case DIFFERENT:
-			/* Its rows couldn't be counted, and would never be. */
+			/* Each update of the extension marks all watched tables as
+			   unknown. Other tables of one version are somebody's change. */
+			if (!library_fits())
+				return PointerGetDatum(NULL);
 			ereport(ERROR,
 					(errcode(ERRCODE_OBJECT_NOT_IN_PREREQUISITE_STATE),
 					 errmsg("\"%s\" is watched by another version of the "

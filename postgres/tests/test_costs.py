@@ -7,6 +7,7 @@ from __future__ import annotations
 
 import os
 import sys
+import time
 import unittest
 from typing import Any
 
@@ -88,6 +89,140 @@ class Memory(Measured):
         conditions = [f"a.{column} = 'x'" for column in "abc"]
         queries = [f"SELECT FROM long a JOIN long b ON a.a = b.b AND a.c = b.c WHERE {one}" for one in conditions]
         self.assertLess(self.grown(queries), 2 << 20)
+
+
+class Folding(Measured):
+    """Deltas fold by themselves. No test calls fold."""
+
+    DELTAS = "SELECT deltas FROM safebound.kept WHERE \"table\" = 'trip'::regclass"
+
+    def make(self, rows: int) -> None:
+        self.owner.execute("CREATE TABLE trip (id integer PRIMARY KEY, day integer)")
+        self.addCleanup(self.owner.execute, "DROP TABLE trip")
+        self.owner.execute(f"INSERT INTO trip SELECT i, i % 10 FROM generate_series(1, {rows}) AS i")
+        self.owner.execute("SELECT safebound.watch('trip')")
+        self.rows = rows
+
+    def insert(self, statements: int, connection: psycopg.Connection[Any] | None = None) -> None:
+        """One row by each statement, which commits."""
+        loop = f"FOR i IN {self.rows + 1}..{self.rows + statements} LOOP INSERT INTO trip VALUES (i, i % 10); COMMIT"
+        (connection or self.owner).execute(f"DO $$ BEGIN {loop}; END LOOP; END $$")
+        self.rows += statements
+
+    def becomes_few(self) -> None:
+        """Writes now and then, until there are few deltas."""
+        for _ in range(100):
+            if self.number(self.DELTAS) < 200:
+                return
+            time.sleep(0.1)
+            self.insert(20)
+        self.fail(f"there are {self.number(self.DELTAS)} deltas")
+
+    def bounded(self, query: str = "SELECT FROM trip") -> float:
+        self.owner.execute("SET safebound.estimates = bound")
+        told = self.owner.execute(f"EXPLAIN (FORMAT JSON) {query}").fetchone()
+        return float(told[0][0]["Plan"]["Plan Rows"]) if told else 0
+
+    def test_a_small_table_is_counted(self) -> None:
+        self.make(100)
+        self.insert(1000)
+        self.becomes_few()
+        self.assertGreaterEqual(self.number("SELECT rows FROM safebound.kept"), 200)
+        self.assertEqual(self.bounded(), self.number("SELECT count(*) FROM trip"))
+
+    def test_a_large_tables_deltas_are_merged(self) -> None:
+        self.make(100000)
+        self.insert(1000)
+        self.becomes_few()
+        self.assertEqual(self.number("SELECT rows FROM safebound.kept"), 100000)
+        self.assertEqual(self.bounded(), self.number("SELECT count(*) FROM trip"))
+        query = "SELECT FROM trip a JOIN trip b USING (day)"
+        joined = "SELECT sum(rows * rows) FROM (SELECT count(*) AS rows FROM trip GROUP BY day) AS days"
+        self.assertGreaterEqual(self.bounded(query), self.number(joined))
+
+    def test_an_owner_that_cant_log_in(self) -> None:
+        self.make(100)
+        self.owner.execute("CREATE ROLE silent; ALTER TABLE trip OWNER TO silent")
+        self.addCleanup(self.owner.execute, "ALTER TABLE trip OWNER TO postgres; DROP ROLE silent")
+        self.insert(1000)
+        self.becomes_few()
+
+    def test_an_owner_with_settings_of_its_own(self) -> None:
+        self.make(100)
+        self.owner.execute("CREATE ROLE strict LOGIN; ALTER TABLE trip OWNER TO strict")
+        self.addCleanup(self.owner.execute, "ALTER TABLE trip OWNER TO postgres; DROP ROLE strict")
+        self.owner.execute("ALTER ROLE strict SET default_transaction_isolation = serializable")
+        self.owner.execute("ALTER ROLE strict SET default_transaction_read_only = on")
+        self.insert(1000)
+        self.becomes_few()
+
+    def test_writers_wait_for_nobody(self) -> None:
+        """While somebody holds the lock that a fold takes, writers go on. Later writers try again."""
+        self.make(100)
+        holder = self.connect()
+        holder.execute("BEGIN; LOCK TABLE trip IN SHARE UPDATE EXCLUSIVE MODE")
+        self.owner.execute("SET lock_timeout = '1s'")
+        self.insert(500)
+        time.sleep(1)
+        self.assertEqual(self.number(self.DELTAS), 500)
+        holder.execute("COMMIT")
+        time.sleep(1)
+        self.becomes_few()
+
+    def test_an_open_transaction_keeps_its_delta(self) -> None:
+        """A row that is committed after several folds is counted, though its delta has a low number."""
+        self.make(100000)
+        late = self.connect()
+        late.execute("BEGIN; INSERT INTO trip VALUES (-1, 5)")
+        for _ in range(2):
+            self.insert(500)
+            time.sleep(1.1)
+            self.becomes_few()
+        late.execute("COMMIT")
+        self.assertEqual(self.bounded(), self.number("SELECT count(*) FROM trip"))
+        for _ in range(2):
+            self.insert(500)
+            time.sleep(1.1)
+            self.becomes_few()
+        self.assertEqual(self.bounded(), self.number("SELECT count(*) FROM trip"))
+
+    def test_an_old_snapshot_sees_its_own_deltas(self) -> None:
+        self.make(100000)
+        self.insert(50)
+        old = self.connect()
+        old.execute("BEGIN ISOLATION LEVEL REPEATABLE READ; SET LOCAL safebound.estimates = bound; SELECT FROM trip LIMIT 1")
+        self.insert(500)
+        self.becomes_few()
+        told = old.execute("EXPLAIN (FORMAT JSON) SELECT FROM trip").fetchone()
+        self.assertEqual(told[0][0]["Plan"]["Plan Rows"] if told else 0, 100050)
+
+    def test_planning_after_30000_statements(self) -> None:
+        """A plan takes at most 1.3 times the time of the processor that it took before 30,000 statements came."""
+        self.make(1000000)
+        asks = self.connect()
+        before = self.planned(asks)
+        self.insert(30000)
+        time.sleep(1.1)
+        self.becomes_few()
+        self.assertLess(self.planned(asks), 1.3 * before)
+
+    def planned(self, asks: psycopg.Connection[Any]) -> float:
+        """Processor time of a backend for 3,000 plans, the least of five."""
+        pid = asks.info.backend_pid
+        asks.execute("SET safebound.estimates = bound")
+        plans = "DO $$ BEGIN FOR i IN 1..3000 LOOP EXECUTE 'EXPLAIN SELECT FROM trip a JOIN trip b USING (id)'; END LOOP; END $$"
+        least = float("inf")
+        for _ in range(5):
+            begun = ticks(pid)
+            asks.execute(plans)
+            least = min(least, ticks(pid) - begun)
+        return least
+
+
+def ticks(pid: int) -> float:
+    """The processor time of a process so far, in nanoseconds."""
+    with open(f"/proc/{pid}/schedstat", encoding="ascii") as told:
+        return float(told.read().split()[0])
 
 
 if __name__ == "__main__":
