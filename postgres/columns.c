@@ -127,6 +127,19 @@ typedef struct ColumnCoder
 	NumberSort *by_row;
 } ColumnCoder;
 
+/* A longer value isn't stored: it counts as one that isn't common, and ends no
+ * range. */
+#define MOST_VALUE_BYTES 2048
+
+static bool
+is_short(const ColumnCoder *coder)
+{
+	Form_pg_attribute attribute = coder->column->attribute;
+
+	return datumGetSize(coder->last, attribute->attbyval,
+						attribute->attlen) <= MOST_VALUE_BYTES;
+}
+
 /* Keeps the most common values. A more common value replaces the least common
  * one. */
 static void
@@ -136,6 +149,8 @@ note_common(ColumnCoder *coder)
 	int least = 0;
 	CommonValue *into;
 
+	if (!is_short(coder))
+		return;
 	if (column->common_length < coder->most_common)
 		into = &column->common[column->common_length++];
 	else
@@ -166,7 +181,7 @@ note_leaf(ColumnCoder *coder)
 
 	if (coder->passed * coder->most_leaves <
 			all * (column->leaves_length + 1) ||
-		coder->most_leaves == 0)
+		coder->most_leaves == 0 || !is_short(coder))
 		return;
 	*leaf = (Leaf){.last = column->highest, .end = coder->passed};
 	leaf->greatest = datumCopy(coder->last, column->attribute->attbyval,
@@ -239,6 +254,10 @@ code_values(ColumnCoder *coder, Tuplesortstate *sort, TupleTableSlot *slot)
 				   ((uint64) row << 32) | (null ? 0 : column->highest));
 	}
 	end_value(coder);
+	/* Without an end of the last range there are no ranges. */
+	if (column->leaves_length > 0 &&
+		column->leaves[column->leaves_length - 1].last < column->highest)
+		column->leaves_length = 0;
 	qsort(column->common, column->common_length, sizeof(CommonValue), by_code);
 }
 

@@ -88,6 +88,12 @@ sort_referred(const TableCounting *table_count, const Column *along,
 			  Relation referred, AttrNumber key, List *numbers,
 			  Tuplesortstate **sorts, TupleTableSlot **slots);
 
+/* How many pairs of a joined column and a filter column a table may have. */
+#define MOST_PAIRS 10000
+
+/* chosen.c */
+extern void check_pairs(const TableCounting *table_count);
+
 /* columns.c */
 extern void put_value(Tuplesortstate *sort, TupleTableSlot *slot, Datum value,
 					  bool null, uint32 row);

@@ -132,8 +132,12 @@ put_kept_list(ListWriter *writer, ListKind kind, const Datum *value,
 {
 	DegreeList stored = compressed(list, writer->table_count->accuracy);
 
-	appendStringInfoChar(&writer->bytes, (char) kind);
-	if (value != NULL)
+	/* The values of a filter column are stored once, with its numbers of rows.
+	 */
+	appendStringInfoChar(&writer->bytes,
+						 value && writer->joined ? VALUE_ELSEWHERE(kind)
+												 : (char) kind);
+	if (value != NULL && writer->joined == NULL)
 		put_kept_value(&writer->bytes, writer->filter->attribute, *value);
 	put_list(&writer->bytes, &stored);
 	writer->table_count->lists++;

@@ -8,6 +8,10 @@
 #include "watch.h"
 
 #include "access/htup_details.h"
+#include "access/table.h"
+#include "access/transam.h"
+#include "access/xact.h"
+#include "catalog/indexing.h"
 #include "catalog/pg_type.h"
 #include "utils/array.h"
 #include "utils/builtins.h"
@@ -79,7 +83,11 @@ read_kept_row(Relation tables, HeapTuple tuple, KeptRow *kept_row)
 				  .version = DatumGetInt64(row[TABLE_VERSION - 1]),
 				  .most_common = DatumGetInt16(row[TABLE_COMMON - 1]),
 				  .most_leaves = DatumGetInt16(row[TABLE_RANGES - 1]),
-				  .accuracy = DatumGetInt16(row[TABLE_ACCURACY - 1])};
+				  .accuracy = DatumGetInt16(row[TABLE_ACCURACY - 1]),
+				  .rows = DatumGetInt64(row[TABLE_ROWS - 1]),
+				  .first_delta = DatumGetInt64(row[TABLE_FIRST_DELTA - 1]),
+				  .merged_delta = DatumGetInt64(row[TABLE_MERGED_DELTA - 1]),
+				  .merged_xid = DatumGetInt64(row[TABLE_MERGED_XID - 1])};
 	if (!nulls[TABLE_SOURCES - 1])
 	{
 		int length;
@@ -137,10 +145,9 @@ all_kept(void)
 	return all;
 }
 
-/* The watched tables that may get rows from a statement on `source`, as of
- * now. */
+/* What followers_of returns, from the tables. */
 List *
-followers_of(Oid source)
+read_followers(Oid source)
 {
 	Datum key = ObjectIdGetDatum(source);
 	OwnScan scan = begin_own_scan(KEPT_SOURCE, NULL, 1, &key);
@@ -162,12 +169,26 @@ followers_of(Oid source)
 	return followers;
 }
 
+/* A scan of the deltas of a table from the first one on that may be there.
+   Merged deltas stay in the table and its index until it is vacuumed, and
+   would be passed each time. */
+static OwnScan
+begin_scan_at(const KeptRow *kept_row, Snapshot snapshot)
+{
+	Datum key[] = {ObjectIdGetDatum(kept_row->relation),
+				   Int64GetDatum(kept_row->first_delta)};
+
+	return begin_own_scan_from(KEPT_DELTA, AccessShareLock, snapshot, key);
+}
+
 static OwnScan
 begin_scan(Oid relation, Snapshot snapshot)
 {
-	Datum key = ObjectIdGetDatum(relation);
+	KeptRow kept_row;
 
-	return begin_own_scan(KEPT_DELTA, snapshot, 1, &key);
+	if (!find_kept_row(relation, snapshot, &kept_row))
+		kept_row = (KeptRow){.relation = relation};
+	return begin_scan_at(&kept_row, snapshot);
 }
 
 static int64
@@ -193,21 +214,36 @@ has_mark(Oid relation, Snapshot snapshot)
 	return found;
 }
 
+/* A number that tells one set of a table's deltas from any other of the same
+   version: until the next merge deltas are only added. -1 if they are too
+   many. */
 int64
-count_deltas(Oid relation, Snapshot snapshot)
+state_of_deltas(const KeptRow *kept_row, Snapshot snapshot)
 {
-	OwnScan scan = begin_scan(relation, snapshot);
+	OwnScan scan = begin_scan_at(kept_row, snapshot);
 	int64 count = 0;
 
 	while (HeapTupleIsValid(next_own(&scan)))
 		count++;
 	end_own_scan(&scan);
-	return count;
+	return count <= PG_UINT16_MAX ? (kept_row->merged_delta << 16) | count
+								  : -1;
+}
+
+bool
+has_many_deltas(Oid relation)
+{
+	OwnScan scan = begin_scan(relation, NULL);
+	int count = 0;
+
+	while (count < MANY_DELTAS && HeapTupleIsValid(next_own(&scan)))
+		count++;
+	end_own_scan(&scan);
+	return count >= MANY_DELTAS;
 }
 
 /* The tables to which a table refers and that haven't changed since it was
-   counted. While a table has one version, deltas are only added. So an equal
-   number of deltas means that they are the same deltas. */
+   counted. */
 List *
 unchanged_references(const KeptRow *kept_row, Snapshot snapshot)
 {
@@ -222,7 +258,8 @@ unchanged_references(const KeptRow *kept_row, Snapshot snapshot)
 		if (find_kept_row(then->relation, snapshot, &now) &&
 			now.version == then->version && now.sources != NIL &&
 			!is_being_written(&now) &&
-			count_deltas(then->relation, snapshot) == then->deltas)
+			then->deltas >= 0 &&
+			state_of_deltas(&now, snapshot) == then->deltas)
 			unchanged = lappend_oid(unchanged, then->relation);
 	}
 	return unchanged;
@@ -294,7 +331,7 @@ add_delta(Deltas *sums, const KeptRow *kept_row, Relation deltas,
 static Deltas *
 read_ids(const KeptRow *kept_row, Snapshot snapshot)
 {
-	OwnScan scan = begin_scan(kept_row->relation, snapshot);
+	OwnScan scan = begin_scan_at(kept_row, snapshot);
 	Deltas *sums = palloc0(sizeof(Deltas));
 	int capacity = 16;
 	HeapTuple tuple;
@@ -313,7 +350,7 @@ read_ids(const KeptRow *kept_row, Snapshot snapshot)
 static void
 sum_deltas(Deltas *sums, const KeptRow *kept_row, Snapshot snapshot)
 {
-	OwnScan scan = begin_scan(kept_row->relation, snapshot);
+	OwnScan scan = begin_scan_at(kept_row, snapshot);
 	HeapTuple tuple;
 	int number = -1;
 
@@ -335,19 +372,63 @@ same_ids(const Deltas *one, const Deltas *other)
 		memcmp(one->ids, other->ids, one->length * sizeof(int64)) == 0;
 }
 
+/* Whether what a snapshot sees doesn't depend on this transaction's own
+ * writes. */
+static bool
+is_plain(Snapshot snapshot)
+{
+	return snapshot->snapshot_type == SNAPSHOT_MVCC &&
+		!snapshot->takenDuringRecovery &&
+		!TransactionIdIsValid(GetTopTransactionIdIfAny());
+}
+
+static void
+note_snapshot(Deltas *sums, Snapshot snapshot)
+{
+	Size size = snapshot->xcnt * sizeof(TransactionId);
+
+	if (!is_plain(snapshot))
+		return;
+	sums->xmin = snapshot->xmin;
+	sums->xmax = snapshot->xmax;
+	sums->running_length = snapshot->xcnt;
+	if (sums->running)
+		pfree(sums->running);
+	sums->running = MemoryContextAlloc(sums->context, size + 1);
+	memcpy(sums->running, snapshot->xip, size);
+}
+
+/* Whether a snapshot sees the same transactions as the noted one. Then it sees
+ * the same deltas, and they needn't be read. */
+static bool
+is_noted(const Deltas *known, Snapshot snapshot)
+{
+	return known && TransactionIdIsValid(known->xmax) && is_plain(snapshot) &&
+		known->xmin == snapshot->xmin && known->xmax == snapshot->xmax &&
+		known->running_length == snapshot->xcnt &&
+		memcmp(known->running, snapshot->xip,
+			   snapshot->xcnt * sizeof(TransactionId)) == 0;
+}
+
 /* The sum of the deltas that a snapshot sees, in a memory context of its own
    below the current one. If `known` is the sum of the same deltas, it is
    returned. */
 Deltas *
 find_deltas(const KeptRow *kept_row, Snapshot snapshot, Deltas *known)
 {
-	MemoryContext context = AllocSetContextCreate(
-		CurrentMemoryContext, "safebound deltas", ALLOCSET_SMALL_SIZES);
-	MemoryContext before = MemoryContextSwitchTo(context);
-	Deltas *sums = read_ids(kept_row, snapshot);
-	bool same = same_ids(known, sums);
+	MemoryContext context, before;
+	Deltas *sums;
+	bool same;
 
+	if (is_noted(known, snapshot))
+		return known;
+	context = AllocSetContextCreate(CurrentMemoryContext, "safebound deltas",
+									ALLOCSET_SMALL_SIZES);
+	before = MemoryContextSwitchTo(context);
+	sums = read_ids(kept_row, snapshot);
+	same = same_ids(known, sums);
 	sums->context = context;
+	note_snapshot(same ? known : sums, snapshot);
 	if (!same)
 		sum_deltas(sums, kept_row, snapshot);
 	MemoryContextSwitchTo(before);
@@ -372,17 +453,79 @@ with_deltas(const KeptTable *table, AttrNumber joined, DegreeList list)
 	return all;
 }
 
+/* A transaction has its number before its deltas get theirs:
+ * move_first_delta needs that. */
 void
 write_delta(Oid relation, int64 rows, StringInfo lists)
 {
 	bytea *bytes = palloc(VARHDRSZ + lists->len);
-	Datum values[DELTA_COLUMNS] = {
-		ObjectIdGetDatum(relation), Int64GetDatum(next_version()),
-		Int64GetDatum(rows), PointerGetDatum(bytes)};
+	Datum values[DELTA_COLUMNS] = {ObjectIdGetDatum(relation), 0,
+								   Int64GetDatum(rows),
+								   PointerGetDatum(bytes)};
 
+	GetCurrentTransactionId();
+	values[DELTA_ID - 1] = Int64GetDatum(next_version());
 	SET_VARSIZE(bytes, VARHDRSZ + lists->len);
 	memcpy(VARDATA(bytes), lists->data, lists->len);
 	insert_own(KEPT_DELTA, values, NULL);
+	ask_for_fold(relation, DatumGetInt64(values[DELTA_ID - 1]));
+}
+
+/* The 64-bit number of a transaction that isn't newer than `next`. */
+static int64
+full_number(TransactionId number, FullTransactionId next)
+{
+	uint64 epoch = EpochFromFullTransactionId(next);
+
+	if (number > XidFromFullTransactionId(next))
+		epoch--;
+	return (int64) ((epoch << 32) | number);
+}
+
+/* Called when the deltas that a snapshot sees have been deleted. If all
+   transactions of the time of the last merge had ended in that snapshot, then
+   all deltas with an id from before that merge are either deleted or never
+   came. */
+void
+move_first_delta(KeptRow *kept_row, Snapshot snapshot)
+{
+	if (kept_row->merged_xid > 0 &&
+		full_number(snapshot->xmin, ReadNextFullTransactionId()) >=
+			kept_row->merged_xid)
+		kept_row->first_delta = kept_row->merged_delta;
+	kept_row->merged_delta = next_version();
+	kept_row->merged_xid =
+		(int64) U64FromFullTransactionId(ReadNextFullTransactionId());
+}
+
+static StringInfoData
+bytes_of_sums(const Deltas *sums)
+{
+	StringInfoData bytes;
+
+	initStringInfo(&bytes);
+	for (int i = 0; i < sums->lists_length; i++)
+	{
+		put_number(&bytes, sums->numbers[i]);
+		put_list(&bytes, &sums->lists[i]);
+	}
+	return bytes;
+}
+
+/* Replaces the deltas that the active snapshot sees by their sum. Whoever
+ * calls holds ShareUpdateExclusiveLock on the table. */
+void
+merge_deltas(KeptRow *kept_row)
+{
+	Deltas *sums = find_deltas(kept_row, GetActiveSnapshot(), NULL);
+	StringInfoData bytes = bytes_of_sums(sums);
+
+	if (sums->not_counted)
+		return;
+	delete_deltas(kept_row->relation, GetActiveSnapshot());
+	move_first_delta(kept_row, GetActiveSnapshot());
+	note_merge(kept_row);
+	write_delta(kept_row->relation, sums->rows, &bytes);
 }
 
 /* Deletes the deltas that a snapshot sees. Their rows are now counted in the
@@ -390,7 +533,12 @@ write_delta(Oid relation, int64 rows, StringInfo lists)
 void
 delete_deltas(Oid relation, Snapshot snapshot)
 {
-	Datum key = ObjectIdGetDatum(relation);
+	Relation deltas = open_own(KEPT_DELTA, RowExclusiveLock);
+	OwnScan scan = begin_scan(relation, snapshot);
+	HeapTuple tuple;
 
-	delete_own(KEPT_DELTA, snapshot, 1, &key);
+	while (HeapTupleIsValid(tuple = next_own(&scan)))
+		CatalogTupleDelete(deltas, &tuple->t_self);
+	end_own_scan(&scan);
+	table_close(deltas, NoLock);
 }

@@ -125,7 +125,8 @@ choose_columns(TableCounting *table_count, Bitmapset *joined,
 			   Bitmapset *filters)
 {
 	Bitmapset *all = all_columns(table_count->relation);
-	Bitmapset *joins = joined ? joined : all;
+	Bitmapset *keys = columns_in_keys(table_count->relation);
+	Bitmapset *joins = joined ? joined : bms_overlap(keys, all) ? keys : all;
 	Bitmapset *conditions = filters ? filters : all;
 	int number = -1;
 
@@ -142,6 +143,7 @@ choose_columns(TableCounting *table_count, Bitmapset *joined,
 		if (column.is_joined || column.is_filter)
 			table_count->columns[table_count->length++] = column;
 	}
+	check_pairs(table_count);
 }
 
 /* Whether there can be lists along a reference. The user must be allowed to

@@ -1,6 +1,7 @@
-/* The backend's cache of statistics. They are read when a table is first used
-   in a plan. They are dropped when the table's definition changes, or when it
-   is counted again. */
+/* The backend's cache of statistics. The lists of a pair of columns are read
+   when a plan first asks for them. They are dropped when the definition of the
+   table, or of one to which it refers, changes, or when it is counted again.
+ */
 #include "watch.h"
 
 #include "access/htup_details.h"
@@ -66,100 +67,234 @@ get_value(const char **at, const char *end, Oid type)
 	return value;
 }
 
-static KeptPair
-read_pair(Datum *row)
+/* Which lists a pair has. */
+typedef struct PairKey
 {
-	KeptPair pair = {.joined = DatumGetInt16(row[LISTS_JOINED - 1]),
-					 .filter = DatumGetInt16(row[LISTS_FILTER - 1]),
-					 .along = DatumGetInt16(row[LISTS_ALONG - 1]),
-					 .referred = DatumGetObjectId(row[LISTS_REFERRED - 1]),
-					 .key = DatumGetInt16(row[LISTS_KEY - 1]),
-					 .filter_type =
-						 DatumGetObjectId(row[LISTS_FILTER_TYPE - 1]),
-					 .filter_collation =
-						 DatumGetObjectId(row[LISTS_FILTER_COLLATION - 1])};
-	bytea *bytes = DatumGetByteaP(row[LISTS_BYTES - 1]);
+	Oid referred;
+	AttrNumber along;
+	AttrNumber key;
+	AttrNumber joined;
+	AttrNumber filter;
+} PairKey;
+
+typedef struct PairEntry
+{
+	PairKey key;
+	KeptPair *pair; /* NULL: there is none */
+} PairEntry;
+
+static Snapshot
+snapshot_of_plan(void)
+{
+	return ActiveSnapshotSet() ? GetActiveSnapshot()
+							   : GetTransactionSnapshot();
+}
+
+static bool
+has_value(ListKind kind)
+{
+	return kind == LIST_VALUE || kind == LIST_LEAF;
+}
+
+/* The next list, whose value may be that of `elsewhere`. */
+static KeptList
+get_kept_list(const char **at, const char *end, Oid type,
+			  const KeptList *elsewhere)
+{
+	KeptList list = {.kind = (ListKind) *(*at)++};
+
+	if (list.kind == VALUE_ELSEWHERE(LIST_VALUE) ||
+		list.kind == VALUE_ELSEWHERE(LIST_LEAF))
+	{
+		list.kind += 'a' - 'A';
+		if (elsewhere == NULL || elsewhere->kind != list.kind)
+			ereport(ERROR,
+					(errcode(ERRCODE_DATA_CORRUPTED),
+					 errmsg("a kept list has no value")));
+		list.value = elsewhere->value;
+	}
+	else if (has_value(list.kind))
+		list.value = get_value(at, end, type);
+	list.list = get_list(at, end);
+	return list;
+}
+
+/* Reads the lists of a pair. `values` has the values of the filter column, if
+ * it isn't the pair itself. */
+static void
+read_lists(KeptPair *pair, bytea *bytes, const KeptPair *values)
+{
 	const char *at = VARDATA_ANY(bytes);
 	const char *end = at + VARSIZE_ANY_EXHDR(bytes);
 	int capacity = 4;
 
-	pair.lists = palloc(capacity * sizeof(KeptList));
+	pair->lists = palloc(capacity * sizeof(KeptList));
 	while (at < end)
 	{
-		KeptList list = {.kind = (ListKind) *at++};
+		KeptList list = get_kept_list(
+			&at, end, pair->filter_type,
+			values && pair->length < values->length
+				? &values->lists[pair->length]
+				: NULL);
 
-		if (list.kind == LIST_VALUE || list.kind == LIST_LEAF)
-			list.value = get_value(
-				&at, end, DatumGetObjectId(row[LISTS_FILTER_TYPE - 1]));
-		list.list = get_list(&at, end);
-		if (pair.length == capacity)
-			pair.lists =
-				repalloc(pair.lists, (capacity *= 2) * sizeof(KeptList));
-		if (list.kind == LIST_LEAF && pair.leaves++ == 0)
-			pair.first_leaf = pair.length;
-		pair.lists[pair.length++] = list;
+		if (pair->length == capacity)
+			pair->lists =
+				repalloc(pair->lists, (capacity *= 2) * sizeof(KeptList));
+		if (list.kind == LIST_LEAF && pair->leaves++ == 0)
+			pair->first_leaf = pair->length;
+		pair->lists[pair->length++] = list;
 	}
+}
+
+static bool
+has_same_columns(const KeptTable *table, const Datum *row)
+{
+	Oid referred = DatumGetObjectId(row[LISTS_REFERRED - 1]);
+
+	return same_column(table->relation, DatumGetInt16(row[LISTS_JOINED - 1]),
+					   DatumGetObjectId(row[LISTS_JOINED_TYPE - 1]),
+					   DatumGetObjectId(row[LISTS_JOINED_COLLATION - 1])) &&
+		same_column(OidIsValid(referred) ? referred : table->relation,
+					DatumGetInt16(row[LISTS_FILTER - 1]),
+					DatumGetObjectId(row[LISTS_FILTER_TYPE - 1]),
+					DatumGetObjectId(row[LISTS_FILTER_COLLATION - 1]));
+}
+
+static const KeptPair *find_pair(const KeptTable *table, PairKey key);
+
+/* A pair of the table from its row, in a memory context below the current one;
+ * NULL if its columns have changed. */
+static KeptPair *
+read_pair(const KeptTable *table, const PairKey *key, const Datum *row)
+{
+	PairKey of_values = *key;
+	const KeptPair *values = NULL;
+	KeptPair *pair;
+
+	of_values.joined = 0;
+	if (!has_same_columns(table, row))
+		return NULL;
+	if (key->joined != 0 && key->filter != 0)
+		values = find_pair(table, of_values);
+	pair = palloc0(sizeof(KeptPair));
+	*pair = (KeptPair){.joined = key->joined,
+					   .filter = key->filter,
+					   .along = key->along,
+					   .referred = key->referred,
+					   .key = key->key};
+	pair->filter_type = DatumGetObjectId(row[LISTS_FILTER_TYPE - 1]);
+	pair->filter_collation =
+		DatumGetObjectId(row[LISTS_FILTER_COLLATION - 1]);
+	read_lists(pair, DatumGetByteaP(row[LISTS_BYTES - 1]), values);
 	return pair;
 }
 
-static int
-compare(uint64 one, uint64 other)
+/* Reads a pair's row, if there is one. */
+static KeptPair *
+load_pair(const KeptTable *table, const PairKey *key, Snapshot snapshot)
 {
-	return (one > other) - (one < other);
+	Datum values[] = {ObjectIdGetDatum(table->relation),
+					  Int16GetDatum(key->joined), Int16GetDatum(key->filter),
+					  Int16GetDatum(key->along),
+					  ObjectIdGetDatum(key->referred),
+					  Int16GetDatum(key->key)};
+	OwnScan scan =
+		begin_own_scan(KEPT_LISTS, snapshot, lengthof(values), values);
+	HeapTuple tuple = next_own(&scan);
+	KeptPair *pair = NULL;
+
+	if (HeapTupleIsValid(tuple))
+	{
+		Datum row[LISTS_COLUMNS];
+		bool nulls[LISTS_COLUMNS];
+
+		heap_deform_tuple(tuple, RelationGetDescr(scan.own), row, nulls);
+		pair = read_pair(table, key, row);
+	}
+	end_own_scan(&scan);
+	return pair;
 }
 
-static int
-by_columns(const void *left, const void *right)
+/* Whether the snapshot sees the version of the statistics that was read. */
+static bool
+same_version(const KeptTable *table, Snapshot snapshot)
 {
-	const KeptPair *one = left;
-	const KeptPair *other = right;
-	int order = compare(one->referred, other->referred);
+	KeptRow kept_row;
 
-	if (order == 0)
-		order = compare(((uint64) (uint16) one->along << 48) |
-							((uint64) (uint16) one->key << 32) |
-							((uint64) (uint16) one->joined << 16) |
-							(uint16) one->filter,
-						((uint64) (uint16) other->along << 48) |
-							((uint64) (uint16) other->key << 32) |
-							((uint64) (uint16) other->joined << 16) |
-							(uint16) other->filter);
-	return order;
+	return find_kept_row(table->relation, snapshot, &kept_row) &&
+		kept_row.version == table->version;
+}
+
+/* A pair, which is read when it is first asked for. Its memory context is
+   below the current one until nothing can fail any more, so that an error
+   leaves nothing of it. */
+static const KeptPair *
+find_pair(const KeptTable *table, PairKey key)
+{
+	PairEntry *entry = hash_search(table->pairs, &key, HASH_FIND, NULL);
+	Snapshot snapshot = snapshot_of_plan();
+	MemoryContext context, before;
+	KeptPair *pair;
+
+	if (entry != NULL)
+		return entry->pair;
+	if (!same_version(table, snapshot))
+		return NULL;
+	context = AllocSetContextCreate(
+		CurrentMemoryContext, "safebound pair", ALLOCSET_SMALL_SIZES);
+	before = MemoryContextSwitchTo(context);
+	pair = load_pair(table, &key, snapshot);
+	MemoryContextSwitchTo(before);
+	entry = hash_search(table->pairs, &key, HASH_ENTER, NULL);
+	entry->pair = pair;
+	if (pair)
+		MemoryContextSetParent(context, table->context);
+	else
+		MemoryContextDelete(context);
+	return pair;
 }
 
 static void
-read_table(KeptTable *table, Snapshot snapshot)
+note_reference(KeptTable *table, const Datum *row)
 {
-	Datum relation = ObjectIdGetDatum(table->relation);
-	OwnScan scan = begin_own_scan(KEPT_LISTS, snapshot, 1, &relation);
-	HeapTuple tuple;
-	int capacity = 16;
+	Reference *reference = palloc(sizeof(Reference));
 
-	table->pairs = palloc(capacity * sizeof(KeptPair));
+	*reference = (Reference){DatumGetInt16(row[LISTS_ALONG - 1]),
+							 DatumGetObjectId(row[LISTS_REFERRED - 1]),
+							 DatumGetInt16(row[LISTS_KEY - 1])};
+	if (reference->along != 0 && !has_pairs_along(table, reference))
+		table->references = lappend(table->references, reference);
+}
+
+/* Notes the references along which there are pairs. */
+static void
+read_references(KeptTable *table, Snapshot snapshot)
+{
+	Datum values[] = {ObjectIdGetDatum(table->relation), Int16GetDatum(0)};
+	OwnScan scan =
+		begin_own_scan(KEPT_LISTS, snapshot, lengthof(values), values);
+	HeapTuple tuple;
+
 	while (HeapTupleIsValid(tuple = next_own(&scan)))
 	{
 		Datum row[LISTS_COLUMNS];
 		bool nulls[LISTS_COLUMNS];
 
 		heap_deform_tuple(tuple, RelationGetDescr(scan.own), row, nulls);
-		if (!same_column(table->relation, DatumGetInt16(row[LISTS_JOINED - 1]),
-						 DatumGetObjectId(row[LISTS_JOINED_TYPE - 1]),
-						 DatumGetObjectId(row[LISTS_JOINED_COLLATION - 1])) ||
-			!same_column(OidIsValid(DatumGetObjectId(row[LISTS_REFERRED - 1]))
-							 ? DatumGetObjectId(row[LISTS_REFERRED - 1])
-							 : table->relation,
-						 DatumGetInt16(row[LISTS_FILTER - 1]),
-						 DatumGetObjectId(row[LISTS_FILTER_TYPE - 1]),
-						 DatumGetObjectId(row[LISTS_FILTER_COLLATION - 1])))
-			continue;
-		if (table->length == capacity)
-			table->pairs =
-				repalloc(table->pairs, (capacity *= 2) * sizeof(KeptPair));
-		table->pairs[table->length++] = read_pair(row);
+		note_reference(table, row);
 	}
 	end_own_scan(&scan);
-	qsort(table->pairs, table->length, sizeof(KeptPair), by_columns);
-	table->valid = kept_pair(table, 0, 0) != NULL;
+}
+
+static HTAB *
+pairs_table(void)
+{
+	HASHCTL control = {.keysize = sizeof(PairKey),
+					   .entrysize = sizeof(PairEntry),
+					   .hcxt = CurrentMemoryContext};
+
+	return hash_create("safebound pairs", 16, &control,
+					   HASH_ELEM | HASH_BLOBS | HASH_CONTEXT);
 }
 
 /* Reads the statistics into a memory context below the current one, so that an
@@ -175,9 +310,10 @@ load_table(const KeptRow *kept_row, Snapshot snapshot)
 	table->relation = kept_row->relation;
 	table->version = kept_row->version;
 	table->context = context;
-	read_table(table, snapshot);
+	table->pairs = pairs_table();
+	read_references(table, snapshot);
 	/* pg_upgrade takes statistics along, and no internal triggers. */
-	table->valid = table->valid &&
+	table->valid = kept_pair(table, 0, 0) != NULL &&
 		(kept_row->sources == NIL ||
 		 is_intact(kept_row->relation, kept_row->sources));
 	MemoryContextSwitchTo(before);
@@ -291,8 +427,7 @@ same_parts(const KeptRow *kept_row)
 const KeptTable *
 kept_table(Oid relation)
 {
-	Snapshot snapshot =
-		ActiveSnapshotSet() ? GetActiveSnapshot() : GetTransactionSnapshot();
+	Snapshot snapshot = snapshot_of_plan();
 	KeptTable *table, *view;
 	KeptRow kept_row;
 
@@ -348,25 +483,41 @@ const KeptPair *
 kept_pair_along(const KeptTable *table, AttrNumber joined, AttrNumber filter,
 				const Reference *reference)
 {
-	KeptPair wanted = {.joined = joined, .filter = filter};
+	PairKey key = {.joined = joined, .filter = filter};
 
 	if (reference)
 	{
-		wanted.along = reference->along;
-		wanted.referred = reference->referred;
-		wanted.key = reference->key;
+		key.along = reference->along;
+		key.referred = reference->referred;
+		key.key = reference->key;
 	}
-	return bsearch(&wanted, table->pairs, table->length, sizeof(KeptPair),
-				   by_columns);
+	return find_pair(table, key);
 }
 
 bool
 has_pairs_along(const KeptTable *table, const Reference *reference)
 {
-	for (int i = 0; i < table->length; i++)
-		if (table->pairs[i].along == reference->along &&
-			table->pairs[i].referred == reference->referred &&
-			table->pairs[i].key == reference->key)
+	ListCell *cell;
+
+	foreach (cell, table->references)
+	{
+		Reference *one = lfirst(cell);
+
+		if (one->along == reference->along &&
+			one->referred == reference->referred &&
+			one->key == reference->key)
+			return true;
+	}
+	return false;
+}
+
+static bool
+refers_to(const KeptTable *table, Oid relation)
+{
+	ListCell *cell;
+
+	foreach (cell, table->references)
+		if (((Reference *) lfirst(cell))->referred == relation)
 			return true;
 	return false;
 }
@@ -376,25 +527,6 @@ drop_entry(TableEntry *entry)
 {
 	drop_table(entry->table);
 	hash_search(tables, &entry->relation, HASH_REMOVE, NULL);
-}
-
-/* Pairs are in the order of the tables to which they refer. */
-static bool
-refers_to(const KeptTable *table, Oid relation)
-{
-	int from = 0;
-	int to = table->length;
-
-	while (from < to)
-	{
-		int middle = (from + to) / 2;
-
-		if (table->pairs[middle].referred < relation)
-			from = middle + 1;
-		else
-			to = middle;
-	}
-	return from < table->length && table->pairs[from].referred == relation;
 }
 
 /* Drops the statistics of a table that changed, and those along references to

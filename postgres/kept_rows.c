@@ -49,6 +49,7 @@ forget_kept(Oid relation)
 		delete_sources(relation, before.sources);
 	delete_own(KEPT_LISTS, NULL, 1, &key);
 	delete_own(KEPT_TABLE, NULL, 1, &key);
+	invalidate_followers();
 	CommandCounterIncrement();
 	return were;
 }
@@ -97,6 +98,25 @@ note_sources(Oid relation, List *sources)
 	replaced[TABLE_SOURCES - 1] = true;
 	delete_sources(relation, before.sources);
 	insert_sources(relation, sources);
+	update_own(KEPT_TABLE, 1, &key, row, nulls, replaced);
+	invalidate_followers();
+	CommandCounterIncrement();
+}
+
+/* Notes that deltas were merged. */
+void
+note_merge(const KeptRow *kept_row)
+{
+	Datum key = ObjectIdGetDatum(kept_row->relation);
+	Datum row[TABLE_COLUMNS] = {0};
+	bool nulls[TABLE_COLUMNS] = {false};
+	bool replaced[TABLE_COLUMNS] = {false};
+
+	row[TABLE_FIRST_DELTA - 1] = Int64GetDatum(kept_row->first_delta);
+	row[TABLE_MERGED_DELTA - 1] = Int64GetDatum(kept_row->merged_delta);
+	row[TABLE_MERGED_XID - 1] = Int64GetDatum(kept_row->merged_xid);
+	for (int column = TABLE_FIRST_DELTA; column <= TABLE_MERGED_XID; column++)
+		replaced[column - 1] = true;
 	update_own(KEPT_TABLE, 1, &key, row, nulls, replaced);
 	CommandCounterIncrement();
 }
@@ -202,7 +222,7 @@ referred_array(List *along)
 		numbers[length++] = Int64GetDatum(used->referred);
 		numbers[length++] = Int64GetDatum(kept_row.version);
 		numbers[length++] =
-			Int64GetDatum(count_deltas(used->referred, GetActiveSnapshot()));
+			Int64GetDatum(state_of_deltas(&kept_row, GetActiveSnapshot()));
 	}
 	return PointerGetDatum(construct_array(numbers, length, INT8OID, 8,
 										   FLOAT8PASSBYVAL, TYPALIGN_DOUBLE));
@@ -211,7 +231,8 @@ referred_array(List *along)
 /* Stores the row of a table whose lists were stored before. The active
  * snapshot is that of the count. */
 void
-save_kept(const TableCounting *table_count, List *sources)
+save_kept(const TableCounting *table_count, const KeptRow *before,
+		  List *sources)
 {
 	Oid relation = RelationGetRelid(table_count->relation);
 	CountedColumns counted;
@@ -233,7 +254,11 @@ save_kept(const TableCounting *table_count, List *sources)
 	row[TABLE_JOINED - 1] = number_array(counted.joined);
 	row[TABLE_FILTERS - 1] = number_array(counted.filters);
 	row[TABLE_REFERRED - 1] = referred_array(counted.along);
+	row[TABLE_FIRST_DELTA - 1] = Int64GetDatum(before->first_delta);
+	row[TABLE_MERGED_DELTA - 1] = Int64GetDatum(before->merged_delta);
+	row[TABLE_MERGED_XID - 1] = Int64GetDatum(before->merged_xid);
 	insert_own(KEPT_TABLE, row, nulls);
 	insert_sources(relation, sources);
+	invalidate_followers();
 	CommandCounterIncrement();
 }

@@ -30,6 +30,8 @@ _PG_init(void)
 	admit_init();
 	exempt_init();
 	followed_init();
+	folding_init();
+	followers_init();
 	watch_init();
 	MarkGUCPrefixReserved("safebound");
 }

@@ -39,7 +39,7 @@ static const OwnDefinition definitions[OWN_LENGTH] = {
 					TABLE_COLUMNS,
 					{REGCLASSOID, INT8OID, INT2OID, INT2OID, INT2OID,
 					 TIMESTAMPTZOID, INT8OID, OIDARRAYOID, INT2ARRAYOID,
-					 INT2ARRAYOID, INT8ARRAYOID}},
+					 INT2ARRAYOID, INT8ARRAYOID, INT8OID, INT8OID, INT8OID}},
 	[KEPT_LISTS] = {"kept_lists",
 					RELKIND_RELATION,
 					LISTS_COLUMNS,
@@ -289,6 +289,21 @@ begin_own_scan(OwnTable table, Snapshot snapshot, int length, const Datum *key)
 {
 	return scan_opened(open_own(table, AccessShareLock), table, snapshot,
 					   length, key);
+}
+
+OwnScan
+begin_own_scan_from(OwnTable table, LOCKMODE mode, Snapshot snapshot,
+					const Datum *values)
+{
+	Relation own = open_own(table, mode);
+	Oid index = RelationGetPrimaryKeyIndex(own);
+	ScanKeyData key[2];
+
+	ScanKeyInit(&key[0], 1, BTEqualStrategyNumber,
+				equality_of(definitions[table].types[0]), values[0]);
+	ScanKeyInit(&key[1], 2, BTGreaterEqualStrategyNumber, F_INT8GE, values[1]);
+	return (OwnScan){own, systable_beginscan(own, index, OidIsValid(index),
+											 snapshot, 2, key)};
 }
 
 HeapTuple

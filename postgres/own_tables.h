@@ -42,7 +42,10 @@ enum
 	TABLE_JOINED,
 	TABLE_FILTERS,
 	TABLE_REFERRED,
-	TABLE_COLUMNS = TABLE_REFERRED
+	TABLE_FIRST_DELTA,
+	TABLE_MERGED_DELTA,
+	TABLE_MERGED_XID,
+	TABLE_COLUMNS = TABLE_MERGED_XID
 };
 
 enum
@@ -113,6 +116,11 @@ typedef struct OwnScan
 
 extern OwnScan begin_own_scan(OwnTable table, Snapshot snapshot, int length,
 							  const Datum *key);
+
+/* A scan of the rows whose first column has the value key[0], and whose second
+ * one has at least key[1], which is a bigint. */
+extern OwnScan begin_own_scan_from(OwnTable table, LOCKMODE mode,
+								   Snapshot snapshot, const Datum *key);
 extern HeapTuple next_own(OwnScan *scan);
 extern void end_own_scan(OwnScan *scan);
 

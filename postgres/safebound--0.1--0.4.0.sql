@@ -7,6 +7,10 @@ LOCK TABLE safebound.kept_table, safebound.kept_delta IN EXCLUSIVE MODE;
 INSERT INTO safebound.kept_delta (relation, id, rows, lists)
     SELECT t.relation, pg_catalog.nextval('safebound.versions'), -1, '' FROM safebound.kept_table t WHERE t.sources IS NOT NULL;
 
+ALTER TABLE safebound.kept_table ADD first_delta bigint NOT NULL DEFAULT 0, ADD merged_delta bigint NOT NULL DEFAULT 0,
+    ADD merged_xid bigint NOT NULL DEFAULT 0;
+UPDATE safebound.kept_table SET referred = '{}';
+
 -- The triggers of tables that are watched are internal from now on: watch makes them.
 DO $$
 DECLARE of record;

@@ -10,8 +10,9 @@ CREATE SCHEMA safebound;
 -- joined and filters are the numbers of the table's own columns that were counted as joined columns and as filter columns.
 -- version is a new number each time the table is counted.
 -- sources are the tables on which a statement may bring rows to this table; NULL if the table isn't watched.
--- referred has three numbers for each watched table to which this one refers: its oid, its version, and its number of deltas, both as they
--- were when this table was counted.
+-- referred has three numbers for each watched table to which this one refers: its oid, its version, and a number for
+-- the state of its deltas, both as they were when this table was counted.
+-- Deltas below first_delta are merged, or never came. merged_delta and merged_xid are the next delta's and transaction's numbers of the last merge.
 CREATE SEQUENCE safebound.versions;
 CREATE TABLE safebound.kept_table (
     relation regclass PRIMARY KEY,
@@ -24,7 +25,10 @@ CREATE TABLE safebound.kept_table (
     sources oid[],
     joined smallint[],
     filters smallint[],
-    referred bigint[]
+    referred bigint[],
+    first_delta bigint NOT NULL DEFAULT 0,
+    merged_delta bigint NOT NULL DEFAULT 0,
+    merged_xid bigint NOT NULL DEFAULT 0
 );
 REVOKE ALL ON safebound.kept_table FROM PUBLIC;
 

@@ -12,6 +12,7 @@
 #include "lib/stringinfo.h"
 #include "nodes/pathnodes.h"
 #include "safebound.h"
+#include "utils/hsearch.h"
 #include "utils/relcache.h"
 
 /* Sets a hook of PostgreSQL to our function. The hook's old value goes to
@@ -41,6 +42,10 @@ typedef enum ListKind
 	LIST_NODE = 'm' /* an inner node of the tree of ranges: two neighbours one
 					   level below, or the odd last one alone */
 } ListKind;
+
+/* The letter of a stored list whose value is stored elsewhere: at the same
+ * place among the lists of the filter column with `joined` 0. */
+#define VALUE_ELSEWHERE(kind) ((char) ((kind) - 'a' + 'A'))
 
 typedef struct KeptList
 {
@@ -94,8 +99,8 @@ typedef struct KeptTable
 	MemoryContext context;
 	struct KeptTable
 		*next; /* in the list of dropped statistics, which are freed later */
-	int length;
-	KeptPair *pairs;
+	List *references; /* of Reference: those along which there are pairs */
+	HTAB *pairs; /* the pairs that plans asked for */
 } KeptTable;
 
 /* lists.c: degree lists, and how they are stored as bytes. All of these
@@ -112,6 +117,9 @@ extern void put_number(StringInfo into, uint64 number);
 extern void put_list(StringInfo into, const DegreeList *list);
 extern uint64 get_number(const char **at, const char *end);
 extern DegreeList get_list(const char **at, const char *end);
+
+/* chosen.c: which columns are counted. */
+extern Bitmapset *columns_in_keys(Relation relation);
 
 /* keep.c: makes the statistics of a table and stores them. */
 extern Relation open_owned(Oid relation);

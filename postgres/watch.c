@@ -25,9 +25,6 @@ PG_FUNCTION_INFO_V1(safebound_watch);
 PG_FUNCTION_INFO_V1(safebound_unwatch);
 PG_FUNCTION_INFO_V1(safebound_fold);
 
-/* ANALYZE folds the deltas of a table that has at least this many. */
-#define MANY_DELTAS 100
-
 /* The arguments for counting a table that wasn't kept before. */
 #define COMMON 100
 #define RANGES 64
@@ -143,6 +140,7 @@ begin_counting(Relation relation, bool folding, KeptRow *before,
 	else
 		PushActiveSnapshot(GetTransactionSnapshot());
 	delete_deltas(id, GetActiveSnapshot());
+	move_first_delta(before, GetActiveSnapshot());
 	forget_marks();
 }
 
@@ -150,7 +148,7 @@ void
 end_counting(const TableCounting *table_count, const KeptRow *before,
 			 bool was_followed)
 {
-	save_kept(table_count,
+	save_kept(table_count, before,
 			  was_followed && is_intact(before->relation, before->sources)
 				  ? before->sources
 				  : NIL);
@@ -192,7 +190,7 @@ leave_source(Oid source)
 }
 
 /* Counts a table again. If it has statistics, the same columns are counted. */
-static int64
+int64
 keep_again(Oid relation, bool folding)
 {
 	KeptRow kept_row;
@@ -303,7 +301,7 @@ fold_if_many(Oid relation)
 	if (find_kept_row(relation, NULL, &kept_row) && kept_row.sources != NIL &&
 		SearchSysCacheExists1(RELOID, ObjectIdGetDatum(relation)) &&
 		pg_class_ownercheck(relation, GetUserId()) &&
-		count_deltas(relation, NULL) >= MANY_DELTAS)
+		has_many_deltas(relation))
 		keep_again(relation, true);
 }
 

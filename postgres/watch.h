@@ -18,7 +18,7 @@ typedef struct ReferredTable
 {
 	Oid relation;
 	int64 version;
-	int64 deltas;
+	int64 deltas; /* from state_of_deltas */
 } ReferredTable;
 
 /* The row of a table in safebound.kept_table, as a snapshot sees it. */
@@ -34,12 +34,24 @@ typedef struct KeptRow
 	Bitmapset *joined;  /* the columns with lists */
 	Bitmapset *filters; /* the columns for whose conditions lists are kept */
 	List *referred;     /* of ReferredTable */
+	int64 rows;         /* when it was counted */
+	int64 first_delta;  /* deltas with lower ids aren't there any more */
+	int64 merged_delta; /* the first id that may come after the last merge */
+	int64 merged_xid;   /* who got a lower id has a lower transaction number */
 } KeptRow;
+
+/* From this number of deltas on a table is folded. */
+#define MANY_DELTAS 100
 
 /* The rows that came later, as far as a snapshot sees them. */
 struct Deltas
 {
 	MemoryContext context;
+	/* A snapshot that sees these deltas; xmax is invalid if none is noted. */
+	TransactionId xmin;
+	TransactionId xmax;
+	uint32 running_length;
+	TransactionId *running;
 	bool not_counted;
 	int length;
 	int64 *ids;
@@ -57,19 +69,34 @@ find_deltas(const KeptRow *kept_row, Snapshot snapshot, Deltas *known);
 extern void write_delta(Oid relation, int64 rows, StringInfo lists);
 extern void delete_deltas(Oid relation, Snapshot snapshot);
 extern List *all_kept(void);
-extern List *followers_of(Oid source);
+extern List *read_followers(Oid source);
 
 extern bool has_mark(Oid relation, Snapshot snapshot);
-extern int64 count_deltas(Oid relation, Snapshot snapshot);
+extern int64 state_of_deltas(const KeptRow *kept_row, Snapshot snapshot);
+extern bool has_many_deltas(Oid relation);
+extern void move_first_delta(KeptRow *kept_row, Snapshot snapshot);
+extern void merge_deltas(KeptRow *kept_row);
 extern List *unchanged_references(const KeptRow *kept_row, Snapshot snapshot);
 
 /* kept_rows.c: what is stored of a table beside its lists. */
 extern bool forget_kept(Oid relation);
-extern void save_kept(const TableCounting *table_count, List *sources);
+extern void save_kept(const TableCounting *table_count,
+					  const KeptRow *before, List *sources);
 extern void note_sources(Oid relation, List *sources);
+extern void note_merge(const KeptRow *kept_row);
+
+/* followers.c */
+extern List *followers_of(Oid source);
+extern void invalidate_followers(void);
+extern void followers_init(void);
+
+/* folding.c: deltas fold by themselves. */
+extern void ask_for_fold(Oid relation, int64 delta);
+extern void folding_init(void);
 
 /* watch.c */
 extern bool is_intact(Oid relation, List *followed);
+extern int64 keep_again(Oid relation, bool folding);
 extern void begin_counting(Relation relation, bool folding, KeptRow *before,
 						   bool *was_followed);
 extern void end_counting(const TableCounting *table_count,

@@ -78,7 +78,7 @@ INSERT INTO d SELECT i, CASE WHEN i IN (3, 4) THEN 'a' ELSE 'b' END, i FROM gene
 CREATE TABLE f (k integer REFERENCES d, x integer);
 INSERT INTO f SELECT k, i % 7 FROM d, generate_series(1, CASE k WHEN 1 THEN 100 WHEN 2 THEN 50 ELSE 1 END) i;
 INSERT INTO f VALUES (NULL, 5);
-SELECT safebound.keep('d', accuracy => 64) > 0 AS d, safebound.keep('f', accuracy => 64) > 0 AS f;
+SELECT safebound.keep('d', '{k,c,n}', accuracy => 64) > 0 AS d, safebound.keep('f', '{k,x}', accuracy => 64) > 0 AS f;
 SELECT rows_of('SELECT FROM f JOIN d USING (k) WHERE c = ''a''') = 2 AS along, rows_of('SELECT FROM f JOIN d USING (k) WHERE c IN (''a'', ''b'')') = 158 AS both,
        rows_of('SELECT FROM f JOIN d USING (k) WHERE n > 2') = 8 AS part, rows_of('SELECT FROM f JOIN d USING (k) WHERE n = 1') = 100 AS one,
        rows_of('SELECT d.c FROM f LEFT JOIN d ON f.k = d.k AND c = ''a''') = 159 + 2 AS left_join;
@@ -129,7 +129,7 @@ INSERT INTO f SELECT 1, 2, 0 FROM generate_series(1, 10);
 INSERT INTO f SELECT 2, 1, i FROM generate_series(1, 10) i;
 CREATE TABLE g (x integer);
 INSERT INTO g SELECT greatest(i - 5, 0) FROM generate_series(1, 15) i;
-SELECT safebound.keep('d') > 0 AS d, safebound.keep('e') > 0 AS e, safebound.keep('f', accuracy => 64) > 0 AS f, safebound.keep('g', accuracy => 64) > 0 AS g;
+SELECT safebound.keep('d') > 0 AS d, safebound.keep('e') > 0 AS e, safebound.keep('f', '{k,j,x}', accuracy => 64) > 0 AS f, safebound.keep('g', accuracy => 64) > 0 AS g;
 SET safebound.estimates = bound;
 SET join_collapse_limit = 1;
 SELECT rows_of('SELECT FROM f JOIN d USING (k) JOIN g USING (x) WHERE d.c = ''a''') = 10 * 5 AS one,

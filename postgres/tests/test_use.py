@@ -123,6 +123,8 @@ class Binding(Fresh):
         self.addCleanup(self.postgres.execute, "SELECT pg_reload_conf()")
         self.addCleanup(self.postgres.execute, "ALTER SYSTEM RESET safebound.budget")
         self.owner = self.connect("fresh")
+        # The view joins functions, which have no bound.
+        self.owner.execute("LOAD 'safebound'; SET safebound.budget = 0")
         self.assertEqual(self.told()["postgres", "fresh"], (99, False, False))
         self.assertEqual(self.told()["careful", "fresh"], (99, True, True))
 
