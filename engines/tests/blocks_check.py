@@ -6,7 +6,6 @@ import contextlib
 import csv
 import io
 import json
-import os
 import tempfile
 from collections import Counter
 from dataclasses import dataclass, field
@@ -59,8 +58,9 @@ def answer_of(base: Any, text: str) -> Answer:
 class Command:
     """Runs commands of safebound-sql on a database, in this process."""
 
-    def __init__(self, url: str) -> None:
-        self.url = url
+    def __init__(self, base: Any) -> None:
+        # Compiling a query takes longer than all its rows.
+        self.url = base.url + ("&options=-c%20jit%3Doff" if base.engine == "postgres" else "")
 
     def said(self, text: str, *words: str) -> Said:
         out, notes = io.StringIO(), io.StringIO()
@@ -72,9 +72,11 @@ class Command:
         return Said(status, out.getvalue(), notes.getvalue())
 
 
-def checked(base: Any, text: str, true: Answer) -> Checked:
-    """Everything that has to hold of a query of which the engine gives this answer."""
-    command, found = Command(base.url), Checked()
+def checked(base: Any, text: str, true: Answer, run: bool = True) -> Checked:
+    """Everything that has to hold of a query of which the engine gives this answer. Without `run`, the least budget
+    that the plan tells stands for the command's refusals.
+    """
+    command, found = Command(base), Checked()
     audit = command.said(text, "audit", "--json")
     if audit.status in (REFUSED, PAST_BITS):
         found.refused = audit.notes.strip()
@@ -94,7 +96,10 @@ def checked(base: Any, text: str, true: Answer) -> Checked:
         if level["rows"] > level["bound"]
     ]
     most = max([level["rows"] for level in levels] + ([true.rows.total()] if "blocks" in plan else []), default=0)
-    found.faults += budget_faults(command, text, true, most, bool(found.unbounded))
+    if run:
+        found.faults += budget_faults(command, text, true, most, bool(found.unbounded))
+    elif not found.unbounded and plan.get("least budget", most) < most:
+        found.faults.append(f"the least budget is {plan['least budget']}: {most} rows come out or are joined")
     return found
 
 
@@ -122,4 +127,4 @@ def budget_faults(command: Command, text: str, true: Answer, most: int, unbounde
     if run.status != ADMITTED:
         return [*found, f"run ends with {run.status}: {run.notes.strip()}"]
     header, *rows = csv.reader(io.StringIO(run.out, newline=""))
-    return found + differences("run", Answer(tuple(header), Counter(map(tuple, rows))), true)
+    return found + differences("run", Answer(tuple(header), Counter(tuple(row) for row in rows)), true)

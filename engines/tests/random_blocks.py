@@ -1,5 +1,5 @@
-"""Random queries of several blocks over small random tables: queries in FROM, WITH, set operations, chains of outer joins,
-subqueries, grouping, and stars at every level; in PostgreSQL also LATERAL and set-returning functions.
+"""Random queries of several blocks over small random tables: queries in FROM, WITH, set operations, chains of outer
+joins, subqueries, grouping, and stars at every level; in PostgreSQL also LATERAL and set-returning functions.
 
 Every query has the same rows however the engine evaluates it: LIMIT stands only behind an ORDER BY of all outputs.
 """
@@ -8,7 +8,7 @@ from __future__ import annotations
 
 import random
 from dataclasses import dataclass, field, replace
-from typing import Any, Callable
+from typing import Any
 
 from safebound_sql.query import Row
 
@@ -100,8 +100,9 @@ class RandomBlocks:
         for table, columns in TABLES.items():
             types = [f"{name_text(name)} {'INTEGER' if kind == 'i' else 'TEXT'}" for name, kind in columns]
             types[0] += " PRIMARY KEY" if table in KEYED else ""
-            base.script(f"DROP TABLE IF EXISTS {name_text(table)}; CREATE TABLE {name_text(table)} ({', '.join(types)})")
-            base.fill(name_text(table), self.rows(table))
+            written = name_text(table)
+            base.script(f"DROP TABLE IF EXISTS {written}; CREATE TABLE {written} ({', '.join(types)})")
+            base.fill(written, self.rows(table))
 
     def rows(self, table: str) -> list[Row]:
         count = self.random.choice(ROWS.get(table, (0, 3, 5, 7, 10)))
@@ -122,7 +123,7 @@ class RandomBlocks:
     def query(self) -> str:
         """A query. `has` says what is in it."""
         self.has, self.aliases, self.selects = set(), 0, 0
-        return self._query(Scope("at the top", self.random.choice((1, 2, 2, 3))), None)[0]
+        return self._query(Scope("at the top", self.random.choice((1, 1, 1, 2, 2, 3))), None)[0]
 
     def _chance(self, of: float) -> bool:
         return self.random.random() < of
@@ -140,12 +141,13 @@ class RandomBlocks:
         if self._chance(0.7):
             return ""
         places = self.random.sample(range(1, count + 1), count)
-        limit = self.random.choice(("", f" LIMIT {self.random.randrange(1, 9)}", " LIMIT 3 OFFSET 1"))
+        limits = ["", f" LIMIT {self.random.randrange(1, 9)}", " LIMIT 3 OFFSET 1", " LIMIT 0"]
+        limits += [" FETCH FIRST 2 ROWS ONLY", " OFFSET 2"] if self.postgres else [" LIMIT -1"]
+        limit = self.random.choice(limits)
         if self._chance(0.3):
             places, limit = places[:1], ""
-        single = " UNION " not in text and " EXCEPT " not in text and " INTERSECT " not in text and "DISTINCT" not in text
-        if self.postgres and single and self._chance(0.08) and not limit:
-            self.has.add("set-returning function")
+        single = not any(word in text for word in ("UNION", "EXCEPT", "INTERSECT", "DISTINCT"))
+        if self.postgres and single and self._chance(0.15) and not limit:
             return f" ORDER BY {self._set_returning()}"
         return f" ORDER BY {', '.join(map(str, places))}{limit}"
 
@@ -175,7 +177,8 @@ class RandomBlocks:
         scope = replace(scope, place="under a set operation")
         text, outputs = self._member(scope, kinds)
         for _ in range(self.random.choice((1, 1, 2))):
-            word = self.random.choice(("UNION", "UNION ALL", "UNION ALL", "INTERSECT", "EXCEPT"))
+            words = ["UNION", "UNION ALL", "UNION ALL", "INTERSECT", "EXCEPT"]
+            word = self.random.choice(words + ["INTERSECT ALL", "EXCEPT ALL"] * self.postgres)
             text += f" {word} {self._member(scope, kinds)[0]}"
         return text, outputs
 
@@ -192,20 +195,17 @@ class RandomBlocks:
 
     def _select(self, scope: Scope, kinds: tuple[str, ...] | None) -> tuple[str, list[Column]]:
         self.selects += 1
-        if self.selects > 12:
+        if self.selects > 7:
             scope = replace(scope, depth=0)
         if self._chance(0.04):
             outputs = [(self._constant(kind), kind) for kind in kinds or ("i", "t")]
             return self._written("SELECT ", outputs, "")
         pieces = self._pieces(kinds) if kinds and self._chance(0.5) and scope.depth > 0 else None
         found = self._from(scope, pieces)
+        scope = self._visible(found, scope)
         where = self._where(found, scope)
         if pieces:
-            self.has.add(f"star {scope.place}")
-            star = "*" if len(found.entries) == len(pieces) and self._chance(0.7) else None
-            stars = ", ".join(f"{name_text(entry.alias)}.*" for entry in found.entries[: len(pieces)])
-            columns = [column for entry in found.entries[: len(pieces)] for column in entry.columns]
-            return f"SELECT {self._distinct()}{star or stars} FROM {found.text}{where}", columns
+            return self._pieces_starred(found, scope, where, len(pieces))
         if kinds is None and self._chance(0.45):
             return self._starred(found, scope, where)
         if self._chance(0.25):
@@ -215,8 +215,25 @@ class RandomBlocks:
         outputs = [(self._output(found, scope, kind), kind) for kind in wanted]
         return self._written(f"SELECT {self._distinct()}", outputs, f" FROM {found.text}{where}")
 
+    def _visible(self, found: From, scope: Scope) -> Scope:
+        """The scope without the outer entries that entries of this FROM hide."""
+        hidden = {entry.alias for entry in found.entries}
+        return replace(scope, outer=tuple(entry for entry in scope.outer if entry.alias not in hidden))
+
     def _distinct(self) -> str:
-        return "DISTINCT " if self._chance(0.12) else ""
+        """What stands behind SELECT, now and then a comment that looks like SQL."""
+        comment = self.random.choice(("/* UNION SELECT * FROM b */ ", "-- FROM (\n ")) if self._chance(0.03) else ""
+        return comment + ("DISTINCT " if self._chance(0.12) else "ALL " if self._chance(0.03) else "")
+
+    def _pieces_starred(self, found: From, scope: Scope, where: str, count: int) -> tuple[str, list[Column]]:
+        """Stars over the first entries, which have outputs of the kinds that are wanted."""
+        self.has.add(f"star {scope.place}")
+        entries = found.entries[:count]
+        stars = ", ".join(f"{name_text(entry.alias)}.*" for entry in entries)
+        if len(found.entries) == count and self._chance(0.7):
+            stars = "*"
+        columns = [column for entry in entries for column in entry.columns]
+        return f"SELECT {self._distinct()}{stars} FROM {found.text}{where}", columns
 
     def _pieces(self, kinds: tuple[str, ...]) -> list[tuple[str, ...]]:
         """The kinds in one or two pieces, each of which an entry gives to a star."""
@@ -239,6 +256,14 @@ class RandomBlocks:
         self, found: From, scope: Scope, where: str, kinds: tuple[str, ...] | None
     ) -> tuple[str, list[Column]]:
         """Aggregates, with GROUP BY and HAVING or without."""
+        keyed = [entry for entry in found.entries if entry.key]
+        if self.postgres and keyed and kinds is None and self._chance(0.3):
+            # The other columns of the table depend on its key.
+            entry = self.random.choice(keyed)
+            alias = name_text(entry.alias)
+            rest = [(f"{alias}.{name_text(column.name or '')}", column.kind) for column in entry.columns]
+            outputs = [*self.random.sample(rest, 2), (self._total(found, "i"), "i")]
+            return self._written("SELECT ", outputs, f" FROM {found.text}{where} GROUP BY {alias}.{entry.key}")
         wanted = kinds or ("i",) * self.random.choice((1, 2))
         keys: list[tuple[str, str]] = []
         for kind in self.random.choice(((), ("i",), ("i", "t"), (wanted[0],))):
@@ -249,17 +274,16 @@ class RandomBlocks:
             same = [text for text, other in keys if other == kind]
             outputs.append((self.random.choice(same) if same and self._chance(0.5) else self._total(found, kind), kind))
         by = f" GROUP BY {', '.join(text for text, _ in keys)}" if keys else ""
-        if keys and self.postgres and self._chance(0.05):
-            self.has.add("set-returning function")
+        if keys and self.postgres and self._chance(0.08):
             by += f", {self._set_returning()}"
-        having = f" HAVING {self._total(found, 'i')} > {self.random.randrange(3)}" if self._chance(0.3) and by else ""
+        having = f" HAVING {self._total(found, 'i')} > {self.random.randrange(3)}" if self._chance(0.3) else ""
         return self._written("SELECT ", outputs, f" FROM {found.text}{where}{by}{having}")
 
     def _total(self, found: From, kind: str) -> str:
         column = self._reference(found, kind)
         if kind == "t":
             return f"min({column})" if column else "CAST(count(*) AS TEXT)"
-        forms = ["count(*)"]
+        forms = ["count(*)", f"count(*) FILTER (WHERE {self._plain_condition(found)})"]
         if column:
             forms += [f"count({column})", f"max({column})", f"sum({column})", f"count(DISTINCT {column})"]
         return self.random.choice(forms)
@@ -294,7 +318,7 @@ class RandomBlocks:
 
     def _join(self, found: From, scope: Scope, kinds: tuple[str, ...] | None) -> None:
         lateral = bool(self.postgres and found.entries and scope.depth > 0 and not kinds and self._chance(0.12))
-        text, entry = self._lateral(found, scope) if lateral else self._item(scope, kinds)
+        text, entry = self._lateral(found, scope) if lateral else self._item(found, scope, kinds)
         if not found.entries:
             found.text, found.entries, found.star = text, [entry], list(entry.columns)
             return
@@ -305,6 +329,8 @@ class RandomBlocks:
             return
         if word == ",":
             found.joined_from = len(found.entries)
+        elif len(found.entries) > 1 and not found.joined_from and self._chance(0.1):
+            found.text = f"({found.text})"
         behind = replace_entries(found, found.entries[found.joined_from :])
         found.entries.append(entry)
         found.star += entry.columns
@@ -322,13 +348,13 @@ class RandomBlocks:
             return equal or "1 = 1"
         if not equal or self._chance(0.05):
             return self.random.choice(("1 = 1", "true" if self.postgres else "1", "1 = 0"))
-        own = self._plain_condition(From(entries=[self.random.choice([*behind.entries, entry])]))
+        own = self._plain_condition(From(entries=[self.random.choice([*behind.entries, entry])]), qualified=True)
         return f"{equal} AND {own}" if self._chance(0.3) else equal
 
     def _equality(self, behind: From, entry: Entry) -> str | None:
         for _ in range(4):
             kind = self.random.choice("iiit")
-            left, right = self._reference(behind, kind, qualified=True), self._reference(From(entries=[entry]), kind, True)
+            left, right = self._reference(behind, kind, True), self._reference(From(entries=[entry]), kind, True)
             if left and right:
                 return f"{left} = {right}" if self._chance(0.5) else f"{right} = {left}"
         return None
@@ -359,14 +385,17 @@ class RandomBlocks:
         found.merged += merged
         return True
 
-    def _alias(self) -> str:
+    def _alias(self, found: From) -> str:
+        """An alias that no other entry of this FROM has. Other queries may have it."""
         self.aliases += 1
-        odd = self.random.choice(("Odd", "order", "group")) if self._chance(0.08) else "e"
-        return f"{odd}{self.aliases}"
+        used = {entry.alias for entry in found.entries}
+        names = ["e1", "e2", "e3"] * 3 + ["a", "b", "tiny", "order", "Odd Name", "w0", "select", "x"]
+        free = [name for name in names if name not in used]
+        return self.random.choice(free) if self._chance(0.4) else f"e{self.aliases + 3}"
 
-    def _item(self, scope: Scope, kinds: tuple[str, ...] | None) -> tuple[str, Entry]:
+    def _item(self, found: From, scope: Scope, kinds: tuple[str, ...] | None) -> tuple[str, Entry]:
         """An entry: a table, a part of WITH, a query, or a function."""
-        alias = self._alias()
+        alias = self._alias(found)
         if kinds or (scope.depth > 0 and self._chance(0.25)):
             text, columns = self._query(replace(scope.within("in FROM"), outer=()), kinds)
             return self._aliased(f"({text})", alias, columns)
@@ -374,16 +403,17 @@ class RandomBlocks:
             name, outputs = self.random.choice(scope.parts)
             return self._aliased(name_text(name), alias, list(outputs))
         if self.postgres and self._chance(0.02):
-            self.has.add("set-returning function")
             function = self._set_returning()
             return f"{function} AS {name_text(alias)}(n)", Entry(alias, (Column("n", "i"),))
-        tables = [table for table in TABLES if table not in scope.hidden]
-        table = self.random.choice(tables)
-        columns = [Column(*column) for column in TABLES[table]]
+        # With its schema, a table is meant even where a part of WITH has its name.
+        schema = self.random.choice(("", "", "", "public." if self.postgres else "main."))
+        hidden = frozenset() if schema else scope.hidden
+        table = self.random.choice([table for table in TABLES if table not in hidden])
         key = TABLES[table][0][0] if table in KEYED else None
-        if self._chance(0.15) and not self.aliases % 3:
-            self.aliases += 1
-        return f"{name_text(table)} {self.random.choice(('AS ', ''))}{name_text(alias)}", Entry(alias, tuple(columns), key)
+        entry = Entry(alias, tuple(Column(*column) for column in TABLES[table]), key)
+        if self._chance(0.15) and not any(other.alias == table for other in found.entries):
+            return schema + name_text(table), replace(entry, alias=table)
+        return f"{schema}{name_text(table)} {self.random.choice(('AS ', ''))}{name_text(alias)}", entry
 
     def _aliased(self, text: str, alias: str, columns: list[Column]) -> tuple[str, Entry]:
         given = ""
@@ -397,7 +427,7 @@ class RandomBlocks:
         self.has.add("LATERAL")
         inner = replace(scope.within("in FROM"), outer=tuple(found.entries))
         text, columns = self._query(inner, None)
-        made, entry = self._aliased(f"({text})", self._alias(), columns)
+        made, entry = self._aliased(f"({text})", self._alias(found), columns)
         return f"LATERAL {made}", entry
 
     # ---- values and conditions
@@ -416,7 +446,8 @@ class RandomBlocks:
         names = [(other.name or "").lower() for one in found.entries for other in one.columns]
         if not qualified and names.count(column.name.lower()) == 1 and self._chance(0.3):
             return name_text(column.name)
-        return f"{name_text(entry.alias)}.{name_text(column.name)}"
+        text = f"{name_text(entry.alias)}.{name_text(column.name)}"
+        return text.upper() if self._chance(0.03) and '"' not in text else text
 
     def _outer_reference(self, scope: Scope, kind: str) -> str | None:
         if not scope.outer:
@@ -426,12 +457,10 @@ class RandomBlocks:
     def _constant(self, kind: str) -> str:
         if kind == "t":
             return "CAST('a' AS TEXT)"
-        if self.postgres and self._chance(0.1):
-            self.has.add("set-returning function")
-            return self._set_returning()
-        return str(self.random.randrange(5))
+        return self._set_returning() if self.postgres and self._chance(0.1) else str(self.random.randrange(5))
 
     def _set_returning(self) -> str:
+        self.has.add("set-returning function")
         return self.random.choice(
             ("generate_series(1, 3)", "generate_series(1, 2)", "unnest(ARRAY[1, 1, 2])", "generate_series(2, 1)")
         )
@@ -446,18 +475,22 @@ class RandomBlocks:
         if kind == "i" and scope.depth > 0 and self._chance(0.08):
             self.has.add("scalar subquery")
             return f"({self._scalar(found, scope)})"
-        if self.postgres and kind == "i" and self._chance(0.03):
+        if self.postgres and kind == "i" and self._chance(0.04):
             self.has.add("set-returning function")
-            return self._set_returning()
-        if self._chance(0.15):
-            return f"coalesce({column}, {'0' if kind == 'i' else chr(39) + 'b' + chr(39)})"
-        return f"{column} + 1" if kind == "i" and self._chance(0.1) else column
+            return f"generate_series(1, {column})" if self._chance(0.4) else self._set_returning()
+        if kind == "t" or self._chance(0.7):
+            other = "0" if kind == "i" else "'b'"
+            return f"coalesce({column}, {other})" if self._chance(0.15) else column
+        forms = [f"{column} + 1", f"CASE WHEN {self._condition(found, scope)} THEN {column} END"]
+        forms += [f"count(*) OVER (PARTITION BY {column})", f"max({column}) OVER ()"]
+        return self.random.choice(forms)
 
     def _scalar(self, found: From, scope: Scope) -> str:
         """A query with one row: an aggregate without GROUP BY."""
         inner = scope.within("of a scalar subquery", found.entries)
         own = self._from(inner, None)
-        return f"SELECT {self._total(own, 'i')} FROM {own.text}{self._where(own, inner)}"
+        where = self._where(own, self._visible(own, inner))
+        return f"SELECT {self._total(own, 'i')} FROM {own.text}{where}"
 
     def _where(self, found: From, scope: Scope) -> str:
         texts = []
@@ -476,13 +509,14 @@ class RandomBlocks:
         own, outer = self._reference(found, kind), self._outer_reference(scope, kind)
         return f"{own} {self.random.choice(('=', '=', '=', '<>', '<'))} {outer}" if own and outer else None
 
-    def _plain_condition(self, found: From) -> str:
-        number, text = self._reference(found, "i"), self._reference(found, "t")
+    def _plain_condition(self, found: From, qualified: bool = False) -> str:
+        number, text = self._reference(found, "i", qualified), self._reference(found, "t", qualified)
         forms = []
         if number:
             constant = self.random.randrange(5)
             forms += [f"{number} < {constant}", f"{number} IS NOT NULL", f"{number} IS NULL", f"{number} <> {constant}"]
-            forms += [f"{number} IN (0, {constant})", f"coalesce({number}, 0) < 4"]
+            same = "IS NOT DISTINCT FROM" if self.postgres else "IS"
+            forms += [f"{number} IN (0, {constant})", f"coalesce({number}, 0) < 4", f"{number} {same} {constant}"]
         if text:
             forms += [f"{text} LIKE 'a%'", f"{text} <> 'b'"]
         return self.random.choice(forms or ["1 = 1"])
@@ -500,7 +534,7 @@ class RandomBlocks:
         form = self.random.choice(("EXISTS", "NOT EXISTS", "IN", "IN", "NOT IN", "IN two", "scalar"))
         if form in ("EXISTS", "NOT EXISTS"):
             self.has.add("EXISTS")
-            return f"{form} ({self._select(scope.within('under EXISTS', outer), None)[0]})"
+            return f"{form} ({self._query(scope.within('under EXISTS', outer), None)[0]})"
         kinds = tuple(self.random.choice("iit") for _ in range(2 if form == "IN two" else 1))
         left = [self._reference(found, kind) or self._plain_constant(kind) for kind in kinds]
         if form == "scalar":

@@ -25,9 +25,8 @@ def taken(base: Any, randomly: RandomBlocks) -> tuple[str, Answer]:
         text = randomly.query()
         try:
             true = limited(base, text)
-        except Exception as error:
+        except Exception:
             COUNTED[f"queries of several blocks on {base.engine} that the engine itself refuses"] += 1
-            del error
             continue
         if true.rows.total() <= MOST_ROWS:
             return text, true
@@ -36,7 +35,7 @@ def taken(base: Any, randomly: RandomBlocks) -> tuple[str, Answer]:
 def limited(base: Any, text: str) -> Answer:
     """The engine's answer, if it doesn't take too long."""
     if base.engine == "postgres":
-        base.connection.execute(f"SET statement_timeout = {int(SECONDS * 1000)}")
+        base.connection.execute(f"SET jit = off; SET statement_timeout = {int(SECONDS * 1000)}")
         return answer_of(base, text)
     end = time.monotonic() + SECONDS
     base.connection.set_progress_handler(lambda: time.monotonic() > end, 10_000)
@@ -57,7 +56,7 @@ class RandomQueriesOfBlocks(OnEachEngine):
                 randomly.lay(self.base)
             text, true = taken(self.base, randomly)
             with self.subTest(number=number, query=text):
-                found = checked(self.base, text, true)
+                found = checked(self.base, text, true, run=number % 4 == 0)
                 self.assertEqual(found.faults, [], text)
                 COUNTED[head] += 1
                 for what in randomly.has:
@@ -65,7 +64,7 @@ class RandomQueriesOfBlocks(OnEachEngine):
                 COUNTED[f"{head} that are partly not bounded"] += bool(found.unbounded)
                 COUNTED[f"{head} that are refused"] += bool(found.refused)
                 refused += bool(found.refused)
-        self.assertLessEqual(refused, max(4, len(numbers) // 2))
+        self.assertLessEqual(refused, 6)
 
 
 RandomQueriesOfBlocksOnPostgres = on_postgres(RandomQueriesOfBlocks)
