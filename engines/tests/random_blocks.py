@@ -401,7 +401,7 @@ class RandomBlocks:
             return self._aliased(f"({text})", alias, columns)
         if scope.parts and self._chance(0.6):
             name, outputs = self.random.choice(scope.parts)
-            return self._aliased(name_text(name), alias, list(outputs))
+            return self._aliased(name_text(name), alias, list(outputs), given=0.03)
         if self.postgres and self._chance(0.02):
             function = self._set_returning()
             return f"{function} AS {name_text(alias)}(n)", Entry(alias, (Column("n", "i"),))
@@ -415,13 +415,14 @@ class RandomBlocks:
             return schema + name_text(table), replace(entry, alias=table)
         return f"{schema}{name_text(table)} {self.random.choice(('AS ', ''))}{name_text(alias)}", entry
 
-    def _aliased(self, text: str, alias: str, columns: list[Column]) -> tuple[str, Entry]:
-        given = ""
-        if self.postgres and self._chance(0.15):
+    def _aliased(self, text: str, alias: str, columns: list[Column], given: float = 0.15) -> tuple[str, Entry]:
+        """An entry with its alias, which in PostgreSQL may give its columns other names."""
+        names = ""
+        if self.postgres and self._chance(given):
             columns = [Column(f"c{at}", column.kind) for at, column in enumerate(columns)]
-            given = f"({', '.join(f'c{at}' for at in range(len(columns)))})"
-        word = self.random.choice(("AS ", "")) if not given else "AS "
-        return f"{text} {word}{name_text(alias)}{given}", Entry(alias, tuple(columns))
+            names = f"({', '.join(f'c{at}' for at in range(len(columns)))})"
+        word = self.random.choice(("AS ", "")) if not names else "AS "
+        return f"{text} {word}{name_text(alias)}{names}", Entry(alias, tuple(columns))
 
     def _lateral(self, found: From, scope: Scope) -> tuple[str, Entry]:
         self.has.add("LATERAL")
@@ -457,7 +458,7 @@ class RandomBlocks:
     def _constant(self, kind: str) -> str:
         if kind == "t":
             return "CAST('a' AS TEXT)"
-        return self._set_returning() if self.postgres and self._chance(0.1) else str(self.random.randrange(5))
+        return self._set_returning() if self.postgres and self._chance(0.05) else str(self.random.randrange(5))
 
     def _set_returning(self) -> str:
         self.has.add("set-returning function")
