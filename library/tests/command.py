@@ -22,6 +22,7 @@ sys.path[:0] = [os.path.join(ROOT, "python")]
 
 import safebound  # noqa: E402
 from safebound import command  # noqa: E402
+from test_arguments import Part, Tried, of_call  # noqa: E402
 
 PROGRAM = os.environ["SAFEBOUND_COMMAND"]
 SCHEMA = "CREATE TABLE R (X INTEGER NOT NULL); CREATE TABLE S (X INTEGER NOT NULL)"
@@ -36,6 +37,18 @@ FILES: dict[str, str] = {
 }
 NOTES = b"scan R 6\nscan S 5\nlevel 1 S 5\nlevel 2 R 12\n"
 ROWS = b"X\r\n" + 6 * b"1\r\n"
+
+
+class OddArguments(Tried):
+    def test_each_in_each_place(self) -> None:
+        stats = safebound.run(["stats", "schema.sql", "query.sql"], FILES).out
+        self.each_in_each_place([
+            *of_call(safebound.run, words=PLAN, files=FILES),
+            Part("words", lambda odd: safebound.run([*PLAN, odd], FILES)),
+            Part("files", lambda odd: safebound.run(PLAN, {**FILES, "r.csv": odd})),
+            *of_call(safebound.plan_stats, schema=SCHEMA, query=QUERY, stats=stats, budget=20),
+            *of_call(safebound.append_stats, schema=SCHEMA, stats=stats, table="R", rows="X\n2\n"),
+        ])
 
 
 class Texts(unittest.TestCase):

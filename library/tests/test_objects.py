@@ -230,8 +230,12 @@ class OfOneQuery(unittest.TestCase):
         query = pair()
         self.assertEqual(query.memory(Order(("s", "r"), (5, 12))), 531)
         self.assertEqual(query.memory(Tree(("r", "s"), (Join(0, 1, 12),))), 507)
-        levels: tuple[Any, ...] = (12 + 2**64, 12 - 2**64, 12.0, 12.5, 3, None, "12")
-        for level in levels:
+        broken: tuple[Any, ...] = (12.0, 12.5, None, "12", True)
+        for level in broken:
+            self.assertRaises(WrongType, Order, ("s", "r"), (5, level))
+            self.assertRaises(WrongType, Tree, ("r", "s"), (Join(0, 1, level),))
+            self.assertRaises(WrongType, Tree, ("r", "s"), (Join(level, 1, 12),))
+        for level in (12 + 2**64, 12 - 2**64, 3):
             self.refuses(query, Order(("s", "r"), (5, level)), "level 1")
             self.refuses(query, Tree(("r", "s"), (Join(0, 1, level),)), "join 0")
         for order in (
@@ -242,12 +246,10 @@ class OfOneQuery(unittest.TestCase):
             Order((), ()),
         ):
             self.refuses(query, order, "order")
-        half: Any = 0.5
         for joins in (
             (Join(0, 0, 12),),
             (Join(0, 2, 12),),
             (Join(-1, 0, 12),),
-            (Join(half, 1, 12),),
             (),
             (Join(0, 1, 12),) * 2,
         ):
@@ -308,10 +310,10 @@ class Messages(unittest.TestCase):
             ([(2**64, 1)], "the degree of run 0 is 18446744073709551616, which isn't from 1 to 2**48"),
         ]:
             asks: list[tuple[Callable[[], object], str]] = [
-                (lambda: safebound.compress(runs, 1), ""),
-                (lambda: safebound.append(runs, []), ""),
-                (lambda: safebound.append([], runs), "second list: "),
-                (lambda: pair(lists={**GIVEN["lists"], R: runs}).bounds(), "r.x: "),
+                (lambda: safebound.compress(runs, 1), "runs: "),
+                (lambda: safebound.append(runs, []), "runs: "),
+                (lambda: safebound.append([], runs), "others: "),
+                (lambda: pair(lists={**GIVEN["lists"], R: runs}).bounds(), "lists: r.x: "),
             ]
             for ask, head in asks:
                 with self.assertRaises(errors.BadRun) as caught:
@@ -320,17 +322,26 @@ class Messages(unittest.TestCase):
 
     def test_of_queries(self) -> None:
         cases: list[tuple[dict[str, Any], str]] = [
-            (dict(row_bounds={"r": 6}), "entry 's' has no row bound"),
+            (dict(row_bounds={"r": 6}), "row_bounds: entry 's' has none"),
             (
                 dict(row_bounds={"r": 6, "s": 2**48 + 1}),
-                "the row bound of entry 's' is 281474976710657, which isn't from 0 to 2**48",
+                "row_bounds: that of entry 's' is 281474976710657, which isn't from 0 to 2**48",
             ),
-            (dict(row_bounds={"r": -1, "s": 5}), "the row bound of entry 'r' is -1, which isn't from 0 to 2**48"),
-            (dict(equalities=[(R, S), (R, ("t", "y"))]), "equality 1, r.x = t.y, names 't', which is no entry"),
-            (dict(equalities=[(R, S), (R, ("r", "y"))]), "equality 1, r.x = r.y, has one entry on both sides"),
-            (dict(lists={R: [(3, 2)]}), "s.x of equality 0, r.x = s.x, has no list"),
-            (dict(lists={**GIVEN["lists"], ("t", "y"): []}), "there is a list of t.y, and no entry 't'"),
-            (dict(entries=["r", "s", "r"]), "entry 'r' comes twice"),
+            (
+                dict(row_bounds={"r": -1, "s": 5}),
+                "row_bounds: that of entry 'r' is -1, which isn't from 0 to 2**48",
+            ),
+            (
+                dict(equalities=[(R, S), (R, ("t", "y"))]),
+                "equalities: equality 1, r.x = t.y, names 't', which is no entry",
+            ),
+            (
+                dict(equalities=[(R, S), (R, ("r", "y"))]),
+                "equalities: equality 1, r.x = r.y, has one entry on both sides",
+            ),
+            (dict(lists={R: [(3, 2)]}), "lists: s.x of equality 0, r.x = s.x, has none"),
+            (dict(lists={**GIVEN["lists"], ("t", "y"): []}), "lists: there is one of t.y, and no entry 't'"),
+            (dict(entries=["r", "s", "r"]), "entries: entry 'r' comes twice"),
         ]
         for changed, words in cases:
             with self.assertRaises(safebound.WrongValue) as caught:

@@ -82,7 +82,7 @@ class Errors(unittest.TestCase):
         for number in (-1, 2**64):
             for rows in ((number, 6, 5), (12, number, 5), (12, 6, number)):
                 self.raises(safebound.BadRows, number, lambda: safebound.joined_rows("semi", *rows))
-        kinds = ("left", "right", "full", "semi", "anti")
+        kinds: tuple[safebound.JoinKind, ...] = ("left", "right", "full", "semi", "anti")
         self.assertEqual([safebound.joined_rows(kind, 12, 6, 5) for kind in kinds], [18, 17, 23, 6, 6])
         self.assertEqual([safebound.joined_rows(kind, None, 6, 5) for kind in kinds], [None, None, None, 6, 6])
 

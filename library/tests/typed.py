@@ -7,7 +7,7 @@ from __future__ import annotations
 from typing import Dict, FrozenSet, List, Literal, NewType, Optional, Tuple
 
 from safebound import Bounds, Join, Order, Plan, Query, Run, Tree, append, compress, cut, degree_sequence, greater
-from safebound import joined_rows, lesser, plan_stats, run
+from safebound import JoinKind, joined_rows, lesser, plan_stats, run
 
 entries: List[str] = ["r", "s"]
 equalities: List[Tuple[Tuple[str, str], Tuple[str, str]]] = [(("r", "x"), ("s", "x"))]
@@ -40,6 +40,8 @@ known: int = query.row_bounds["r"]
 both: List[Run] = append(lists["r", "x"], [(3, 2)])
 few: List[Run] = cut(lesser(both, greater(both, [(3, 2)])), 7)
 rows_at_most: Optional[int] = joined_rows("left", bounds[{"r", "s"}], 6, None)
+kind: JoinKind = "semi"
+rows_with_a_match: Optional[int] = joined_rows(kind, 12, 6, 5)
 files: Dict[str, bytes] = {"schema.sql": b""}
 status: int = run(["plan", b"schema.sql"], files).status
 plan: Plan = plan_stats("", b"", b"", budget=3)
@@ -52,4 +54,5 @@ query.memory(12)  # wrong
 run([1, 2], files)  # wrong
 compress([3, 2], 8)  # wrong
 joined_rows("left", 12.5, 6, 5)  # wrong
+joined_rows("inner", 12, 6, 5)  # wrong
 degree_sequence([[1], [2]])  # wrong

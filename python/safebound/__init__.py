@@ -21,9 +21,9 @@ from .command import Output, Plan, append_stats, plan_stats, run
 from .errors import (
     BadAccuracy, BadBounds, BadBudget, BadEntries, BadEqualities, BadEquality, BadJoinKind, BadKeys, BadLimit,
     BadList, BadOtherRun, BadPlan, BadRows, BadRun, BadSum, BudgetExceeded, LibraryNotFound, MissingList,
-    OutOfMemory, PastBits, Refused, SafeBoundError, WorkExceeded, WrongType, WrongValue
+    OutOfMemory, PastBits, Refused, SafeBoundError, UnknownEntry, WorkExceeded, WrongType, WrongValue
 )
-from .joins import joined_rows
+from .joins import JoinKind, joined_rows
 from .lists import Run, Runs, append, compress, cut, degree_sequence, greater, lesser
 from .plans import Join, Order, Tree
 from .query import NO_VALUES, Column, Query
@@ -31,9 +31,9 @@ from .query import NO_VALUES, Column, Query
 __all__ = [
     "BadAccuracy", "BadBounds", "BadBudget", "BadEntries", "BadEqualities", "BadEquality", "BadJoinKind", "BadKeys",
     "BadLimit", "BadList", "BadOtherRun", "BadPlan", "BadRows", "BadRun", "BadSum", "BudgetExceeded",
-    "LibraryNotFound", "MissingList", "OutOfMemory", "PastBits", "Refused", "SafeBoundError", "WorkExceeded",
-    "WrongType", "WrongValue"
+    "LibraryNotFound", "MissingList", "OutOfMemory", "PastBits", "Refused", "SafeBoundError", "UnknownEntry",
+    "WorkExceeded", "WrongType", "WrongValue"
 ]
-__all__ += ["NO_VALUES", "Bounds", "Column", "Join", "Order", "Output", "Plan", "Query", "Run", "Runs", "Tree"]
-__all__ += ["__version__", "append", "append_stats", "compress", "cut", "degree_sequence", "greater", "joined_rows"]
-__all__ += ["lesser", "path", "plan_stats", "run", "version"]
+__all__ += ["NO_VALUES", "Bounds", "Column", "Join", "JoinKind", "Order", "Output", "Plan", "Query", "Run", "Runs"]
+__all__ += ["Tree", "__version__", "append", "append_stats", "compress", "cut", "degree_sequence", "greater"]
+__all__ += ["joined_rows", "lesser", "path", "plan_stats", "run", "version"]

@@ -5,7 +5,6 @@ from __future__ import annotations
 import ctypes
 import ctypes.util
 import functools
-import operator
 import os
 import platform
 import sys
@@ -14,12 +13,12 @@ from pathlib import Path
 from typing import Any, Iterator, Sequence
 
 from . import errors
+from .arguments import MOST as MOST
 from .limits import MOST_ACCURACY, MOST_ENTRIES, MOST_EQUALITIES
 from ._version import VERSION as VERSION
 
 NAME, VARIABLE = "libsafebound.so", "SAFEBOUND_LIBRARY"
-NO_BOUND = NO_VALUES = 2**64 - 1
-MOST = 2**64 - 1
+NO_BOUND = NO_VALUES = MOST
 
 _Number = ctypes.c_uint64
 
@@ -53,26 +52,25 @@ class Status:
      BAD_JOIN_KIND) = range(16, 35)
 
 
+# A message begins with the argument of the package's calls.
 WRONG = {
-    Status.BAD_KEYS: (errors.BadKeys, "{} keys are more than 2**48"),
-    Status.BAD_ACCURACY: (errors.BadAccuracy, f"an accuracy is from 1 to {MOST_ACCURACY}, not {{}}"),
-    Status.BAD_RUN: (errors.BadRun, "run {} is of nothing, rises, or sums to more than 2**48"),
-    Status.BAD_OTHER_RUN: (
-        errors.BadOtherRun, "run {} of the second list is of nothing, rises, or sums to more than 2**48"
-    ),
-    Status.BAD_SUM: (errors.BadSum, "what both lists make has {} rows, more than 2**48"),
-    Status.BAD_ENTRIES: (errors.BadEntries, f"a query has 1 to {MOST_ENTRIES} entries, not {{}}"),
-    Status.BAD_ROWS: (errors.BadRows, "the row bound of entry {} isn't from 0 to 2**48"),
-    Status.BAD_EQUALITIES: (errors.BadEqualities, f"a query has at most {MOST_EQUALITIES} equalities, not {{}}"),
-    Status.BAD_EQUALITY: (errors.BadEquality, "equality {} isn't of two different entries of the query"),
-    Status.BAD_LIST: (errors.BadList, "list {} is of an entry that isn't there, has no runs, or comes twice"),
-    Status.MISSING_LIST: (errors.MissingList, "a column of equality {} has no list"),
-    Status.BAD_BOUNDS: (errors.BadBounds, f"there are 2**n bounds, n from 1 to {MOST_ENTRIES}, not {{}}"),
-    Status.BAD_BUDGET: (errors.BadBudget, "a budget is from 0 to 2**59, not {}"),
-    Status.BAD_LEVELS: (errors.BadPlan, "an order has a level for each entry, not {}"),
-    Status.BAD_LEVEL: (errors.BadPlan, "level {} is of an entry that isn't there"),
-    Status.BAD_JOINS: (errors.BadPlan, "a tree has one join fewer than entries, not {}"),
-    Status.BAD_JOIN: (errors.BadPlan, "join {} is of a node that doesn't stand before it"),
+    Status.BAD_KEYS: (errors.BadKeys, "values: {} are more than 2**48"),
+    Status.BAD_ACCURACY: (errors.BadAccuracy, f"accuracy: it is from 1 to {MOST_ACCURACY}, not {{}}"),
+    Status.BAD_RUN: (errors.BadRun, "runs: run {} is of nothing, rises, or sums to more than 2**48"),
+    Status.BAD_OTHER_RUN: (errors.BadOtherRun, "others: run {} is of nothing, rises, or sums to more than 2**48"),
+    Status.BAD_SUM: (errors.BadSum, "runs and others: what both make has {} rows, more than 2**48"),
+    Status.BAD_ENTRIES: (errors.BadEntries, f"entries: a query has 1 to {MOST_ENTRIES}, not {{}}"),
+    Status.BAD_ROWS: (errors.BadRows, "row_bounds: that of entry {} isn't from 0 to 2**48"),
+    Status.BAD_EQUALITIES: (errors.BadEqualities, f"equalities: a query has at most {MOST_EQUALITIES}, not {{}}"),
+    Status.BAD_EQUALITY: (errors.BadEquality, "equalities: equality {} isn't of two different entries of the query"),
+    Status.BAD_LIST: (errors.BadList, "lists: list {} is of an entry that isn't there, has no runs, or comes twice"),
+    Status.MISSING_LIST: (errors.MissingList, "lists: a column of equality {} has none"),
+    Status.BAD_BOUNDS: (errors.BadBounds, f"numbers: there are 2**n bounds, n from 1 to {MOST_ENTRIES}, not {{}}"),
+    Status.BAD_BUDGET: (errors.BadBudget, "budget: it is from 0 to 2**59, not {}"),
+    Status.BAD_LEVELS: (errors.BadPlan, "plan: an order has a level for each entry, not {}"),
+    Status.BAD_LEVEL: (errors.BadPlan, "plan: level {} is of an entry that isn't there"),
+    Status.BAD_JOINS: (errors.BadPlan, "plan: a tree has one join fewer than entries, not {}"),
+    Status.BAD_JOIN: (errors.BadPlan, "plan: join {} is of a node that doesn't stand before it"),
 }
 
 
@@ -243,17 +241,3 @@ def raise_for(status: int, detail: int) -> None:
         raise errors.PastBits("each plan has a part without a bound")
     kind, message = WRONG[status]
     raise kind(message.format(detail), detail)
-
-
-def whole_number(value: object) -> int | None:
-    """The number, or None if 64 bits can't hold it. Integers of other types, such as numpy's, are accepted; floats
-    aren't.
-
-    Raises:
-        WrongType: it isn't a whole number.
-    """
-    try:
-        number = operator.index(value)  # type: ignore[arg-type]
-    except TypeError:
-        raise errors.WrongType(f"{value!r} is no whole number") from None
-    return number if 0 <= number <= MOST else None

@@ -3,11 +3,12 @@
 from __future__ import annotations
 
 from collections.abc import Collection, Mapping
-from typing import Dict, FrozenSet, Iterator, Optional, Sequence
+from typing import Dict, FrozenSet, Iterable, Iterator, Optional, Sequence, Tuple
 
 from ._library import NO_BOUND
 from ._tables import text_table
-from .errors import WrongType
+from .arguments import items_of, names_of, set_of, shown, whole_number
+from .errors import BadBounds
 
 __all__ = ["Bounds"]
 
@@ -18,6 +19,13 @@ _MOST_SHOWN = 16
 def rows_text(bound: Optional[int]) -> object:
     """A bound as a printed table shows it."""
     return "no bound" if bound is None else bound
+
+
+def _checked(number: object) -> int:
+    found = whole_number("numbers", number)
+    if found is None:
+        raise BadBounds(f"numbers: {shown(number)} isn't from 0 to 2**64 - 1", number)
+    return found
 
 
 class Bounds(Mapping[FrozenSet[str], Optional[int]]):
@@ -37,16 +45,27 @@ class Bounds(Mapping[FrozenSet[str], Optional[int]]):
     """
 
     def __init__(self, entries: Sequence[str], numbers: Sequence[int]) -> None:
-        self.entries = tuple(entries)
+        names = names_of("entries", entries)
+        found = tuple(map(_checked, items_of("numbers", numbers, "bounds")))
+        if len(found) != 1 << len(names):
+            said = f"numbers: {len(names)} entries have {1 << len(names)} bounds, not {len(found)}"
+            raise BadBounds(said, len(found))
+        self._keep(names, found)
+
+    @classmethod
+    def _of(cls, entries: Tuple[str, ...], numbers: Iterable[int]) -> Bounds:
+        """The bounds as the library gave them, which aren't checked again."""
+        made = cls.__new__(cls)
+        made._keep(entries, tuple(numbers))
+        return made
+
+    def _keep(self, entries: Tuple[str, ...], numbers: Tuple[int, ...]) -> None:
+        self.entries = entries
         self._bit: Dict[str, int] = {entry: 1 << at for at, entry in enumerate(entries)}
-        self._numbers = tuple(numbers)
+        self._numbers = numbers
 
     def __getitem__(self, entries: Collection[str]) -> Optional[int]:
-        if isinstance(entries, (str, bytes)) or not isinstance(entries, Collection):
-            raise WrongType(
-                f"a set of entries is a collection of their names, such as {{{entries!r}}}, and not {entries!r}"
-            )
-        return self._bound(sum(self._bit[entry] for entry in set(entries)))
+        return self._bound(set_of(entries, self._bit))
 
     def _bound(self, bits: int) -> Optional[int]:
         return None if self._numbers[bits] == NO_BOUND else self._numbers[bits]

@@ -11,6 +11,7 @@ from array import array
 from collections.abc import Mapping, Set
 from typing import Any, Iterable, Optional
 
+from .arguments import is_text
 from .errors import WrongType
 
 __all__ = ["keys_of"]
@@ -37,27 +38,27 @@ def keys_of(values: object) -> Any:
 def _refuse_what_is_no_column(values: object) -> None:
     """Raises WrongType unless there is one value for each row. Counting other values would make bounds too low."""
     kind = type(values).__name__
-    if isinstance(values, (str, bytes, bytearray)) or _is_view_of_text(values):
-        raise WrongType(f"{kind} is a text and no column: a column has one value for each row")
+    if is_text(values):
+        raise WrongType(f"values: {kind} is a text and no column: a column has one value for each row")
     if isinstance(values, Mapping):
-        raise WrongType(f"{kind} is a mapping and no column: give the values of one column")
+        raise WrongType(f"values: {kind} is a mapping and no column: give the values of one column")
     if isinstance(values, Set):
-        raise WrongType(f"{kind} has each value once, and a column has one for each row: give a list")
+        raise WrongType(f"values: {kind} has each value once, and a column has one for each row: give a list")
+    if isinstance(values, type):
+        raise WrongType(f"values: {values.__name__} is a type and no column")
     dimensions = _dimensions(values)
     if dimensions not in (None, 1):
-        raise WrongType(f"{kind} has {dimensions} dimensions, and a column has one: give one of its columns")
-
-
-def _is_view_of_text(values: object) -> bool:
-    return isinstance(values, memoryview) and values.itemsize == 1 and isinstance(values.obj, (bytes, bytearray))
+        raise WrongType(f"values: {kind} has {dimensions} dimensions, and a column has one: give one of its columns")
 
 
 def _dimensions(values: object) -> Optional[int]:
     """The number of dimensions of the values, or None if they don't say."""
-    told = getattr(values, "ndim", None)
+    try:
+        told, shape = getattr(values, "ndim", None), getattr(values, "shape", None)
+    except Exception as error:
+        raise WrongType(f"values: {type(values).__name__} is no column: {error}") from error
     if isinstance(told, int):
         return told
-    shape = getattr(values, "shape", None)
     if isinstance(shape, tuple):
         return len(shape)
     view = _view(values)
@@ -74,7 +75,7 @@ def _of_pandas(values: object) -> Any:
     try:
         numbers = pandas.factorize(values)[0]
     except TypeError as error:
-        raise WrongType(f"a value of this {type(values).__name__} isn't one of a column: {error}") from error
+        raise WrongType(f"values: a value of this {type(values).__name__} isn't one of a column: {error}") from error
     return numbers[numbers >= 0]
 
 
@@ -107,7 +108,7 @@ def _python_values(values: object) -> Iterable[object]:
     try:
         iter(listed)
     except TypeError:
-        raise WrongType(f"{type(values).__name__} is no column: a column has one value for each row") from None
+        raise WrongType(f"values: {type(values).__name__} is no column: a column has one value for each row") from None
     return listed  # type: ignore[no-any-return]
 
 
@@ -119,26 +120,14 @@ def _numbers_for(values: Iterable[object]) -> array[int]:
     absent = getattr(sys.modules.get("pandas"), "NA", None)
     numbers: dict[object, int] = {}
     keys = array("Q")
-    place, value = -1, None
-    try:
-        for place, value in enumerate(values):
+    for place, value in enumerate(values):
+        try:
             if value is not None and value is not absent and value == value:
                 keys.append(numbers.setdefault(value, len(numbers)))
-    except (TypeError, ValueError) as error:
-        if _is_hashable(value):
-            raise
-        raise WrongType(
-            f"value {place} is of {type(value).__name__}, which isn't one value of a column: {error}"
-        ) from error
+        except (TypeError, ValueError, ArithmeticError) as error:
+            what = f"is of {type(value).__name__}, which isn't one value of a column: {error}"
+            raise WrongType(f"values: value {place} {what}") from error
     return keys
-
-
-def _is_hashable(value: object) -> bool:
-    try:
-        hash(value)
-    except TypeError:
-        return False
-    return True
 
 
 def _view(values: object) -> Optional[memoryview]:

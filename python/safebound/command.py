@@ -7,7 +7,8 @@ import functools
 from typing import Any, Iterable, List, Mapping, NamedTuple, Optional, SupportsIndex, Tuple, TypeVar, Union
 
 from . import errors
-from ._library import find, load, other_version, whole_number
+from ._library import find, load, other_version
+from .arguments import rows_of, shown, whole_number
 from ._version import VERSION
 from .plan_texts import read_plan
 from .plans import Order
@@ -61,27 +62,34 @@ def _library() -> ctypes.CDLL:
     return found
 
 
-def _text(value: Any, what: str) -> _Text:
-    """The bytes of a text, as the library takes them.
-
-    The structure keeps the bytes alive. Other types are refused, since `bytes` would accept even a list of numbers.
-    """
+def _bytes(head: str, value: Any) -> bytes:
+    """The bytes of a text. Other types are refused, since `bytes` would accept even a list of numbers."""
     if not isinstance(value, (str, bytes, bytearray, memoryview)):
-        raise errors.WrongType(f"{what} is {value!r:.60}, and not a text or bytes")
-    held = value.encode("utf-8", "surrogateescape") if isinstance(value, str) else bytes(value)
+        raise errors.WrongType(f"{head}: {shown(value)} is no text and no bytes")
+    try:
+        return value.encode("utf-8", "surrogateescape") if isinstance(value, str) else bytes(value)
+    except ValueError as error:
+        raise errors.WrongValue(f"{head}: it has no bytes: {error}", None) from None
+
+
+def _text(head: str, value: Any) -> _Text:
+    """A text as the library takes it. The structure keeps the bytes alive."""
+    held = _bytes(head, value)
     return _Text(held, len(held))
 
 
 def _words(words: Any) -> List[_Text]:
-    if isinstance(words, (str, bytes, bytearray, memoryview)) or not isinstance(words, Iterable):
-        raise errors.WrongType(f"words are a list of texts, and not {words!r:.60}")
-    return [_text(word, f"word {place}") for place, word in enumerate(words)]
+    if isinstance(words, memoryview):
+        raise errors.WrongType(f"words: {shown(words)} is no list of texts")
+    return [_text(f"words: word {place}", word) for place, word in enumerate(rows_of("words", words, "texts"))]
 
 
 def _files(files: Any) -> List[_File]:
     if not isinstance(files, Mapping):
-        raise errors.WrongType(f"files are a mapping from names to texts, and not {type(files).__name__}")
-    return [_File(_text(name, "a file's name"), _text(data, f"file {name!r}")) for name, data in files.items()]
+        raise errors.WrongType(f"files: {shown(files)} is no mapping from names to texts")
+    return [
+        _File(_text("files: a name", name), _text(f"files: file {shown(name)}", data)) for name, data in files.items()
+    ]
 
 
 def run(words: Iterable[Text], files: Mapping[_Name, Text]) -> Output:
@@ -109,8 +117,9 @@ def run(words: Iterable[Text], files: Mapping[_Name, Text]) -> Output:
     Output(status=8, out=b'', notes=b'error budget 3\\n')
 
     Raises:
-        WrongType: a word, a name or a file is neither a text nor bytes, or a single text was given in place of a list
-            of words.
+        WrongType: a word, a name or a file is neither a text nor bytes, or a text, a set or a mapping was given in
+            place of a list of words.
+        WrongValue: a text has half a surrogate pair, which no bytes stand for.
         LibraryNotFound: libsafebound_command.so doesn't exist, or has another version.
     """
     given, named = _words(words), _files(files)
@@ -162,7 +171,8 @@ def plan_stats(schema: Text, query: Text, stats: Text, budget: Optional[Supports
     """
     words = ["plan", "schema", "query", "--stats", "stats"]
     words += ["--budget", str(_budget(budget))] if budget is not None else []
-    output = run(words, {"schema": schema, "query": query, "stats": stats})
+    files = {"schema": _bytes("schema", schema), "query": _bytes("query", query), "stats": _bytes("stats", stats)}
+    output = run(words, files)
     if output.status:
         raise _refusal(output)
     plan = read_plan(output.notes.decode())
@@ -195,17 +205,19 @@ def append_stats(schema: Text, stats: Text, table: str, rows: Text) -> bytes:
         LibraryNotFound: libsafebound_command.so doesn't exist, or has another version.
     """
     if not isinstance(table, str):
-        raise errors.WrongType(f"table is {table!r}, and not a name")
-    output = run(["append", "--", "schema", "stats", table, "rows"], {"schema": schema, "stats": stats, "rows": rows})
+        raise errors.WrongType(f"table: {shown(table)} is no name")
+    words: List[Text] = ["append", "--", "schema", "stats", _bytes("table", table), "rows"]
+    files = {"schema": _bytes("schema", schema), "stats": _bytes("stats", stats), "rows": _bytes("rows", rows)}
+    output = run(words, files)
     if output.status:
         raise _refusal(output)
     return output.out
 
 
 def _budget(budget: SupportsIndex) -> int:
-    number = whole_number(budget)
+    number = whole_number("budget", budget)
     if number is None:
-        raise errors.BadBudget(f"a budget is from 1 to 20,000,000, not {budget}", budget)
+        raise errors.BadBudget(f"budget: it is from 1 to 20,000,000, not {shown(budget)}", budget)
     return number
 
 

@@ -62,11 +62,13 @@ class WorkExceeded(SafeBoundError):
 
 
 class WrongType(SafeBoundError, TypeError):
-    """An argument has a type that the call doesn't accept. The call guesses nothing from it."""
+    """An argument has a type that the call doesn't accept. The call guesses nothing from it. The message begins with
+    the argument's name.
+    """
 
 
 class WrongValue(SafeBoundError, ValueError):
-    """A value that isn't valid.
+    """A value that isn't valid. The message begins with the name of the argument.
 
     Attributes:
         place: which value; the subclass says of what.
@@ -114,6 +116,10 @@ class BadEntries(WrongValue):
     """
 
 
+class UnknownEntry(BadEntries, KeyError):
+    """A set of entries has a name that isn't the name of an entry. `place` is the name."""
+
+
 class BadRows(WrongValue):
     """An entry has no row bound, or one that isn't from 0 to 2**48. `place` is the entry."""
 
@@ -136,7 +142,9 @@ class MissingList(WrongValue):
 
 
 class BadBounds(WrongValue):
-    """There aren't 2**n bounds for an n from 1 to 16. `place` is their number."""
+    """There aren't 2**n bounds for an n from 1 to 16, or one isn't from 0 to 2**64 - 1. `place` is how many there are,
+    or the bound.
+    """
 
 
 class BadPlan(WrongValue):

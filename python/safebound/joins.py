@@ -2,20 +2,23 @@
 
 from __future__ import annotations
 
-from typing import Optional, SupportsIndex
+from typing import Literal, Optional, SupportsIndex
 
 from . import _library
 from ._library import NO_BOUND
+from .arguments import shown, whole_number
 from .errors import BadJoinKind, BadRows
 
-__all__ = ["joined_rows"]
+__all__ = ["JoinKind", "joined_rows"]
+
+JoinKind = Literal["left", "right", "full", "semi", "anti"]
 
 # The numbers are those of safebound.h.
 _KINDS = {"left": 1, "right": 2, "full": 3, "semi": 4, "anti": 5}
 
 
 def joined_rows(
-    kind: str, inner: Optional[SupportsIndex], left: Optional[SupportsIndex], right: Optional[SupportsIndex]
+    kind: JoinKind, inner: Optional[SupportsIndex], left: Optional[SupportsIndex], right: Optional[SupportsIndex]
 ) -> Optional[int]:
     """How many rows an outer join, a semi-join or an anti-join has at most.
 
@@ -34,21 +37,23 @@ def joined_rows(
     Raises:
         BadJoinKind: there is no such kind.
         BadRows: a bound isn't from 0 to 2**64 - 1.
+        WrongType: a bound isn't a whole number.
 
     >>> joined_rows("left", inner=12, left=6, right=5)
     18
     """
     if not isinstance(kind, str) or kind not in _KINDS:
-        raise BadJoinKind(f"a join is {', '.join(_KINDS)}, not {kind!r}", kind)
-    status, rows = _library.ask("joined_rows", [_KINDS[kind], _bound(inner), _bound(left), _bound(right)])
+        raise BadJoinKind(f"kind: a join is {', '.join(_KINDS)}, not {shown(kind)}", kind)
+    bounds = [_bound("inner", inner), _bound("left", left), _bound("right", right)]
+    status, rows = _library.ask("joined_rows", [_KINDS[kind], *bounds])
     _library.raise_for(status, rows)
     return None if rows == NO_BOUND else rows
 
 
-def _bound(rows: Optional[SupportsIndex]) -> int:
+def _bound(argument: str, rows: Optional[SupportsIndex]) -> int:
     if rows is None:
         return NO_BOUND
-    number = _library.whole_number(rows)
+    number = whole_number(argument, rows)
     if number is None:
-        raise BadRows(f"a bound is from 0 to 2**64 - 1, not {rows}", rows)
+        raise BadRows(f"{argument}: a bound is from 0 to 2**64 - 1, not {shown(rows)}", rows)
     return number

@@ -2,11 +2,13 @@
 
 from __future__ import annotations
 
+from collections.abc import Mapping, Set
 from math import isqrt
 from typing import Any, Hashable, Iterable, NamedTuple, Sequence, SupportsIndex, Tuple
 
 from . import _library
 from ._library import Status
+from .arguments import is_text, rows_of, shown, whole_number
 from .columns import keys_of
 from .errors import BadAccuracy, BadOtherRun, BadRows, BadRun, WrongType
 
@@ -63,15 +65,16 @@ def compress(runs: Runs, accuracy: SupportsIndex) -> list[Run]:
         the list.
 
     Raises:
+        WrongType: the runs are a set, a mapping or a text, or a number isn't whole; likewise for the other calls.
         BadAccuracy, BadRun: a value isn't valid.
         OutOfMemory: there was too little memory.
 
     >>> compress([(5, 1), (4, 1), (3, 1), (1, 1)], 1)
     [Run(degree=5, keys=2), Run(degree=3, keys=1)]
     """
-    given, number = encoded(runs), _library.whole_number(accuracy)
+    given, number = encoded(runs), whole_number("accuracy", accuracy)
     if number is None:
-        raise BadAccuracy(f"an accuracy is from 1 to 64, not {accuracy}", accuracy)
+        raise BadAccuracy(f"accuracy: it is from 1 to 64, not {shown(accuracy)}", accuracy)
     return _runs_of("compress", [given, len(given), number], len(given) + 1, given)
 
 
@@ -164,23 +167,22 @@ def cut(runs: Runs, rows: SupportsIndex) -> list[Run]:
     >>> cut([(5, 1), (4, 1)], 7)
     [Run(degree=5, keys=1), Run(degree=2, keys=1)]
     """
-    given, number = encoded(runs), _library.whole_number(rows)
+    given, number = encoded(runs), whole_number("rows", rows)
     if number is None:
-        raise BadRows(f"a number of rows is from 0 to 2**64 - 1, not {rows}", rows)
+        raise BadRows(f"rows: their number is from 0 to 2**64 - 1, not {shown(rows)}", rows)
     return _runs_of("cut", [given, len(given), number], len(given) + 1, given)
 
 
 def encoded(runs: Runs, error: type[BadRun] = BadRun, column: object = None) -> Any:
     """The runs as the library takes them. Numbers that 64 bits can't hold are refused."""
-    if not isinstance(runs, Iterable):
-        raise WrongType(f"{_message_head(error, column)}{type(runs).__name__} is no list of runs")
+    head = _message_head(error, column)
     pairs = []
-    for place, run in enumerate(runs):
-        degree, keys = _pair(run, place, _message_head(error, column))
-        pair = (_library.whole_number(degree), _library.whole_number(keys))
+    for place, run in enumerate(rows_of(head, runs, "runs")):
+        degree, keys = _pair(run, place, head)
+        pair = (whole_number(f"{head}: run {place}", degree), whole_number(f"{head}: run {place}", keys))
         if None in pair:
             what, number = ("degree", degree) if pair[0] is None else ("number of keys", keys)
-            said = f"{_message_head(error, column)}the {what} of run {place} is {number}, which isn't from 1 to 2**48"
+            said = f"{head}: the {what} of run {place} is {shown(number)}, which isn't from 1 to 2**48"
             raise error(said, place, column)
         pairs.append(pair)
     return _library.array_of(_library.Run, pairs)
@@ -196,22 +198,30 @@ def wrong_run(runs: Sequence[Any], place: int, error: type[BadRun] = BadRun, col
         why = f"the list rises at run {place}: degree {degree} after {before}"
     else:
         why = f"at run {place} the list sums to more than 2**48 rows"
-    return error(_message_head(error, column) + why, place, column)
+    return error(f"{_message_head(error, column)}: {why}", place, column)
 
 
 def _message_head(error: type[BadRun], column: object) -> str:
-    """The beginning of a message on a list. If there are several lists, it says which one."""
+    """The beginning of a message on a list: the argument's name, and in a query the column."""
     if isinstance(column, tuple):
-        return f"{column[0]}.{column[1]}: "
-    return "second list: " if error is BadOtherRun else ""
+        return f"lists: {column_text(column)}"
+    return "others" if error is BadOtherRun else "runs"
+
+
+def column_text(column: tuple[Any, ...]) -> str:
+    """A column as messages and tables show it. The parts may be of any type."""
+    return ".".join(part if isinstance(part, str) else shown(part) for part in column)
 
 
 def _pair(run: Any, place: int, head: str) -> tuple[Any, Any]:
+    """The degree and the number of keys of a run. In a set both would be in any order, or one number."""
     try:
-        degree, keys = run
+        if not is_text(run) and not isinstance(run, (Mapping, Set)):
+            degree, keys = run
+            return degree, keys
     except (TypeError, ValueError):
-        raise WrongType(f"{head}run {place} is {run!r}, and not a pair of a degree and a number of keys") from None
-    return degree, keys
+        pass
+    raise WrongType(f"{head}: run {place} is {shown(run)}, and not a pair of a degree and a number of keys")
 
 
 def _of_both(name: str, runs: Runs, others: Runs, times: int) -> list[Run]:

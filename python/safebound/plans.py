@@ -2,10 +2,11 @@
 
 from __future__ import annotations
 
-from typing import TYPE_CHECKING, NamedTuple, Optional, Tuple, Union
+from typing import TYPE_CHECKING, Any, Iterable, NamedTuple, Optional, SupportsIndex, Tuple, Union
 
 from ._tables import text_table
-from .errors import BadPlan
+from .arguments import index_of, is_text, rows_of, shown
+from .errors import BadPlan, WrongType
 
 if TYPE_CHECKING:
     from .query import Query
@@ -36,6 +37,14 @@ class _OfQuery:
         return self._query.explain(self)  # type: ignore[arg-type]
 
 
+def _names(entries: object) -> Tuple[str, ...]:
+    names = tuple(rows_of("entries", entries, "names"))
+    wrong = next((name for name in names if not isinstance(name, str)), None)
+    if wrong is not None or None in names:
+        raise WrongType(f"entries: {shown(wrong)} is no name")
+    return names
+
+
 class _OrderParts(NamedTuple):
     entries: Tuple[str, ...]
     levels: Tuple[int, ...]
@@ -50,9 +59,19 @@ class Order(_OfQuery, _OrderParts):
         2  r                 12
     """
 
+    def __new__(cls, entries: Iterable[str], levels: Iterable[SupportsIndex]) -> Order:
+        numbers = (index_of("levels", level) for level in rows_of("levels", levels, "bounds"))
+        return _OrderParts.__new__(cls, _names(entries), tuple(numbers))
+
     @property
     def cost(self) -> int:
-        """The largest bound of a level. It is the least budget that admits this order."""
+        """The largest bound of a level. It is the least budget that admits this order.
+
+        Raises:
+            BadPlan: the order has no level.
+        """
+        if not self.levels:
+            raise BadPlan("levels: the order has none", 0)
         return max(self.levels)
 
     def __str__(self) -> str:
@@ -66,6 +85,16 @@ class Join(NamedTuple):
     left: int
     right: int
     bound: int
+
+
+def _join(place: int, given: Any) -> Join:
+    """A join, from three numbers."""
+    head = f"joins: join {place}"
+    if not is_text(given):
+        numbers = [index_of(head, number) for number in rows_of(head, given, "numbers")]
+        if len(numbers) == 3:
+            return Join(*numbers)
+    raise WrongType(f"{head} is {shown(given)}, and not two nodes and a bound")
 
 
 class _TreeParts(NamedTuple):
@@ -84,6 +113,13 @@ class Tree(_OfQuery, _TreeParts):
        1  a     join 0            30
     """
 
+    def __new__(cls, entries: Iterable[str], joins: Iterable[Join]) -> Tree:
+        names = _names(entries)
+        if not names:
+            raise BadPlan("entries: a tree has at least one", 0)
+        found = (_join(place, given) for place, given in enumerate(rows_of("joins", joins, "joins")))
+        return _TreeParts.__new__(cls, names, tuple(found))
+
     @property
     def cost(self) -> int:
         """The largest bound of a join, or the row bound of a single entry. It is the least budget that admits the tree.
@@ -94,20 +130,33 @@ class Tree(_OfQuery, _TreeParts):
         if self.joins:
             return max(join.bound for join in self.joins)
         if self._query is None:
-            raise BadPlan("no query made this tree of one entry: its rows aren't known", 1)
+            raise BadPlan("joins: there is none, and no query made this tree: the rows of its entry aren't known", 1)
         return self._query.row_bounds[self.entries[0]]
 
     @property
     def shape(self) -> Shape:
-        """The tree as pairs of pairs: `("a", ("b", "c"))`."""
+        """The tree as pairs of pairs: `("a", ("b", "c"))`.
+
+        Raises:
+            BadPlan: a join is of a node that doesn't stand before it.
+        """
         nodes: list[Shape] = list(self.entries)
-        for join in self.joins:
+        for place, join in enumerate(self.joins):
+            if not (0 <= join.left < len(nodes) and 0 <= join.right < len(nodes)):
+                raise BadPlan(f"joins: join {place} is of a node that doesn't stand before it", place)
             nodes.append((nodes[join.left], nodes[join.right]))
         return nodes[-1]
 
-    def node(self, number: int) -> str:
-        """The name of a node: the name of its entry, or `join` and the number of the join."""
-        return self.entries[number] if number < len(self.entries) else f"join {number - len(self.entries)}"
+    def node(self, number: SupportsIndex) -> str:
+        """The name of a node: the name of its entry, or `join` and the number of the join.
+
+        Raises:
+            BadPlan: the tree has no such node.
+        """
+        at, entries = index_of("number", number), len(self.entries)
+        if not 0 <= at < entries + len(self.joins):
+            raise BadPlan(f"number: the tree has no node {shown(at)}", at)
+        return self.entries[at] if at < entries else f"join {at - entries}"
 
     def __str__(self) -> str:
         if not self.joins:

@@ -3,7 +3,6 @@
 from __future__ import annotations
 
 import ctypes
-from collections.abc import Collection as SomeCollection
 from collections.abc import Sequence as SomeSequence
 from functools import cached_property
 from types import MappingProxyType
@@ -14,12 +13,13 @@ from typing import (
 from . import _library
 from ._library import Status
 from ._tables import text_table
+from .arguments import hashable, is_text, items_of, names_of, set_of, shown, whole_number
 from .bounds import Bounds
 from .errors import (
     BadBudget, BadEntries, BadEquality, BadLimit, BadList, BadPlan, BadRows, MissingList, PastBits, WrongType
 )
 from .limits import ENGINE_ENTRIES, MOST_ENTRIES
-from .lists import Run, Runs, encoded, wrong_run
+from .lists import Run, Runs, column_text, encoded, wrong_run
 from .plans import Join, Order, QueryPlan, Tree
 
 __all__ = ["NO_VALUES", "Column", "Query"]
@@ -53,19 +53,27 @@ class _NoValues(Tuple[Run, ...]):
 NO_VALUES = _NoValues()
 
 
-def _column(value: Any, where: str) -> Column:
-    """Checks a column, and returns it as a pair. A text is refused: two characters would be read as the pair."""
-    if isinstance(value, (str, bytes)) or not isinstance(value, SomeSequence) or len(value) != 2:
-        raise WrongType(f"{where} is {value!r}, and not a pair of an entry and a name of its column")
+def _pair(head: str, value: Any, of: str) -> Tuple[Any, Any]:
+    """Checks a pair. A text is refused: two characters would be read as the pair."""
+    if is_text(value) or not isinstance(value, SomeSequence) or len(value) != 2:
+        raise WrongType(f"{head} is {shown(value)}, and not a pair of {of}")
     return (value[0], value[1])
 
 
-def _text(column: Column) -> str:
-    return f"{column[0]}.{column[1]}"
+def _column(head: str, value: Any) -> Column:
+    column = _pair(head, value, "an entry and a name of its column")
+    if not hashable(column):
+        raise WrongType(f"{head} is {shown(value)}, and a name in it isn't hashable")
+    return column
+
+
+def _mapping(argument: str, value: object, of: str) -> None:
+    if not isinstance(value, Mapping):
+        raise WrongType(f"{argument}: {shown(value)} is no mapping from {of}")
 
 
 def _equality_text(equality: Tuple[Column, Column]) -> str:
-    return " = ".join(map(_text, equality))
+    return " = ".join(map(column_text, equality))
 
 
 class Query:
@@ -107,14 +115,10 @@ class Query:
         row_bounds: Mapping[_Name, SupportsIndex],
         lists: Mapping[_Column, Runs],
     ) -> None:
-        if isinstance(entries, (str, bytes)):
-            raise WrongType(f"entries are a list of names, and not the text {entries!r}")
-        self.entries: Tuple[str, ...] = tuple(entries)
-        self.equalities = tuple(self._equality(place, given) for place, given in enumerate(equalities))
+        self.entries: Tuple[str, ...] = names_of("entries", entries)
+        pairs = items_of("equalities", equalities, "pairs of columns")
+        self.equalities = tuple(self._equality(place, given) for place, given in enumerate(pairs))
         self._number_by_entry = {entry: number for number, entry in enumerate(self.entries)}
-        if len(self._number_by_entry) < len(self.entries):
-            twice = next(entry for number, entry in enumerate(self.entries) if self._number_by_entry[entry] != number)
-            raise BadEntries(f"entry {twice!r} comes twice", twice)
         self._number_by_column: Dict[Column, int] = {}
         self._rows = self._rows_of(row_bounds)
         self._equalities = self._equalities_of()
@@ -123,19 +127,20 @@ class Query:
 
     @staticmethod
     def _equality(place: int, given: Any) -> Tuple[Column, Column]:
-        if isinstance(given, (str, bytes)) or not isinstance(given, SomeSequence) or len(given) != 2:
-            raise WrongType(f"equality {place} is {given!r}, and not a pair of columns")
-        return (_column(given[0], f"a side of equality {place}"), _column(given[1], f"a side of equality {place}"))
+        left, right = _pair(f"equalities: equality {place}", given, "columns")
+        head = f"equalities: a side of equality {place}"
+        return (_column(head, left), _column(head, right))
 
     def _number_of(self, column: Column) -> int:
         return self._number_by_column.setdefault(column, len(self._number_by_column))
 
     def _rows_of(self, row_bounds: Mapping[Any, SupportsIndex]) -> Any:
+        _mapping("row_bounds", row_bounds, "entries to numbers")
         rows = []
         for entry in self.entries:
             if entry not in row_bounds:
-                raise BadRows(f"entry {entry!r} has no row bound", entry)
-            number = _library.whole_number(row_bounds[entry])
+                raise BadRows(f"row_bounds: entry {shown(entry)} has none", entry)
+            number = whole_number(f"row_bounds: entry {shown(entry)}", row_bounds[entry])
             if number is None:
                 raise self._bad_rows(entry, row_bounds[entry])
             rows.append(number)
@@ -143,30 +148,34 @@ class Query:
 
     @staticmethod
     def _bad_rows(entry: str, number: object) -> BadRows:
-        return BadRows(f"the row bound of entry {entry!r} is {number}, which isn't from 0 to 2**48", entry)
+        said = f"row_bounds: that of entry {shown(entry)} is {shown(number)}, which isn't from 0 to 2**48"
+        return BadRows(said, entry)
 
     def _equalities_of(self) -> Any:
         found = []
         for place, (left, right) in enumerate(self.equalities):
             alien = next((column for column in (left, right) if column[0] not in self._number_by_entry), None)
             if alien is not None:
-                said = f"equality {place}, {_equality_text((left, right))}, names {alien[0]!r}, which is no entry"
+                text = _equality_text((left, right))
+                said = f"equalities: equality {place}, {text}, names {shown(alien[0])}, which is no entry"
                 raise BadEquality(said, place)
             numbers = self._number_by_entry[left[0]], self._number_by_entry[right[0]]
             found.append((numbers[0], self._number_of(left), numbers[1], self._number_of(right)))
         return _library.array_of(_library.Equality, found)
 
     def _lists_of(self, lists: Mapping[Any, Runs]) -> Tuple[Any, Any, List[Tuple[Column, int]]]:
-        if not isinstance(lists, Mapping):
-            raise WrongType(f"lists are a mapping from columns to runs, and not {type(lists).__name__}")
+        _mapping("lists", lists, "columns to runs")
         found: List[Tuple[int, int, int, int]] = []
         runs: List[Tuple[int, int]] = []
         places: List[Tuple[Column, int]] = []
         self._list_by_column: Dict[Column, Tuple[Run, ...]] = {}
         for given_column, given in lists.items():
-            column = _column(given_column, f"a key of lists, {given_column!r},")
+            column = _column("lists: a key", given_column)
             if column[0] not in self._number_by_entry:
-                raise BadList(f"there is a list of {_text(column)}, and no entry {column[0]!r}", column)
+                said = f"lists: there is one of {column_text(column)}, and no entry {shown(column[0])}"
+                raise BadList(said, column)
+            if column in self._list_by_column:
+                raise BadList(f"lists: {column_text(column)} has two", column)
             own = encoded(given, column=column)
             kept = NO_VALUES if given is NO_VALUES else tuple(Run(run.degree, run.keys) for run in own)
             self._list_by_column[column] = kept
@@ -213,7 +222,7 @@ class Query:
         named = [column for equality in self.equalities for column in equality]
         used = [column for column in self._list_by_column if column in named]
         lists = [
-            (_text(c), sum(d * k for d, k in runs), sum(k for _, k in runs), max((d for d, _ in runs), default=0))
+            (column_text(c), sum(d * k for d, k in runs), sum(k for _, k in runs), max((d for d, _ in runs), default=0))
             for c, runs in ((c, self._list_by_column[c]) for c in used)
         ]
         tables = [text_table(["entry", "rows at most"], list(self.row_bounds.items()))]
@@ -309,14 +318,15 @@ class Query:
             raise wrong_run(self._list_by_column[column], place, column=column)
         if status == Status.BAD_LIST:
             column = list(self._list_by_column)[detail]
-            raise BadList(f"the list of {_text(column)} has no runs: where no row has a value it is NO_VALUES", column)
+            said = f"lists: that of {column_text(column)} has no runs: where no row has a value it is NO_VALUES"
+            raise BadList(said, column)
         if status == Status.BAD_EQUALITY:
             text = _equality_text(self.equalities[detail])
-            raise BadEquality(f"equality {detail}, {text}, has one entry on both sides", detail)
+            raise BadEquality(f"equalities: equality {detail}, {text}, has one entry on both sides", detail)
         if status == Status.MISSING_LIST:
             without = next(column for column in self.equalities[detail] if column not in self._list_by_column)
-            said = f"{_text(without)} of equality {detail}, {_equality_text(self.equalities[detail])}, has no list"
-            raise MissingList(said, detail)
+            text = _equality_text(self.equalities[detail])
+            raise MissingList(f"lists: {column_text(without)} of equality {detail}, {text}, has none", detail)
         _library.raise_for(status, detail)
         raise AssertionError(status)
 
@@ -340,11 +350,11 @@ class Query:
             OutOfMemory: there was too little memory.
         """
         if limit is None:
-            return Bounds(self.entries, list(self._bounds))
-        number = _library.whole_number(limit)
+            return Bounds._of(self.entries, self._bounds)
+        number = whole_number("limit", limit)
         if number is None:
-            raise BadLimit(f"a limit is from 0 to 2**64 - 1, not {limit}", limit)
-        return Bounds(self.entries, list(self._asked("bounds_within", [*self._given(), number])))
+            raise BadLimit(f"limit: it is from 0 to 2**64 - 1, not {shown(limit)}", limit)
+        return Bounds._of(self.entries, self._asked("bounds_within", [*self._given(), number]))
 
     def bound_of(self, entries: Collection[str]) -> Optional[int]:
         """The bound of one set of entries, the same as in `bounds()`. No other set is bounded.
@@ -356,7 +366,7 @@ class Query:
             A number of rows, or None if no bound is known.
 
         Raises:
-            KeyError: a name isn't the name of an entry.
+            UnknownEntry: a name isn't the name of an entry. It is a KeyError too.
             As `bounds`.
 
         >>> query = Query(["r", "s"], [(("r", "x"), ("s", "x"))], {"r": 6, "s": 5},
@@ -364,11 +374,7 @@ class Query:
         >>> query.bound_of({"r", "s"})
         12
         """
-        if isinstance(entries, (str, bytes)) or not isinstance(entries, SomeCollection):
-            raise WrongType(
-                f"a set of entries is a collection of their names, such as {{{entries!r}}}, and not {entries!r}"
-            )
-        number = sum(1 << self._number_by_entry[entry] for entry in set(entries))
+        number = set_of(entries, {entry: 1 << number for entry, number in self._number_by_entry.items()})
         status, detail = _library.ask("set_bound", [*self._given(), number & _library.MOST])
         if status != Status.OK:
             self._raise_for(status, detail)
@@ -431,14 +437,15 @@ class Query:
         """
         self._checked(plan)
         if isinstance(plan, Order):
-            levels = [(self._number_by_entry[entry], int(bound)) for entry, bound in zip(plan.entries, plan.levels)]
+            levels = [(self._number_by_entry[entry], bound) for entry, bound in zip(plan.entries, plan.levels)]
             parts = _library.array_of(_library.Level, levels)
         else:
-            parts = _library.array_of(_library.Join, [tuple(map(int, join)) for join in plan.joins])
+            parts = _library.array_of(_library.Join, plan.joins)
         name = "memory" if isinstance(plan, Order) else "tree_memory"
         status, detail = _library.ask(name, [self._rows, len(self._rows), parts, len(parts)])
         if status == Status.BAD_ENTRIES:
-            raise BadEntries(f"SafeBound's own engine takes 1 to {ENGINE_ENTRIES} entries, not {detail}", detail)
+            said = f"plan: SafeBound's own engine takes 1 to {ENGINE_ENTRIES} entries, not {detail}"
+            raise BadEntries(said, detail)
         if status == Status.PAST_BITS:
             raise PastBits("the plan takes more bytes than 64 bits tell")
         _library.raise_for(status, detail)
@@ -449,9 +456,9 @@ class Query:
     def _checked(self, plan: QueryPlan) -> None:
         """Raises BadPlan unless the plan is one of this query, with its entries and its bounds."""
         if not isinstance(plan, (Order, Tree)):
-            raise WrongType(f"{type(plan).__name__} is no plan: best_order and best_tree give one")
+            raise WrongType(f"plan: {type(plan).__name__} is no plan: best_order and best_tree give one")
         if plan.query is not None and plan.query != self:
-            raise BadPlan(f"another query made this plan, over {', '.join(plan.entries)}", len(plan.entries))
+            raise BadPlan(f"plan: another query made it, over {', '.join(plan.entries)}", len(plan.entries))
         if isinstance(plan, Order):
             self._check_order(plan)
         else:
@@ -459,9 +466,9 @@ class Query:
 
     def _check_order(self, order: Order) -> None:
         if sorted(order.entries) != sorted(self.entries):
-            raise BadPlan(f"the order has other entries: {', '.join(order.entries)}", len(order.entries))
+            raise BadPlan(f"plan: the order has other entries: {', '.join(order.entries)}", len(order.entries))
         if len(order.levels) != len(self.entries):
-            said = f"an order of {len(self.entries)} entries has as many levels, and not {len(order.levels)}"
+            said = f"plan: an order of {len(self.entries)} entries has as many levels, and not {len(order.levels)}"
             raise BadPlan(said, len(order.levels))
         bounds = self.bounds()
         for place, level in enumerate(order.levels):
@@ -469,24 +476,26 @@ class Query:
 
     def _check_tree(self, tree: Tree) -> None:
         if tuple(tree.entries) != self.entries or len(tree.joins) != len(self.entries) - 1:
-            raise BadPlan(f"the tree has other entries, or too many or too few joins: {tree!r}", len(tree.joins))
+            said = f"plan: the tree has other entries, or too many or too few joins: {shown(tree)}"
+            raise BadPlan(said, len(tree.joins))
         bounds, below = self.bounds(), [frozenset([entry]) for entry in self.entries]
         for place, join in enumerate(tree.joins):
             sides = [number for number in (join.left, join.right) if number in range(len(below))]
             if len(sides) < 2 or below[sides[0]] & below[sides[1]]:
-                raise BadPlan(f"join {place} is of a node that doesn't stand before it, or of one entry twice", place)
+                said = f"plan: join {place} is of a node that doesn't stand before it, or of one entry twice"
+                raise BadPlan(said, place)
             below.append(below[sides[0]] | below[sides[1]])
             self._check_bound(f"join {place}", place, join.bound, bounds[below[-1]])
 
     @staticmethod
-    def _check_bound(part: str, place: int, given: object, bound: Optional[int]) -> None:
-        if isinstance(given, float) or given != bound:
-            raise BadPlan(f"the bound of {part} is {given!r}, and this query's is {bound}", place)
+    def _check_bound(part: str, place: int, given: int, bound: Optional[int]) -> None:
+        if given != bound:
+            raise BadPlan(f"plan: the bound of {part} is {shown(given)}, and this query's is {bound}", place)
 
     def _best(self, name: str, budget: SupportsIndex, element: Any, room: int) -> List[Any]:
-        number = _library.whole_number(budget)
+        number = whole_number("budget", budget)
         if number is None:
-            raise BadBudget(f"a budget is from 0 to 2**59, not {budget}", budget)
+            raise BadBudget(f"budget: it is from 0 to 2**59, not {shown(budget)}", budget)
         status, detail, into = _library.call(name, [self._bounds, len(self._bounds), number], element, room)
         _library.raise_for(status, detail)
         return list(into[:detail])

@@ -42,6 +42,7 @@ pub use calls::version;
 pub use command::{Command, Output};
 pub use errors::{Column, Error, WrongEquality, WrongList, WrongRun};
 pub use joins::{joined_rows, JoinKind};
-pub use lists::{append, compress, cut, degree_sequence, degree_sequence_of_keys, greater, lesser, Run};
+pub use lists::{append, compress, cut, degree_sequence, degree_sequence_of_keys, greater, lesser};
+pub use lists::{ByIterator, ByRows, ColumnValues, Run};
 pub use plans::{Join, Order, Shape, Tree};
 pub use query::Query;

@@ -2,7 +2,7 @@
 
 use crate::calls;
 use crate::errors::Error;
-use std::collections::HashMap;
+use std::collections::{HashMap, VecDeque};
 use std::hash::Hash;
 
 /// `keys` different values of a column, each of which occurs in `degree` rows.
@@ -26,13 +26,49 @@ impl From<(u64, u64)> for Run {
     }
 }
 
+/// What has one value for each row of a column: an iterator, a `Vec`, a slice, an array or a `VecDeque`.
+///
+/// A set isn't a column, and neither is a map. Each has a value once, however many rows have it, so the list would be too low.
+///
+/// ```compile_fail,E0277
+/// safebound::degree_sequence(std::collections::HashSet::from([1, 2]));
+/// ```
+///
+/// ```compile_fail,E0277
+/// safebound::degree_sequence(std::collections::BTreeMap::from([(1, "a"), (2, "b")]));
+/// ```
+///
+/// `Way` tells the implementations apart. It is inferred.
+#[diagnostic::on_unimplemented(
+    message = "`{Self}` is no column: a column has one value for each row",
+    note = "iterators, `Vec`s, slices, arrays and `VecDeque`s are columns; sets and maps have each value once"
+)]
+pub trait ColumnValues<Way>: IntoIterator {}
+
+/// The way of iterators.
+#[derive(Debug)]
+pub enum ByIterator {}
+
+/// The way of collections with one element for each row.
+#[derive(Debug)]
+pub enum ByRows {}
+
+impl<I: Iterator> ColumnValues<ByIterator> for I {}
+impl<V> ColumnValues<ByRows> for Vec<V> {}
+impl<V> ColumnValues<ByRows> for &Vec<V> {}
+impl<V> ColumnValues<ByRows> for &[V] {}
+impl<V, const N: usize> ColumnValues<ByRows> for [V; N] {}
+impl<V, const N: usize> ColumnValues<ByRows> for &[V; N] {}
+impl<V> ColumnValues<ByRows> for VecDeque<V> {}
+impl<V> ColumnValues<ByRows> for &VecDeque<V> {}
+
 /// The degree sequence of a column: how many rows have each of its values.
 ///
 /// `values` are the column's values, one for each row that has one, in any order. Rows without a value (NULL) are left out:
 /// for a column of `Option`s give `column.iter().flatten()`. Floats aren't `Eq`: give the bits of each float, with the same
 /// bits for both zeros and for all NaNs.
 ///
-/// The runs have different degrees, which sum to the number of values.
+/// The runs have different degrees, which sum to the number of values. [`ColumnValues`] says what is a column.
 ///
 /// ```
 /// use safebound::{degree_sequence, Run};
@@ -46,7 +82,7 @@ impl From<(u64, u64)> for Run {
 /// # Errors
 ///
 /// [`Error::BadKeys`] for more than 2^48 values, [`Error::OutOfMemory`].
-pub fn degree_sequence<V: Hash + Eq>(values: impl IntoIterator<Item = V>) -> Result<Vec<Run>, Error> {
+pub fn degree_sequence<V: Hash + Eq, Way>(values: impl ColumnValues<Way, Item = V>) -> Result<Vec<Run>, Error> {
     let mut numbers = HashMap::new();
     let mut keys: Vec<u64> = Vec::new();
     for value in values {

@@ -4,6 +4,7 @@ use safebound::{
     append, compress, cut, degree_sequence, degree_sequence_of_keys, greater, joined_rows, lesser, Bound, Error, Join,
     JoinKind, Query, Run,
 };
+use std::collections::VecDeque;
 use std::path::Path;
 
 fn runs<const N: usize>(pairs: [(u64, u64); N]) -> Vec<Run> {
@@ -55,6 +56,22 @@ fn values_of_any_kind() -> Result<(), Error> {
     let keys: Vec<u64> = (0..200).flat_map(|key| vec![key << 40; key as usize % 20]).collect();
     assert_eq!(degree_sequence(keys.iter().map(u64::to_string))?, degree_sequence_of_keys(&keys)?);
     assert_eq!(degree_sequence_of_keys(&keys)?.len(), 19);
+    Ok(())
+}
+
+/// Whatever has one value for each row is a column. A set or a map isn't one: see `ColumnValues`.
+#[test]
+fn columns_of_any_kind() -> Result<(), Error> {
+    let (list, wanted) = (vec![8, 8, 2], runs([(2, 1), (1, 1)]));
+    let (queue, array) = (VecDeque::from(list.clone()), ["8", "8", "2"].map(String::from));
+    assert_eq!(degree_sequence(&list)?, wanted);
+    assert_eq!(degree_sequence(list.as_slice())?, wanted);
+    assert_eq!(degree_sequence(&array)?, degree_sequence(array)?);
+    assert_eq!(degree_sequence(&queue)?, wanted);
+    assert_eq!(degree_sequence(queue)?, wanted);
+    let mut rows: Box<dyn Iterator<Item = i32>> = Box::new(list.into_iter());
+    assert_eq!(rows.next(), Some(8));
+    assert_eq!(degree_sequence(&mut rows)?, runs([(1, 2)]));
     Ok(())
 }
 

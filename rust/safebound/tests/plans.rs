@@ -12,8 +12,11 @@ fn joined(rows: [(&'static str, u64); 2], degree: u64) -> Query {
     query.list(("r", "x"), &[Run { degree, keys: 2 }]).list(("s", "x"), &[(2, 2), (1, 1)].map(Run::from))
 }
 
+/// The memory of an order and of a tree.
+type Memories = (Result<u64, Error>, Result<u64, Error>);
+
 /// The memory of both plans over the bounds `plans`, computed by the bounds `of`.
-fn memory(of: &Bounds, plans: &Bounds) -> Result<(Result<u64, Error>, Result<u64, Error>), Error> {
+fn memory(of: &Bounds, plans: &Bounds) -> Result<Memories, Error> {
     let (order, tree) = (plans.best_order(1 << 59)?, plans.best_tree(1 << 59)?);
     Ok((of.memory_of_order(&order), of.memory_of_tree(&tree)))
 }
