@@ -10,7 +10,7 @@ from __future__ import annotations
 from typing import TYPE_CHECKING
 
 from .block_names import BlockNames
-from .blocks import Part, Select
+from .blocks import Select, part_named
 from .names import alias_of, subqueries
 from .nondeterministic import nondeterministic
 from .query import Query
@@ -23,8 +23,8 @@ if TYPE_CHECKING:
 class Block:
     """One SELECT with its FROM."""
 
-    def __init__(self, plans: Planner, select: Select, visible: list[Part]) -> None:
-        self.plans, self.select, self.visible = plans, select, visible
+    def __init__(self, plans: Planner, select: Select) -> None:
+        self.plans, self.select, self.visible = plans, select, select.visible
         self.dialect, self.catalog, self.connection = plans.dialect, plans.catalog, plans.connection
         pieces = plans.pieces[select.start : select.end]
         self.statement = read(plans.text, list(pieces), self.dialect, in_blocks=True)
@@ -34,7 +34,7 @@ class Block:
                 "USING",
             )
         self.outside = plans.aliases_outside(select)
-        self.names = BlockNames(self.statement, plans, select, visible)
+        self.names = BlockNames(self.statement, plans, select, self.outside[0])
         self.query = Query(self.names.entries)
         self.steps = self.statement.steps
         self.has_right_joins = any(step.kind in ("RIGHT", "FULL") for step in self.steps)
@@ -126,12 +126,16 @@ class Block:
         aliases, columns = self.outside
         for at, token in enumerate(piece):
             after = piece[at + 1 : at + 2]
-            if not token.is_name or (at and piece[at - 1].says(".")):
+            behind_dot = at > 0 and piece[at - 1].says(".")
+            if not token.is_name:
                 continue
             name = self.dialect.normalized_name(token)
             if after and after[0].says("."):
-                if name in aliases and name not in self.names.by_alias:
+                # Behind a schema it may be the entry outside, even if the block has one of this name.
+                if name in aliases and (behind_dot or name not in self.names.by_alias):
                     return True
+            elif behind_dot:
+                continue
             elif (name in columns or token.kind == "quoted") and not any(
                 name in entry.about.by_name for entry in self.query.entries
             ):
@@ -144,8 +148,7 @@ class Block:
         """
         for start, end in subqueries(piece):
             inner = piece[start + 1 : end - 1]
-            parts = {self.dialect.normalized_name(part.name) for part in self.visible}
-            if any(token.is_name and self.dialect.normalized_name(token) in parts for token in inner):
+            if any(token.is_name and part_named(token, self.visible, self.dialect) for token in inner):
                 return False
             if any(nondeterministic(inner, self.dialect)):
                 return False

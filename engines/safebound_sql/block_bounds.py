@@ -12,7 +12,7 @@ from dataclasses import dataclass, field
 import safebound
 
 from .block import Block
-from .block_rows import most_rows
+from .block_rows import most_rows, why_more_rows
 from .blocks import Select
 from .counting import Counts, counts_among, histograms
 from .faults import NoBound
@@ -36,12 +36,15 @@ class BlockLevel:
 
 @dataclass
 class BlockPlan:
-    """A block's levels and the bound of its rows, or the reason why it isn't bounded."""
+    """A block's levels and the bound of its rows, or the reason why it isn't bounded. If only its joins are bounded,
+    `more_rows` says why it may have more rows than they.
+    """
 
     select: Select
     levels: list[BlockLevel] = field(default_factory=list)
     rows: int | None = None
     refused: str | None = None
+    more_rows: str | None = None
     notes: list[str] = field(default_factory=list)
 
     @property
@@ -65,9 +68,11 @@ class BlockBounder:
         block.order = self._best_order(counts, lists)
         levels = self._levels(counts)
         notes = [f"not used for bounds: {written(piece)}" for piece in block.not_used]
-        returns_sets = block.catalog.returns_sets([token for piece in block.statement.outputs for token in piece])
-        rows = None if returns_sets else most_rows(block.statement, levels[-1].bound)
-        return BlockPlan(block.select, levels, rows, notes=notes)
+        statement = block.statement
+        above = [token for piece in (statement.distinct, *statement.outputs, statement.later_clauses) for token in piece]
+        more = why_more_rows(above, block.dialect, block.catalog)
+        rows = None if more else most_rows(block, levels[-1].bound)
+        return BlockPlan(block.select, levels, rows, more_rows=more, notes=notes)
 
     def _levels(self, counts: Counts) -> list[BlockLevel]:
         order, levels = self.block.order, list[BlockLevel]()

@@ -4,11 +4,11 @@ from __future__ import annotations
 
 from typing import TYPE_CHECKING
 
-from .blocks import Part, Query as Several, Select
+from .blocks import Query as Several, Select, part_named
 from .names import Names
 from .query import Table
 from .reading import Source, Statement, Tokens
-from .tokens import written
+from .tokens import Token, written
 
 if TYPE_CHECKING:
     from .block_plans import Planner
@@ -22,10 +22,14 @@ class BlockNames(Names):
 
     looks_into_subqueries = True
 
-    def __init__(self, statement: Statement, plans: Planner, select: Select, visible: list[Part]) -> None:
-        self.plans, self.select, self.visible = plans, select, visible
+    def __init__(self, statement: Statement, plans: Planner, select: Select, outside: set[str]) -> None:
+        self.plans, self.select, self.visible, self.outside = plans, select, select.visible, outside
         self.given: dict[int, tuple[int, set[str]]] = {}
         super().__init__(statement, plans.engine)
+
+    def _is_of_this_statement(self, qualifier: Token) -> bool:
+        """An entry with a schema may be one of a block around this one, if that has one of the same name."""
+        return super()._is_of_this_statement(qualifier) and self.dialect.normalized_name(qualifier) not in self.outside
 
     def _text_of(self, source: Source) -> str:
         return self.plans.text_of(source.table) if source.is_query else written(source.table)
@@ -39,17 +43,10 @@ class BlockNames(Names):
             if inner is None:
                 raise self.statement.refuse(source.alias, "only a SELECT is bounded here")
             return self._given(number, inner, self.plans.source_of(inner), source.columns, source)
-        part = self._part(source)
+        part = part_named(source.table[0], self.visible, self.dialect) if len(source.table) == 1 else None
         if part is None:
             return self.catalog.table(source.table)
         return self._given(number, part.query, f"SELECT * FROM {part.name.text}", [], source)
-
-    def _part(self, source: Source) -> Part | None:
-        if len(source.table) > 1:
-            return None
-        normalized = self.dialect.normalized_name
-        name = normalized(source.table[0])
-        return next((part for part in reversed(self.visible) if normalized(part.name) == name), None)
 
     def _given(self, number: int, query: Several, text: str, columns: Tokens, source: Source) -> Table:
         """The columns of a query in FROM or WITH. Its rows are bounded by its own plan, and aren't counted."""
