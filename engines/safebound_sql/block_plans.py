@@ -39,6 +39,7 @@ class Planner:
         engine.catalog.check(without_end(text, self.pieces))
         self.blocks: dict[int, Block] = {}
         self.plans: dict[int, BlockPlan] = {}
+        self.bounders: dict[int, BlockBounder] = {}
         self._plan_all(self.query)
         self.plans = {select.start: self.plans[select.start] for select in self.query.selects()}
         self.rows = self.rows_of(self.query)
@@ -65,10 +66,11 @@ class Planner:
                 return BlockPlan(select, rows=None if more else 1, more_rows=more)
             with self.progress.doing(f"counting for {select.label}"), library_faults(self.budget):
                 block = Block(self, select)
-                plan = BlockBounder(block, self.accuracy).plan()
+                bounder = BlockBounder(block, self.accuracy)
+                plan = bounder.plan()
         except (Refused, NoBound) as fault:
             return BlockPlan(select, refused=str(fault))
-        self.blocks[select.start] = block
+        self.blocks[select.start], self.bounders[select.start] = block, bounder
         return plan
 
     def _outside_parentheses(self, select: Select) -> Iterator[Token]:
@@ -85,7 +87,7 @@ class Planner:
         if query.refused:
             return None
         self._plan_all(query)
-        behind = self.pieces[self._token_after(query) : query.end]
+        behind = self.behind(query)
         if why_more_rows(behind, self.dialect, self.catalog):
             return None
         found = [self.rows_of(m) if isinstance(m, Several) else self.plans[m.start].rows for m in query.members]
@@ -97,6 +99,10 @@ class Planner:
         first = query.operators[0].split()[0] if query.operators else ""
         total = sum(rows) if first == "UNION" else min(rows) if first == "INTERSECT" else rows[0]
         return limited_rows(total, behind)
+
+    def behind(self, query: Several) -> Tokens:
+        """The clauses behind all SELECTs of a query, as ORDER BY behind UNION."""
+        return self.pieces[self._token_after(query) : query.end]
 
     def _token_after(self, query: Several) -> int:
         last = query.members[-1]

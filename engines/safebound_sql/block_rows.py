@@ -34,15 +34,39 @@ def why_more_rows(pieces: Tokens, dialect: Dialect, catalog: Catalog) -> str | N
 
 def most_rows(block: Block, joined: int) -> int:
     """The bound of the rows of a block that makes no more rows than its joins."""
-    statement, clauses = block.statement, block.statement.later_clauses
+    clauses = block.statement.later_clauses
     if clauses and clauses[0].says("GROUP"):
         return limited_rows(joined, clauses)
-    above = [statement.distinct, *statement.outputs, clauses]
-    if any(_has_aggregate(block, piece) for piece in above) or (clauses and clauses[0].says("HAVING")):
+    if is_one_row(block):
         return 1
-    # Any function may be an aggregate that isn't known here. An aggregate makes one row even from no rows.
-    calls_any = any(token.says("(") for piece in above for token in piece)
-    return limited_rows(max(joined, int(calls_any)), clauses)
+    # An aggregate makes one row even from no rows.
+    return limited_rows(max(joined, int(may_aggregate(block))), clauses)
+
+
+def is_one_row(block: Block) -> bool:
+    """Whether the block aggregates all its rows into one."""
+    clauses = block.statement.later_clauses
+    if clauses and clauses[0].says("GROUP"):
+        return False
+    if clauses and clauses[0].says("HAVING"):
+        return True
+    return any(_has_aggregate(block, piece) for piece in clauses_above(block))
+
+
+def may_aggregate(block: Block) -> bool:
+    """Whether the block may aggregate all its rows into one: a name that it calls may mean an aggregate."""
+    clauses = block.statement.later_clauses
+    if clauses and clauses[0].says("GROUP"):
+        return False
+    asked = calls(outside_subqueries([token for piece in clauses_above(block) for token in piece]), block.dialect)
+    found = block.catalog.functions(set(asked))
+    return any(function.is_aggregate for functions in found.values() for function in functions)
+
+
+def clauses_above(block: Block) -> list[Tokens]:
+    """What is computed from the joined rows: DISTINCT, the outputs and the clauses behind."""
+    statement = block.statement
+    return [statement.distinct, *statement.outputs, statement.later_clauses]
 
 
 def outside_subqueries(pieces: Tokens) -> Tokens:
@@ -93,12 +117,16 @@ def _end_of_call(piece: Tokens, at: int) -> int:
     return end
 
 
+def limit_of(clauses: Tokens) -> int | None:
+    """The number of LIMIT, if the clauses end in LIMIT and a number."""
+    ends_so = len(clauses) > 1 and clauses[-2].says("LIMIT") and clauses[-1].text.isdigit()
+    return int(clauses[-1].text) if ends_so else None
+
+
 def limited_rows(rows: int, clauses: Tokens) -> int:
-    """The lesser of `rows` and the number of LIMIT, if the clauses end in LIMIT and a number. Otherwise `rows`."""
-    for at, token in enumerate(clauses[:-1]):
-        if token.says("LIMIT") and clauses[at + 1].text.isdigit() and at + 2 == len(clauses):
-            return min(rows, int(clauses[at + 1].text))
-    return rows
+    """The lesser of `rows` and the number of LIMIT, if the clauses end so."""
+    limit = limit_of(clauses)
+    return rows if limit is None else min(rows, limit)
 
 
 def grouping_expression(clauses: Tokens) -> Tokens | None:

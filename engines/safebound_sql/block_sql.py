@@ -42,7 +42,8 @@ def source_text(block: Block, number: int) -> str:
     entry, source = block.query.entries[number], block.statement.sources[number]
     if not source.is_query and source.alias is source.table[-1]:
         return entry.table
-    return f"{entry.table} AS {entry.alias}{written(source.columns)}"
+    lateral = "LATERAL " if source.says_lateral else ""
+    return f"{lateral}{entry.table} AS {entry.alias}{written(source.columns)}"
 
 
 def _output(block: Block, piece: Tokens) -> str:

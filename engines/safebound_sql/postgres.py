@@ -365,11 +365,11 @@ class PostgresCatalog(Catalog):
         given["cast"] = [oid for some in casts.values() for oid in some]
         by_name: dict[tuple[str, str], list[Row]] = {}
         for row in self.connection.rows(FUNCTIONS, given):
-            by_name.setdefault(row[:2], []).append(row)
+            by_name.setdefault((row[0], row[1]), []).append(row)
         return {
             call: [
                 self._function(row)
-                for key in [call[:2], *(("cast", oid) for oid in casts[call])]
+                for key in [(call.how, call.name), *(("cast", oid) for oid in casts[call])]
                 for row in by_name.get(key, ())
                 if call.arguments is None or row[8] <= call.arguments <= row[9]
             ]
@@ -385,7 +385,9 @@ class PostgresCatalog(Catalog):
         """The users' casts that the call may use. PostgreSQL adds implicit casts by itself."""
         if call.how not in ("type", "implicit"):
             return []
-        return [oid for oid, names, implicit in self.casts if (implicit if call.how == "implicit" else call.name in names)]
+        if call.how == "implicit":
+            return [oid for oid, _, implicit in self.casts if implicit]
+        return [oid for oid, names, _ in self.casts if call.name in names]
 
     @functools.cached_property
     def casts(self) -> list[tuple[str, set[str], bool]]:
@@ -490,7 +492,11 @@ def open_engine(url: str, timeout: int | None) -> Engine:
     except Fault:
         connection.close()
         raise
-    asked = functools.lru_cache(None)(lambda name: connection.value("SELECT (parse_ident(%s))[1]::name::text", [name]))
+
+    @functools.lru_cache(None)
+    def asked(name: str) -> str:
+        return str(connection.value("SELECT (parse_ident(%s))[1]::name::text", [name]))
+
     dialect = replace(DIALECT, reserved=frozenset(word for (word,) in words), asked=asked)
     return Engine(dialect, PostgresCatalog(connection, dialect), connection)
 
