@@ -142,9 +142,9 @@ class Block:
         for at, token in enumerate(piece):
             after = piece[at + 1 : at + 2]
             behind_dot = at > 0 and piece[at - 1].says(".")
-            if not token.is_name:
+            name = self.dialect.normalized_name(token) if token.is_name else ""
+            if not token.is_name or (token.kind == "word" and name in self.dialect.reserved):
                 continue
-            name = self.dialect.normalized_name(token)
             if after and after[0].says("."):
                 # Behind a schema it may be the entry outside, even if the block has one of this name.
                 if name in aliases and (behind_dot or name not in self.names.by_alias):

@@ -71,13 +71,12 @@ class BlockNames(Names):
 
     def _described(self, number: int, source: Source, text: str) -> list[Column]:
         """The columns of a query. Those of one in LATERAL aren't compared as columns of an entry are."""
-        if number not in self.laterals:
-            return self.catalog.described(text)
         try:
-            return [column._replace(kind=None) for column in self.catalog.described(text)]
+            found = self.catalog.described(text)
         except EngineFault:
-            why = "this LATERAL names more than the entries before it, and isn't bounded"
+            why = "it names an entry of a block further out, and isn't bounded"
             raise self.statement.refuse(source.alias, why) from None
+        return [column._replace(kind=None) for column in found] if number in self.laterals else found
 
     def _beside_entries(self, source: Source, text: str) -> str:
         """A query with the columns of the query in LATERAL, which names the entries before it."""

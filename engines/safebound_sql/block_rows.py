@@ -17,6 +17,7 @@ if TYPE_CHECKING:
     from .block import Block
 
 SETS_OF_GROUPS = ("ROLLUP", "CUBE", "GROUPING")
+WORDS_OF_CALLS = ("FILTER", "WITHIN", "BY")
 BEHIND_GROUPS = ("HAVING", "WINDOW", "ORDER", "LIMIT", "OFFSET", "FETCH")
 
 
@@ -26,10 +27,9 @@ def why_more_rows(pieces: Tokens, dialect: Dialect, catalog: Catalog) -> str | N
     if _has_grouping_sets(own):
         return "it groups by several sets of columns"
     asked = calls(own, dialect)
-    for call, token in asked.items():
-        if catalog.returns_sets({call}):
-            return f"{token.text} may make several rows of one"
-    return None
+    found = catalog.functions(set(asked))
+    sets = [token for call, token in asked.items() if any(function.returns_set for function in found.get(call, ()))]
+    return f"{sets[0].text} may make several rows of one" if sets else None
 
 
 def most_rows(block: Block, joined: int) -> int:
@@ -94,9 +94,10 @@ def _has_aggregate(block: Block, piece: Tokens) -> bool:
     for at in _calls_outside_subqueries(piece):
         end = _end_of_call(piece, at)
         is_window = end + 1 < len(piece) and piece[end + 1].says("OVER")
-        if not is_window and not block.names_outside(piece[at + 1 : end + 1]) and block.catalog.is_aggregate(
-            call_at(piece, at, block.dialect)
-        ):
+        inner = [token for token in piece[at + 1 : end + 1] if not token.says(*WORDS_OF_CALLS)]
+        if is_window or block.names_outside(inner):
+            continue
+        if block.catalog.is_aggregate(call_at(piece, at, block.dialect)):
             return True
     return False
 

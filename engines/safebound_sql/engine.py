@@ -36,10 +36,6 @@ class Catalog(ABC):
         return {call: function.why_volatile for call in sorted(found, key=str) for function in found[call]
                 if function.why_volatile}
 
-    def returns_sets(self, asked: set[Call]) -> bool:
-        """Whether one of these calls may return a set, so that one row becomes several."""
-        return any(function.returns_set for found in self.functions(asked).values() for function in found)
-
     def is_aggregate(self, call: Call) -> bool:
         """Whether the call is one of an aggregate, whatever the engine finds by its name."""
         found = self.functions({call}).get(call, [])

@@ -360,6 +360,8 @@ class PostgresCatalog(Catalog):
 
     def functions(self, asked: set[Call]) -> dict[Call, list[Function]]:
         """The functions that take this number of arguments."""
+        if not asked:
+            return {}
         casts = {call: self._casts_of(call) for call in asked}
         given = {how: [call.name for call in asked if call.how == how] for how in ("bare", "qualified", "attribute")}
         given["cast"] = [oid for some in casts.values() for oid in some]

@@ -35,6 +35,15 @@ COLUMNS = "SELECT name, type, hidden FROM pragma_table_xinfo(?, ?) ORDER BY cid"
 FUNCTIONS = f"SELECT name, narg, type = 's', NOT flags & {DETERMINISTIC} FROM pragma_function_list"
 
 
+# The words that name a column only in quotes.
+RESERVED = frozenset(
+    "current_date current_time current_timestamp add all alter and as autoincrement between case check collate commit"
+    " constraint create default deferrable delete distinct drop else escape except exists foreign from group having in"
+    " index insert intersect into is isnull join limit not nothing notnull null on or order primary references select"
+    " set table then to transaction union unique update using values when where".split()
+)
+
+
 @dataclass(frozen=True)
 class SqliteDialect(Dialect):
     def normalized(self, name: str, quoted: bool) -> str:
@@ -85,7 +94,7 @@ DIALECT = SqliteDialect(
         "SQLite's date functions may ask for the time, unless they get a date as it is, or a column that never says"
         " 'now'"
     ),
-    reserved=frozenset(("null", "current_date", "current_time", "current_timestamp")),
+    reserved=RESERVED,
 )
 
 
