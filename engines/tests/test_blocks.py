@@ -435,7 +435,7 @@ CREATE FUNCTION s.sum (int) RETURNS int LANGUAGE sql IMMUTABLE AS 'SELECT $1';
         )
         self.bounds(
             "SELECT k.x, q.z FROM k, LATERAL (SELECT b.z, c.w FROM b LEFT JOIN c ON c.w = b.z WHERE b.x = k.x) q",
-            [20, 40], [3, 24],
+            [20, 32], [3, 24],
         )
         # It names nothing before it, and is a query in FROM like others.
         self.bounds("SELECT k.x, q.z FROM k, LATERAL (SELECT b.z FROM b) q", [20], [3, 60])
