@@ -10,11 +10,13 @@ from __future__ import annotations
 from typing import TYPE_CHECKING
 
 from .block_names import BlockNames
-from .blocks import Part, Select
+from .blocks import Select, part_named
+from .dialect import Dialect
+from .engine import Catalog, Connection
 from .names import alias_of, subqueries
 from .nondeterministic import nondeterministic
 from .query import Query
-from .reading import Step, Tokens, read
+from .reading import Statement, Step, Tokens, read
 
 if TYPE_CHECKING:
     from .block_plans import Planner
@@ -23,18 +25,20 @@ if TYPE_CHECKING:
 class Block:
     """One SELECT with its FROM."""
 
-    def __init__(self, plans: Planner, select: Select, visible: list[Part]) -> None:
-        self.plans, self.select, self.visible = plans, select, visible
-        self.dialect, self.catalog, self.connection = plans.dialect, plans.catalog, plans.connection
+    def __init__(self, plans: Planner, select: Select) -> None:
+        self.plans, self.select, self.visible = plans, select, select.visible
+        self.dialect: Dialect = plans.dialect
+        self.catalog: Catalog = plans.catalog
+        self.connection: Connection = plans.connection
         pieces = plans.pieces[select.start : select.end]
-        self.statement = read(plans.text, list(pieces), self.dialect, in_blocks=True)
+        self.statement: Statement = read(plans.text, list(pieces), self.dialect, in_blocks=True)
         if self.statement.usings:
             raise self.statement.refuse(
                 self.statement.usings[0].names[0], "USING of one of several blocks isn't read; write it with ON",
                 "USING",
             )
         self.outside = plans.aliases_outside(select)
-        self.names = BlockNames(self.statement, plans, select, visible)
+        self.names: BlockNames = BlockNames(self.statement, plans, select, self.outside[0])
         self.query = Query(self.names.entries)
         self.steps = self.statement.steps
         self.has_right_joins = any(step.kind in ("RIGHT", "FULL") for step in self.steps)
@@ -59,9 +63,15 @@ class Block:
 
     def _reorderable_entries(self) -> list[int]:
         """The entries that are joined first, in an order that the plan chooses. They are the entries of inner joins
-        before any RIGHT or FULL JOIN, if the ON names no other entries.
+        before any RIGHT or FULL JOIN and before LATERAL, if the ON names no other entries.
         """
-        stop = next((at for at, step in enumerate(self.steps) if step.kind in ("RIGHT", "FULL")), len(self.steps))
+        stop = next(
+            (
+                at for at, step in enumerate(self.steps)
+                if step.kind in ("RIGHT", "FULL") or step.source in self.names.laterals
+            ),
+            len(self.steps),
+        )
         steps = [step for step in self.steps[:stop] if step.kind == "INNER"]
         while True:
             found = [step.source for step in steps]
@@ -69,6 +79,11 @@ class Block:
             if len(kept) == len(steps):
                 return found
             steps = kept
+
+    def tested_conditions(self) -> list[Tokens]:
+        """The conditions that all rows of the block satisfy."""
+        steps = [] if self.has_right_joins else [step for step in self.steps if step.source in self.reorderable]
+        return self.statement.conditions + [piece for step in steps for piece in step.conditions]
 
     def _entries_in(self, piece: Tokens) -> frozenset[int]:
         return frozenset(column.entry for column in self.names.named_columns(piece))
@@ -126,12 +141,16 @@ class Block:
         aliases, columns = self.outside
         for at, token in enumerate(piece):
             after = piece[at + 1 : at + 2]
-            if not token.is_name or (at and piece[at - 1].says(".")):
+            behind_dot = at > 0 and piece[at - 1].says(".")
+            name = self.dialect.normalized_name(token) if token.is_name else ""
+            if not token.is_name or (token.kind == "word" and name in self.dialect.reserved):
                 continue
-            name = self.dialect.normalized_name(token)
             if after and after[0].says("."):
-                if name in aliases and name not in self.names.by_alias:
+                # Behind a schema it may be the entry outside, even if the block has one of this name.
+                if name in aliases and (behind_dot or name not in self.names.by_alias):
                     return True
+            elif behind_dot:
+                continue
             elif (name in columns or token.kind == "quoted") and not any(
                 name in entry.about.by_name for entry in self.query.entries
             ):
@@ -144,8 +163,7 @@ class Block:
         """
         for start, end in subqueries(piece):
             inner = piece[start + 1 : end - 1]
-            parts = {self.dialect.normalized_name(part.name) for part in self.visible}
-            if any(token.is_name and self.dialect.normalized_name(token) in parts for token in inner):
+            if any(token.is_name and part_named(token, self.visible, self.dialect) for token in inner):
                 return False
             if any(nondeterministic(inner, self.dialect)):
                 return False

@@ -6,13 +6,14 @@ its rows have each value of this column once. Entries are counted under their ow
 
 from __future__ import annotations
 
+import re
 from typing import Iterator
 
 from .block import Block
 from .block_bounds import BlockPlan, BlockBounder
-from .block_rows import grouping_expression, limited_rows, without_alias
+from .block_rows import grouping_expression, limited_rows, why_more_rows, without_alias
 from .block_sql import rows_of_levels, sql_of
-from .blocks import Finder, Part, Query as Several, Select
+from .blocks import Finder, Query as Several, Select, With, part_named
 from .dialect import as_script
 from .engine import Engine
 from .faults import EngineFault, NoBound, PastBudget, Refused
@@ -21,7 +22,7 @@ from .meaning import refuse_volatile
 from .names import alias_of
 from .progress import Progress
 from .reading import Statement, Tokens, read
-from .tokens import Token, tokens, written
+from .tokens import Token, tokens, without_end, written
 
 
 class Planner:
@@ -33,43 +34,43 @@ class Planner:
         self.progress = progress or Progress()
         self.pieces = tokens(text, engine.dialect.rules)
         self.at = {token.at: number for number, token in enumerate(self.pieces)}
-        self.query = Finder(text, self.pieces).find()
+        self.query = Finder(text, self.pieces, engine.dialect).find()
         refuse_volatile(Statement(text), self.pieces, engine)
-        engine.catalog.check(text.rstrip().rstrip(";"))
+        engine.catalog.check(without_end(text, self.pieces))
         self.blocks: dict[int, Block] = {}
         self.plans: dict[int, BlockPlan] = {}
-        self.visible: dict[int, list[Part]] = {}
-        self._note_visible_parts(self.query)
-        for select in self.query.selects():
-            self.plans[select.start] = self._plan(select)
+        self.bounders: dict[int, BlockBounder] = {}
+        self._plan_all(self.query)
+        self.plans = {select.start: self.plans[select.start] for select in self.query.selects()}
+        self.rows = self.rows_of(self.query)
         if self.unbounded and not self.blocks:
             raise Refused(self.unbounded[0])
-        over = [plan.cost for plan in self.plans.values() if plan.cost > budget]
-        if over:
-            raise PastBudget(budget, max(over))
+        if self.cost > budget:
+            raise PastBudget(budget, self.cost)
 
-    def _note_visible_parts(self, query: Several) -> None:
-        """Notes which parts of WITH each block can name."""
-        for part in query.parts:
-            self._note_visible_parts(part.query)
-        for member in query.members:
-            if isinstance(member, Several):
-                self._note_visible_parts(member)
-                continue
-            self.visible[member.start] = query.visible
-            for inner in member.inner:
-                self._note_visible_parts(inner)
+    @property
+    def cost(self) -> int:
+        """The most rows of a join of any block, or of the whole query."""
+        return max(self.rows or 0, *(plan.cost for plan in self.plans.values()))
+
+    def _plan_all(self, query: Several) -> None:
+        """Plans the blocks of a query that aren't planned yet. A block may name a part of WITH behind it."""
+        for select in query.selects():
+            if select.start not in self.plans:
+                self.plans[select.start] = self._plan(select)
 
     def _plan(self, select: Select) -> BlockPlan:
         try:
             if not any(token.says("FROM") for token in self._outside_parentheses(select)):
-                return BlockPlan(select, rows=1)
+                more = why_more_rows(self.pieces[select.start : select.end], self.dialect, self.catalog)
+                return BlockPlan(select, rows=None if more else 1, more_rows=more)
             with self.progress.doing(f"counting for {select.label}"), library_faults(self.budget):
-                block = Block(self, select, self.visible[select.start])
-                plan = BlockBounder(block, self.accuracy).plan()
+                block = Block(self, select)
+                bounder = BlockBounder(block, self.accuracy)
+                plan = bounder.plan()
         except (Refused, NoBound) as fault:
             return BlockPlan(select, refused=str(fault))
-        self.blocks[select.start] = block
+        self.blocks[select.start], self.bounders[select.start] = block, bounder
         return plan
 
     def _outside_parentheses(self, select: Select) -> Iterator[Token]:
@@ -85,6 +86,10 @@ class Planner:
         """
         if query.refused:
             return None
+        self._plan_all(query)
+        behind = self.behind(query)
+        if why_more_rows(behind, self.dialect, self.catalog):
+            return None
         found = [self.rows_of(m) if isinstance(m, Several) else self.plans[m.start].rows for m in query.members]
         rows = [number for number in found if number is not None]
         if len(rows) < len(found) or not rows:
@@ -93,7 +98,11 @@ class Planner:
             return sum(rows)
         first = query.operators[0].split()[0] if query.operators else ""
         total = sum(rows) if first == "UNION" else min(rows) if first == "INTERSECT" else rows[0]
-        return limited_rows(total, self.pieces[self._token_after(query) : query.end])
+        return limited_rows(total, behind)
+
+    def behind(self, query: Several) -> Tokens:
+        """The clauses behind all SELECTs of a query, as ORDER BY behind UNION."""
+        return self.pieces[self._token_after(query) : query.end]
 
     def _token_after(self, query: Several) -> int:
         last = query.members[-1]
@@ -145,10 +154,9 @@ class Planner:
             columns |= {
                 self.dialect.normalized_name(alias) for output in statement.outputs if (alias := alias_of(output))
             }
-            parts = {self.dialect.normalized_name(part.name) for part in self.visible[select.start]}
             for source in statement.sources:
                 aliases.add(self.dialect.normalized_name(source.alias))
-                whole = not source.is_query and self.dialect.normalized_name(source.table[-1]) not in parts
+                whole = not source.is_query and not part_named(source.table[-1], select.visible, self.dialect)
                 about = self.catalog.table(source.table) if whole else None
                 # A query in FROM or a part of WITH may give its columns any name that the text has.
                 columns |= set(about.by_name) if about else self._all_names()
@@ -173,12 +181,16 @@ class Planner:
     def _stop(self, end: int) -> int:
         return self.pieces[end - 1].at + len(self.pieces[end - 1].text)
 
-    def with_parts(self, visible: list[Part], text: str) -> str:
-        if not visible:
-            return text
-        parts = [f"{part.name.text}{written(part.columns)} AS ({self.planned_text(part.query)})" for part in visible]
-        recursive = "RECURSIVE " * any(part.query.refused for part in visible)
-        return f"WITH {recursive}{', '.join(parts)}\n{text}"
+    def with_parts(self, visible: list[With], text: str) -> str:
+        """A query that runs alone, with the parts of WITH that it can name before it."""
+        for one in reversed(visible):
+            if not one.parts:
+                continue
+            if re.match(r"WITH\b", text, re.IGNORECASE):
+                text = f"SELECT * FROM ({text}\n) AS inner_query"
+            parts = [f"{p.name.text}{written(p.columns)} AS ({self.planned_text(p.query)})" for p in one.parts]
+            text = f"WITH {one.word and one.word + ' '}{', '.join(parts)}\n{text}"
+        return text
 
     def text_of(self, piece: Tokens) -> str:
         """The text of tokens, with the blocks among them in their planned order."""
@@ -244,10 +256,12 @@ class Planner:
 
     @property
     def unbounded(self) -> list[str]:
-        recursive = [part.query.refused for part in self.query.parts if part.query.refused]
-        return list(dict.fromkeys(recursive)) + [
-            f"{plan.select.label}: {plan.refused}" for plan in self.plans.values() if plan.refused
-        ]
+        found = [part.query.refused for part in self.query.all_parts() if part.query.refused]
+        found += [f"{plan.select.label}: {plan.refused}" for plan in self.plans.values() if plan.refused]
+        if self.rows is None and not found:
+            more = [plan.more_rows for plan in self.plans.values() if plan.more_rows]
+            found.append(f"the query: its rows aren't bounded: {more[-1] if more else 'its ORDER BY may make more'}")
+        return list(dict.fromkeys(found))
 
     def true_rows(self) -> None:
         """Counts the rows of each level of a block. It skips blocks that name something of the blocks around them, and
@@ -255,7 +269,8 @@ class Planner:
         """
         self.connection.keep_order()
         for start, block in self.blocks.items():
-            if any(part.query.refused and part.query.start <= start < part.query.end for part in self.query.parts):
+            refused = [part.query for part in self.query.all_parts() if part.query.refused]
+            if any(query.start <= start < query.end for query in refused):
                 continue
             if any(self.aliases_outside(block.select)) and any(
                 map(
@@ -275,7 +290,7 @@ def has_several_blocks(text: str, engine: Engine) -> bool:
     or a subquery joins, or names an entry outside of itself.
     """
     pieces = tokens(text, engine.dialect.rules)
-    query = Finder(text, pieces).find()
+    query = Finder(text, pieces, engine.dialect).find()
     select = query.members[0] if len(query.members) == 1 else None
     if query.parts or query.operators or not isinstance(select, Select):
         return True

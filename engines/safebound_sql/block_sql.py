@@ -3,6 +3,7 @@
 from __future__ import annotations
 
 from .block import Block
+from .reading import Tokens
 from .reducing import bracketed, own_conditions, where
 from .tokens import written
 
@@ -17,8 +18,8 @@ def _join(block: Block, levels: int) -> tuple[str, list[str]]:
     some = frozenset(block.order[:levels])
     text, done = "", list[str]()
     for position, number in enumerate(block.order[:levels]):
-        entry, before = block.query.entries[number], frozenset(block.order[:position])
-        source = f"{entry.table} AS {entry.alias}{written(block.statement.sources[number].columns)}"
+        before = frozenset(block.order[:position])
+        source = source_text(block, number)
         kind = block.steps[number].kind
         if position == 0:
             text = source
@@ -34,6 +35,22 @@ def _join(block: Block, levels: int) -> tuple[str, list[str]]:
     ]
     rest = [bracketed(text) for text, entries in block.left_over if entries and entries <= some and text not in done]
     return f"FROM {text}", own + rest
+
+
+def source_text(block: Block, number: int) -> str:
+    """An entry as FROM has it. A table without an alias gets none, so that its name with a schema stays valid."""
+    entry, source = block.query.entries[number], block.statement.sources[number]
+    if not source.is_query and source.alias is source.table[-1]:
+        return entry.table
+    lateral = "LATERAL " if source.says_lateral else ""
+    return f"{lateral}{entry.table} AS {entry.alias}{written(source.columns)}"
+
+
+def _output(block: Block, piece: Tokens) -> str:
+    """An output as text. A star of all entries becomes one star for each, in the order that FROM has as written."""
+    if len(piece) == 1 and piece[0].says("*"):
+        return ", ".join(f"{entry.alias}.*" for entry in block.query.entries)
+    return block.text(piece)
 
 
 def _inner_join(block: Block, source: str, before: frozenset[int], after: frozenset[int], done: list[str]) -> str:
@@ -56,7 +73,7 @@ def sql_of(block: Block) -> str:
     """The block with its joins in the planned order."""
     joined, conditions = _join(block, len(block.order))
     conditions += [bracketed(text) for text, entries in block.left_over if not entries]
-    outputs = ", ".join(block.text(piece) for piece in block.statement.outputs)
+    outputs = ", ".join(_output(block, piece) for piece in block.statement.outputs)
     distinct = block.text(block.statement.distinct)
     later = block.text(block.statement.later_clauses)
     lines = [f"SELECT {distinct and distinct + ' '}{outputs}", joined + where(conditions), *filter(None, [later])]

@@ -220,19 +220,18 @@ def _run_in_blocks(given: argparse.Namespace, engine: Engine, text: str) -> None
         return
     if given.command == "audit":
         planner.true_rows()
-    plans = list(planner.plans.values())
     notes = [NO_BLOCKS_COUNTED] if given.count else []
     if getattr(given, "json", False):
-        sys.stdout.write(output.blocks_document(plans, unbounded, notes, planner.settings, planner.sql()))
+        sys.stdout.write(output.blocks_document(planner, notes))
     else:
-        (sys.stderr if given.command == "run" else sys.stdout).write(output.blocks_table(plans, unbounded, notes))
+        (sys.stderr if given.command == "run" else sys.stdout).write(output.blocks_table(planner, notes))
     if given.command == "run":
         engine.connection.keep_order()
         with planner.progress.doing("joining") as end:
             for part in engine.connection.csv(planner.sql(), given.null):
                 end()
                 sys.stdout.write(part)
-    for plan in plans:
+    for plan in planner.plans.values():
         for number, level in enumerate(plan.levels, 1):
             if level.rows is not None and level.rows > level.bound:
                 raise AboveBound(number, level.rows, level.bound)

@@ -34,6 +34,9 @@ class Dialect:
     keeps_using: bool = False
     takes_bare_columns: bool = False
     columns_may_be_calls: bool = False
+    casts_are_calls: bool = False
+    rows_are_values: bool = True
+    parts_see_each_other: bool = False
     row_number: str = "ROW_NUMBER() OVER ()"
     reserved: frozenset[str] = frozenset()
     most_parts_of_a_part: int | None = None
@@ -70,6 +73,10 @@ class Dialect:
         """The name of a table, column, function or operator, in the form that the engine compares."""
         quoted = token.kind in ("quoted", "text")
         return self.normalized(unquoted(token) if quoted else token.text, quoted)
+
+    def operators_of_words(self, token: Token) -> tuple[str, ...]:
+        """The operators that a keyword stands for, as LIKE does."""
+        return ()
 
     def reads_clock(self, pieces: list[Token], at: int, in_view: bool = False) -> bool:
         """Whether a function that reads the clock begins at the token `at`. Such a function may give two statements

@@ -10,6 +10,7 @@ from abc import ABC, abstractmethod
 from dataclasses import dataclass
 from typing import Iterable, Iterator
 
+from .calls import Call, Function
 from .dialect import Dialect
 from .faults import EngineFault
 from .query import Column, Row, Table
@@ -24,8 +25,21 @@ class Catalog(ABC):
         """The table or view of this name, or None."""
 
     @abstractmethod
-    def volatile(self, names: set[str]) -> dict[str, str]:
-        """Says which of these functions and operators may give another result at the next call, and why."""
+    def functions(self, asked: set[Call]) -> dict[Call, list[Function]]:
+        """All functions that each call may mean. Where the engine would choose one by the types of the arguments, it
+        may be any of them.
+        """
+
+    def volatile(self, asked: set[Call]) -> dict[Call, str]:
+        """Says which of these calls may give another result the next time, and why."""
+        found = self.functions(asked)
+        return {call: function.why_volatile for call in sorted(found, key=str) for function in found[call]
+                if function.why_volatile}
+
+    def is_aggregate(self, call: Call) -> bool:
+        """Whether the call is one of an aggregate, whatever the engine finds by its name."""
+        found = self.functions({call}).get(call, [])
+        return bool(found) and all(function.is_aggregate for function in found)
 
     @abstractmethod
     def view_texts(self, names: set[str]) -> list[tuple[str, str, str]]:
@@ -98,10 +112,6 @@ class Catalog(ABC):
     def described(self, sql: str) -> list[Column]:
         """The columns of a query's result. A column has no kind if it isn't known how its values are compared."""
         raise NotImplementedError("this engine isn't asked for the columns of a query")
-
-    def returns_sets(self, pieces: list[Token]) -> bool:
-        """Whether these tokens call a function that returns a set, so that one row may become several."""
-        return False
 
 
 class Connection(ABC):

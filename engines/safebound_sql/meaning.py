@@ -4,12 +4,13 @@ from __future__ import annotations
 
 from typing import Iterator
 
+from .calls import calls
 from .engine import Engine
 from .names import Names, alias_of, subqueries
 from .nondeterministic import nondeterministic
 from .query import Condition, EntryColumn, Query, Reference, Text
 from .reading import Statement, Tokens, at_commas, read
-from .tokens import Token, closing, part_of_name, tokens, written
+from .tokens import Token, closing, part_of_name, tokens, without_end, written
 
 
 # Types by which PostgreSQL can't group.
@@ -18,30 +19,15 @@ UNGROUPED = ("json", "xml", "point", "line", "lseg", "box", "path", "polygon", "
 
 def refuse_volatile(statement: Statement, pieces: Tokens, engine: Engine) -> None:
     """Refuses functions, operators and views whose result may change from call to call."""
-    asked = _calls(pieces, engine)
-    for name, why in engine.catalog.volatile(set(asked)).items():
-        raise statement.refuse(asked[name], why)
+    asked = calls(pieces, engine.dialect)
+    for call, why in engine.catalog.volatile(set(asked)).items():
+        raise statement.refuse(asked[call], why)
     for at, token in enumerate(pieces):
         if engine.dialect.reads_clock(pieces, at):
             raise statement.refuse(token, engine.dialect.why_clock)
     tables = _tables(pieces)
     for name, why in _volatile_views(set(tables), engine):
         raise statement.refuse(tables[name], why, name)
-
-
-def _calls(pieces: Tokens, engine: Engine) -> dict[str, Token]:
-    """The functions and operators in the tokens, by the names under which the engine finds them. A name written with a
-    schema gets a dot before it. A column of a row that may be a function instead gets two dots.
-    """
-    found: dict[str, Token] = {}
-    for at, token in enumerate(pieces):
-        dot = "." if at and pieces[at - 1].says(".") else ""
-        is_call = token.is_name and at + 1 < len(pieces) and pieces[at + 1].says("(")
-        if is_call or token.kind == "operator" or token.says(*engine.dialect.calls_without_parentheses):
-            found.setdefault(dot + engine.dialect.normalized_name(token), token)
-        elif engine.dialect.columns_may_be_calls and dot and token.is_name:
-            found.setdefault(".." + engine.dialect.normalized_name(token), token)
-    return found
 
 
 def _tables(pieces: Tokens) -> dict[str, Token]:
@@ -76,8 +62,9 @@ def _volatile_views(names: set[str], engine: Engine) -> Iterator[tuple[str, str]
 
 
 def _volatile_parts(pieces: Tokens, engine: Engine) -> Iterator[str]:
-    for what, why in engine.catalog.volatile(set(_calls(pieces, engine))).items():
-        yield f"{what.lstrip('.')}: {why}"
+    asked = calls(pieces, engine.dialect)
+    for call, why in engine.catalog.volatile(set(asked)).items():
+        yield f"{asked[call].text}: {why}"
     for token, what in nondeterministic(pieces, engine.dialect):
         yield f"{what}, so its rows may be others at each call; make a table of it, and name that"
     for at, token in enumerate(pieces):
@@ -99,7 +86,7 @@ class Meaning:
         self.statement = read(text, list(pieces), engine.dialect)
         refuse_volatile(self.statement, pieces, engine)
         self.names = Names(self.statement, engine)
-        alone = text.rstrip().rstrip(";")
+        alone = without_end(text, pieces)
         engine.catalog.check(alone)
         self.outputs_names = self._names_of_outputs(alone)
         self.query = Query(self.names.entries)

@@ -75,6 +75,8 @@ class Names:
         self.by_alias = {entry.name: entry.number for entry in self.entries}
         statement.outputs = [self._without_schemas(piece) for piece in statement.outputs]
         statement.conditions = [self._without_schemas(piece) for piece in statement.conditions]
+        for step in statement.steps:
+            step.conditions = [self._without_schemas(piece) for piece in step.conditions]
         statement.distinct = self._without_schemas(statement.distinct)
         statement.later_clauses = self._without_schemas(statement.later_clauses)
         self.columns = self._merge()
@@ -112,7 +114,7 @@ class Names:
                 end - at >= 4
                 and at not in inside
                 and self.dialect.schemas_in_names
-                and self.dialect.normalized_name(piece[end - 2]) in self.by_alias
+                and self._is_of_this_statement(piece[end - 2])
             ):
                 first, at = piece[at], end - 2
                 kept.append(piece[at]._replace(gap=first.gap))
@@ -120,6 +122,9 @@ class Names:
             kept += piece[at : end + 1]
             at = end + 1
         return kept
+
+    def _is_of_this_statement(self, qualifier: Token) -> bool:
+        return self.dialect.normalized_name(qualifier) in self.by_alias
 
     def _inside_subqueries(self, piece: Tokens) -> set[int]:
         return {at for start, end in subqueries(piece) for at in range(start, end)}
@@ -268,6 +273,7 @@ class Names:
         found = self._columns_called(token)
         if (
             not found
+            and self.dialect.rows_are_values
             and self.dialect.normalized_name(token) in self.by_alias
             and alias_of(piece[: at + 1]) is not token
         ):

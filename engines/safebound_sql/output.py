@@ -3,9 +3,7 @@
 from __future__ import annotations
 
 import json
-from typing import Iterable
-
-from .block_bounds import BlockPlan
+from .block_plans import Planner
 from .levels import Level, Plan, Shape, entries_of
 from .query import EntryColumn, Query
 
@@ -34,11 +32,10 @@ def plan_table(plan: Plan, title: str, true_rows: list[int] | None = None) -> st
     return "\n".join(lines) + "\n"
 
 
-def blocks_table(plans: Iterable[BlockPlan], unbounded: list[str], notes: list[str]) -> str:
-    """The plans of all blocks as text, and the parts that aren't bounded."""
+def blocks_table(planner: Planner, notes: list[str]) -> str:
+    """The plans of all blocks as text, the bound of the whole query's rows, and the parts that aren't bounded."""
     lines: list[str] = []
-    cost = 0
-    for plan in plans:
+    for plan in planner.plans.values():
         if not plan.levels:
             continue
         audited = any(level.rows is not None for level in plan.levels)
@@ -52,15 +49,14 @@ def blocks_table(plans: Iterable[BlockPlan], unbounded: list[str], notes: list[s
                 row += [str(level.rows), _factor_text(level.bound / max(level.rows or 0, 1))]
         most = "" if plan.rows is None else f": at most {plan.rows} rows"
         lines += [f"{plan.select.label}{most}", *_aligned([heads] + rows), *plan.notes, ""]
-        cost = max(cost, plan.cost)
-    lines += [f"not bounded: {why}" for why in unbounded]
-    return "\n".join([*lines, f"budget {cost} would do", *notes]) + "\n"
+    if planner.rows is not None:
+        lines.append(f"the whole query: at most {planner.rows} rows")
+    lines += [f"not bounded: {why}" for why in planner.unbounded]
+    return "\n".join([*lines, f"budget {planner.cost} would do", *notes]) + "\n"
 
 
-def blocks_document(
-    plans: Iterable[BlockPlan], unbounded: list[str], notes: list[str], settings: tuple[str, ...], sql: str
-) -> str:
-    """The plans of all blocks as JSON, and the parts that aren't bounded."""
+def blocks_document(planner: Planner, notes: list[str]) -> str:
+    """The plans of all blocks as JSON, the bound of the whole query's rows, and the parts that aren't bounded."""
     content = {
         "blocks": [
             {
@@ -75,14 +71,15 @@ def blocks_document(
                     for level in plan.levels
                 ],
             }
-            for plan in plans
+            for plan in planner.plans.values()
             if plan.levels
         ],
-        "not bounded": unbounded,
+        "rows": planner.rows,
+        "not bounded": planner.unbounded,
         "notes": notes,
-        "least budget": max((plan.cost for plan in plans), default=0),
-        "setting": "; ".join(settings),
-        "sql": sql,
+        "least budget": planner.cost,
+        "setting": "; ".join(planner.settings),
+        "sql": planner.sql(),
     }
     return json.dumps(content, indent=2, ensure_ascii=False) + "\n"
 

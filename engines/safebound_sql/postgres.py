@@ -8,11 +8,13 @@ import codecs
 import contextlib
 import functools
 import json
+import re
 from dataclasses import dataclass, replace
-from typing import Any, Iterable, Iterator, Mapping, Sequence
+from typing import Any, Callable, Iterable, Iterator, Mapping, Sequence
 
 from safebound.sql_texts import written_text
 
+from .calls import Call, Function
 from .dialect import Dialect
 from .engine import Catalog, Connection, Engine, one_line, with_names
 from .faults import EngineFault, Fault, Missing, Refused
@@ -46,24 +48,61 @@ WHERE a.attrelid = %s AND a.attnum > 0 AND NOT a.attisdropped AND has_column_pri
 ORDER BY a.attnum
 """
 
-# Finds volatile functions and operators. A bare name finds visible ones; a name with a schema finds all of that name.
-# Functions of a row are found too, since they may be written as columns. So are functions that are marked STABLE but
-# depend on the session or on current activity.
-VOLATILE = """
+# The functions that calls may mean. A bare name means visible ones; a name with a schema may mean all of that name. A
+# column may be a function of a row.
+FUNCTIONS = """
 WITH named AS (
-    SELECT proname AS name, p.* FROM pg_proc p
-    WHERE proname = ANY(%(bare)s) AND pg_function_is_visible(oid) OR proname = ANY(%(qualified)s)
-        OR (proname = ANY(%(attributes)s) AND pronargs = 1 AND EXISTS (SELECT FROM pg_type t
-            WHERE t.oid = proargtypes[0] AND typtype = 'c'))
-    UNION ALL SELECT oprname, p.* FROM pg_operator o JOIN pg_proc p ON p.oid = o.oprcode
-    WHERE oprname = ANY(%(bare)s) AND pg_operator_is_visible(o.oid) OR oprname = ANY(%(qualified)s))
-SELECT name, provolatile = 'v',
-    proname IN ('current_setting', 'pg_show_all_settings') AND pronamespace = 'pg_catalog'::regnamespace
-        OR pronamespace <> 'pg_catalog'::regnamespace AND prosrc ~* 'current_setting|pg_settings|pg_show_all_settings'
-FROM named WHERE provolatile = 'v'
-    OR pronamespace = 'pg_catalog'::regnamespace
-        AND proname ~ '^(pg_stat_|pg_show_|pg_cursor$|pg_prepared_|pg_ls_|pg_read_|current_setting$|pg_get_.*memory)'
-    OR pronamespace <> 'pg_catalog'::regnamespace AND prosrc ~* 'current_setting|pg_settings|pg_show_all_settings'
+    SELECT 'bare' AS how, proname::text AS name, p.* FROM pg_proc p
+    WHERE proname = ANY(%(bare)s) AND pg_function_is_visible(oid)
+    UNION ALL SELECT 'qualified', proname, p.* FROM pg_proc p WHERE proname = ANY(%(qualified)s)
+    UNION ALL SELECT 'attribute', proname, p.* FROM pg_proc p
+    WHERE proname = ANY(%(attribute)s) AND pronargs = 1
+        AND EXISTS (SELECT FROM pg_type t WHERE t.oid = proargtypes[0] AND (typtype = 'c' OR typname IN (
+            'record', 'any', 'anyelement', 'anynonarray', 'anycompatible', 'anycompatiblenonarray')))
+    UNION ALL SELECT 'bare', oprname, p.* FROM pg_operator o JOIN pg_proc p ON p.oid = o.oprcode
+    WHERE oprname = ANY(%(bare)s) AND pg_operator_is_visible(o.oid)
+    UNION ALL SELECT 'qualified', oprname, p.* FROM pg_operator o JOIN pg_proc p ON p.oid = o.oprcode
+    WHERE oprname = ANY(%(qualified)s)
+    UNION ALL SELECT 'cast', oid::text, p.* FROM pg_proc p WHERE oid::text = ANY(%(cast)s))
+SELECT how, name, oid, proname, pronamespace IN ('pg_catalog'::regnamespace, 'information_schema'::regnamespace),
+    provolatile = 'v', proretset, prokind = 'a', pronargs - pronargdefaults,
+    CASE WHEN provariadic = 0 THEN pronargs ELSE 100 END
+FROM named
+"""
+
+# The casts that users made. PostgreSQL's own answer alike at each call.
+CASTS = """
+SELECT castfunc, casttarget, castcontext = 'i' FROM pg_cast JOIN pg_proc p ON p.oid = castfunc
+WHERE pronamespace <> 'pg_catalog'::regnamespace
+"""
+
+# The types whose casts may call those of a type: its domains, its arrays, and rows with it.
+TYPES_ABOVE = """
+SELECT oid FROM pg_type WHERE %(type)s IN (typbasetype, typelem)
+UNION SELECT t.oid FROM pg_attribute JOIN pg_type t ON typrelid = attrelid WHERE atttypid = %(type)s AND attnum > 0
+"""
+
+# The words that SQL has for some types.
+WORDS_OF_TYPES = {
+    "int4": ("int", "integer"), "int8": ("bigint",), "int2": ("smallint",), "float4": ("real", "float"),
+    "float8": ("float", "double"), "numeric": ("decimal", "dec"), "bool": ("boolean",),
+    "bpchar": ("char", "character", "nchar", "national"), "varchar": ("char", "character", "nchar", "national"),
+    "timestamptz": ("timestamp",), "timetz": ("time",), "varbit": ("bit",),
+}
+
+# Functions that are marked STABLE, but depend on the session, on current activity or on the statement.
+SETTINGS = "current_setting|pg_settings|pg_show_all_settings"
+ACTIVITY = "statement_timestamp|pg_stat_|pg_show_|pg_cursor|pg_prepared_|pg_ls_|pg_read_|pg_get_.*memory"
+
+# The users' own functions whose text has such a name, or the name of such a function.
+UNSTABLE = """
+WITH RECURSIVE own AS (
+    SELECT oid, proname::text AS name, lower(prosrc || {}) AS text FROM pg_proc
+    WHERE pronamespace NOT IN ('pg_catalog'::regnamespace, 'information_schema'::regnamespace)),
+unstable AS (
+    SELECT oid, name, text ~ '{}' AS settings FROM own WHERE text ~ '{}'
+    UNION SELECT own.oid, own.name, settings FROM unstable JOIN own ON strpos(text, lower(unstable.name)) > 0)
+SELECT oid, bool_or(settings) FROM unstable GROUP BY oid
 """
 
 # A row policy may hide rows of its table from a query, as the conditions of a view may.
@@ -127,6 +166,12 @@ WHY_SETTINGS = (
     "it tells the session's settings, which aren't the same while the query is counted and while it is joined"
 )
 
+# The operators that keywords stand for.
+OPERATORS_OF_WORDS = {
+    "LIKE": ("~~", "!~~"), "ILIKE": ("~~*", "!~~*"), "BETWEEN": (">=", "<=", "<", ">"), "IN": ("=", "<>"),
+    "DISTINCT": ("=",), "WHEN": ("=",), "NULLIF": ("=",), "SIMILAR": ("~", "!~"),
+}
+
 WHY_ACTIVITY = "it tells of what goes on now, and not of the snapshot"
 
 TYPES = "SELECT t, format_type(t, NULL) FROM unnest(%s::oid[]) AS t"
@@ -158,11 +203,28 @@ IN_ORDER = ("join_collapse_limit = 1",)
 SAME_WHEN_EQUAL = (18, 20, 16, 17, 1082, 23, 19, 26, 21, 25, 1083, 1266, 1114, 1184, 2950, 1043)
 
 
+# An ASCII name that is shorter isn't cut: a name has 63 bytes, or more in a server that is built so.
+SURELY_WHOLE = 32
+
+
 @dataclass(frozen=True)
 class PostgresDialect(Dialect):
+    """`asked` gives a name, as written, in the form that the server compares."""
+
+    asked: Callable[[str], str] | None = None
+
     def settings_for(self, tables: Iterable[Table]) -> tuple[str, ...]:
         more = FOR_SEVERAL_SERVERS if any(table.spread for table in tables) else ()
         return self.settings + tuple(f"SET {setting}" for setting in more)
+
+    def operators_of_words(self, token: Token) -> tuple[str, ...]:
+        return OPERATORS_OF_WORDS.get(token.text.upper(), ()) if token.kind == "word" else ()
+
+    def normalized(self, name: str, quoted: bool) -> str:
+        """PostgreSQL cuts long names, and folds and cuts them by the encoding of the database."""
+        if self.asked is None or (name.isascii() and len(name) < SURELY_WHOLE):
+            return super().normalized(name, quoted)
+        return self.asked(self.quote(name) if quoted else name)
 
     def reads_clock(self, pieces: list[Token], at: int, in_view: bool = False) -> bool:
         """now() has one value in the whole transaction. statement_timestamp() is marked STABLE too, but changes from
@@ -185,6 +247,7 @@ DIALECT = PostgresDialect(
     rules=POSTGRES,
     keeps_using=True,
     columns_may_be_calls=True,
+    casts_are_calls=True,
     counts_exactly=True,
     settings=tuple(f"SET {setting}" for setting in IN_ORDER),
 )
@@ -201,9 +264,9 @@ class PostgresConnection(Connection):
             if timeout:
                 self.connection.execute(f"SET LOCAL statement_timeout = {timeout * 1000}")
 
-    def value(self, sql: str) -> Any:
+    def value(self, sql: str, given: Sequence[object] | None = None) -> Any:
         """The only value of a result."""
-        [[value]] = self.rows(sql)
+        [[value]] = self.rows(sql, given)
         return value
 
     def rows(self, sql: str, given: Sequence[object] | Mapping[str, object] | None = None) -> list[Row]:
@@ -280,15 +343,6 @@ class PostgresCatalog(Catalog):
             types = {code: name for code, name in connection.execute(TYPES, codes)}
         return [Column(name, types[code], kinds.get(code)) for name, code in columns]
 
-    def returns_sets(self, pieces: list[Token]) -> bool:
-        called = [
-            self.dialect.normalized_name(token)
-            for token, after in zip(pieces, pieces[1:])
-            if token.is_name and after.says("(")
-        ]
-        asked = "SELECT FROM pg_proc WHERE proretset AND proname = ANY(%s) LIMIT 1"
-        return bool(self.connection.rows(asked, [called]))
-
     def merged_side(self, left: Column, right: Column) -> int | None:
         """Takes the column that isn't converted to the common type, or the left column if neither is converted."""
         if left.type == right.type:
@@ -304,17 +358,72 @@ class PostgresCatalog(Catalog):
         ask = "SELECT system_identifier::text FROM pg_control_system()"
         return str(self.connection.value(ask)) if self.connection.value(may) else "a server"
 
-    def volatile(self, names: set[str]) -> dict[str, str]:
-        dots = {name: len(name) - len(name.lstrip(".")) for name in names}
-        given = {
-            kind: [name[count:] for name in names if dots[name] == count]
-            for count, kind in enumerate(("bare", "qualified", "attributes"))
+    def functions(self, asked: set[Call]) -> dict[Call, list[Function]]:
+        """The functions that take this number of arguments."""
+        if not asked:
+            return {}
+        casts = {call: self._casts_of(call) for call in asked}
+        given = {how: [call.name for call in asked if call.how == how] for how in ("bare", "qualified", "attribute")}
+        given["cast"] = [oid for some in casts.values() for oid in some]
+        by_name: dict[tuple[str, str], list[Row]] = {}
+        for row in self.connection.rows(FUNCTIONS, given):
+            by_name.setdefault((row[0], row[1]), []).append(row)
+        return {
+            call: [
+                self._function(row)
+                for key in [(call.how, call.name), *(("cast", oid) for oid in casts[call])]
+                for row in by_name.get(key, ())
+                if call.arguments is None or row[8] <= call.arguments <= row[9]
+            ]
+            for call in asked
         }
-        why = {
-            name: self.dialect.why_volatile if volatile else WHY_SETTINGS if settings else WHY_ACTIVITY
-            for name, volatile, settings in self.connection.rows(VOLATILE, given)
-        }
-        return {name: why[name.lstrip(".")] for name in sorted(names) if name.lstrip(".") in why}
+
+    def _function(self, row: Row) -> Function:
+        _, _, oid, name, is_system, volatile, returns_set, is_aggregate, _, _ = row
+        why = self.dialect.why_volatile if volatile else self._why_unstable(oid, name, is_system)
+        return Function(why, returns_set, is_aggregate)
+
+    def _casts_of(self, call: Call) -> list[str]:
+        """The users' casts that the call may use. PostgreSQL adds implicit casts by itself."""
+        if call.how not in ("type", "implicit"):
+            return []
+        if call.how == "implicit":
+            return [oid for oid, _, implicit in self.casts if implicit]
+        return [oid for oid, names, _ in self.casts if call.name in names]
+
+    @functools.cached_property
+    def casts(self) -> list[tuple[str, set[str], bool]]:
+        """The functions of the users' casts, the names of the types by which they may be called, and whether PostgreSQL
+        adds them by itself.
+        """
+        return [
+            (str(function), self._names_above(target), implicit)
+            for function, target, implicit in self.connection.rows(CASTS)
+        ]
+
+    def _names_above(self, target: int) -> set[str]:
+        types = [target]
+        for one in types:
+            types += [oid for (oid,) in self.connection.rows(TYPES_ABOVE, {"type": one}) if oid not in types]
+        names = {name for (name,) in self.connection.rows("SELECT typname FROM pg_type WHERE oid = ANY(%s)", [types])}
+        return names.union(*(WORDS_OF_TYPES.get(name, ()) for name in names))
+
+    def _why_unstable(self, oid: int, name: str, is_system: bool) -> str | None:
+        """Why a function that isn't volatile may give another result in another statement."""
+        if not is_system:
+            settings = self.unstable.get(oid)
+            return None if settings is None else WHY_SETTINGS if settings else WHY_ACTIVITY
+        if re.fullmatch(SETTINGS, name):
+            return WHY_SETTINGS
+        return WHY_ACTIVITY if re.match(rf"({ACTIVITY})", name) and name != "statement_timestamp" else None
+
+    @functools.cached_property
+    def unstable(self) -> dict[int, bool]:
+        """The users' own functions that depend on settings (True) or on what goes on (False)."""
+        body = "coalesce(pg_get_function_sqlbody(oid), '')"
+        since_14 = self.connection.connection.info.server_version >= 140000
+        asked = UNSTABLE.format(body if since_14 else "''", SETTINGS, f"{SETTINGS}|{ACTIVITY}")
+        return {oid: settings for oid, settings in self.connection.rows(asked)}
 
     def view_texts(self, names: set[str]) -> list[tuple[str, str, str]]:
         found = self.connection.rows(VIEWS, {"names": sorted(names)})
@@ -367,7 +476,8 @@ def as_faults() -> Iterator[None]:
     try:
         yield
     except psycopg.Error as error:
-        raise EngineFault(one_line(error), isinstance(error, psycopg.DataError)) from None
+        of_data = isinstance(error, (psycopg.DataError, psycopg.errors.IndeterminateCollation))
+        raise EngineFault(one_line(error), of_data) from None
 
 
 def _collation(column: Column) -> int:
@@ -384,7 +494,12 @@ def open_engine(url: str, timeout: int | None) -> Engine:
     except Fault:
         connection.close()
         raise
-    dialect = replace(DIALECT, reserved=frozenset(word for (word,) in words))
+
+    @functools.lru_cache(None)
+    def asked(name: str) -> str:
+        return str(connection.value("SELECT (parse_ident(%s))[1]::name::text", [name]))
+
+    dialect = replace(DIALECT, reserved=frozenset(word for (word,) in words), asked=asked)
     return Engine(dialect, PostgresCatalog(connection, dialect), connection)
 
 

@@ -35,6 +35,7 @@ class Source:
     table: Tokens
     alias: Token
     columns: Tokens = field(default_factory=list)
+    says_lateral: bool = False
 
     @property
     def is_query(self) -> bool:
@@ -302,8 +303,9 @@ class Reader:
             if self._peek("AS") or (self.at < len(self.pieces) and self._is_at_alias()):
                 raise self._refuse("an alias of joined tables isn't read")
             return
+        says_lateral = self.in_blocks and self._peek("(", ahead=1) and self._take("LATERAL")
         if self._peek("(") and self.in_blocks:
-            return self._read_query_in_from()
+            return self._read_query_in_from(says_lateral)
         if self._peek("("):
             raise self._refuse("a query within FROM isn't bounded; make it a view", "a subquery")
         if self._peek(*NO_TABLE):
@@ -321,7 +323,7 @@ class Reader:
         self.statement.steps.append(Step("INNER", len(self.statement.sources)))
         self.statement.sources.append(source)
 
-    def _read_query_in_from(self) -> None:
+    def _read_query_in_from(self, says_lateral: bool) -> None:
         end = closing(self.pieces, self.at)
         table = self.pieces[self.at : end + 1]
         self.at = end + 1
@@ -332,7 +334,7 @@ class Reader:
             end = closing(self.pieces, self.at)
             columns = self.pieces[self.at : end + 1]
             self.at = end + 1
-        self._add_source(Source(table, alias, columns))
+        self._add_source(Source(table, alias, columns, says_lateral))
 
     def _read_table(self) -> Tokens:
         start = self.at

@@ -3,6 +3,7 @@
 from __future__ import annotations
 
 import contextlib
+import functools
 import os
 import re
 import sqlite3
@@ -12,6 +13,7 @@ from pathlib import Path
 from typing import Iterator, Sequence
 
 from . import stops
+from .calls import Call, Function
 from .dialect import Dialect
 from .engine import Catalog, Connection, Engine, one_line, with_names
 from .faults import EngineFault
@@ -30,7 +32,16 @@ WHERE name = ? COLLATE NOCASE AND (?2 IS NULL OR schema = ?2 COLLATE NOCASE)
 ORDER BY schema <> 'temp', schema <> 'main' LIMIT 1
 """
 COLUMNS = "SELECT name, type, hidden FROM pragma_table_xinfo(?, ?) ORDER BY cid"
-VOLATILE = f"SELECT name FROM pragma_function_list WHERE type = 's' AND NOT flags & {DETERMINISTIC}"
+FUNCTIONS = f"SELECT name, narg, type = 's', NOT flags & {DETERMINISTIC} FROM pragma_function_list"
+
+
+# The words that name a column only in quotes.
+RESERVED = frozenset(
+    "current_date current_time current_timestamp add all alter and as autoincrement between case check collate commit"
+    " constraint create default deferrable delete distinct drop else escape except exists foreign from group having in"
+    " index insert intersect into is isnull join limit not nothing notnull null on or order primary references select"
+    " set table then to transaction union unique update using values when where".split()
+)
 
 
 @dataclass(frozen=True)
@@ -77,11 +88,13 @@ DIALECT = SqliteDialect(
     outputs_in_conditions=True,
     plain_words=("OFFSET", "WINDOW", "FETCH"),
     takes_bare_columns=True,
+    rows_are_values=False,
+    parts_see_each_other=True,
     why_clock=(
         "SQLite's date functions may ask for the time, unless they get a date as it is, or a column that never says"
         " 'now'"
     ),
-    reserved=frozenset(("null", "current_date", "current_time", "current_timestamp")),
+    reserved=RESERVED,
 )
 
 
@@ -214,9 +227,23 @@ class SqliteCatalog(Catalog):
             raise
         return {(2, 2): "BINARY", (1, 2): "NOCASE", (2, 1): "RTRIM"}.get((case, space))
 
-    def volatile(self, names: set[str]) -> dict[str, str]:
-        found = {row[0].lower() for row in self.connection.rows(VOLATILE)}
-        return {name: DIALECT.why_volatile for name in sorted(names) if name.lstrip(".") in found}
+    @functools.cached_property
+    def known_functions(self) -> dict[str, list[tuple[int, Function]]]:
+        """All functions by their names, each with the number of its arguments, or -1 for any."""
+        found: dict[str, list[tuple[int, Function]]] = {}
+        for name, arguments, is_scalar, volatile in self.connection.rows(FUNCTIONS):
+            why = DIALECT.why_volatile if is_scalar and volatile else None
+            found.setdefault(name.lower(), []).append((arguments, Function(why, is_aggregate=not is_scalar)))
+        return found
+
+    def functions(self, asked: set[Call]) -> dict[Call, list[Function]]:
+        """SQLite takes the function with this number of arguments, or else the one with any number."""
+        return {call: self._functions_of(call) for call in asked}
+
+    def _functions_of(self, call: Call) -> list[Function]:
+        known = self.known_functions.get(call.name, [])
+        exact = [function for arguments, function in known if arguments == call.arguments]
+        return exact or [function for _, function in known]
 
     def view_texts(self, names: set[str]) -> list[tuple[str, str, str]]:
         views = self.connection.rows("SELECT name, sql FROM sqlite_master WHERE type = 'view'")

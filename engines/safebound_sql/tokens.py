@@ -136,6 +136,12 @@ def tokens(text: str, rules: re.Pattern[str]) -> list[Token]:
     return found
 
 
+def without_end(text: str, pieces: list[Token]) -> str:
+    """The text without what follows its last token: semicolons and comments."""
+    last = next((token for token in reversed(pieces) if not token.says(";")), None)
+    return text[: last.at + len(last.text)] if last else ""
+
+
 def _end_of_comment(text: str, at: int) -> int:
     """The end of a comment. PostgreSQL's comments nest."""
     depth = 0

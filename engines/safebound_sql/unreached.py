@@ -12,6 +12,7 @@ from dataclasses import dataclass, replace
 from typing import Iterator
 
 from .dialect import Dialect
+from .calls import Call, Function
 from .engine import Catalog, Connection, Engine
 from .faults import EngineFault, Missing, Refused
 from .known import CALLED, PLAIN, CLOCK_WORDS
@@ -148,10 +149,10 @@ class SchemaFile(Catalog):
     def table(self, name: list[Token]) -> Table | None:
         return self.tables.get(self.dialect.normalized_table_name(name))
 
-    def volatile(self, names: set[str]) -> dict[str, str]:
-        """All names that aren't known to give the same result at each call."""
-        called = [name for name in names if re.match(r"\.?\w", name)]
-        return {name: self.dialect.why_volatile for name in sorted(called) if name.lower() not in CALLED}
+    def functions(self, asked: set[Call]) -> dict[Call, list[Function]]:
+        """All functions that aren't known to give the same result at each call. Operators are known."""
+        unknown = [call for call in asked if re.match(r"\w", call.name) and call.name.lower() not in CALLED]
+        return {call: [Function(self.dialect.why_volatile)] for call in unknown}
 
     def view_texts(self, names: set[str]) -> list[tuple[str, str, str]]:
         return []

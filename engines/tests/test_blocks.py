@@ -4,6 +4,7 @@ those of the query.
 
 from __future__ import annotations
 
+import json
 import random
 import unittest
 
@@ -12,7 +13,7 @@ from bases import POSTGRES, ROOT, OnEachEngine, PostgresBase, counted, on_postgr
 from process import Process
 from safebound_sql import block_plans
 from safebound_sql.command import open_engine
-from safebound_sql.faults import PastBudget
+from safebound_sql.faults import PastBudget, Refused
 from safebound_sql.levels import MOST_BUDGET
 
 QUERIES_OF_THE_ARCHIVE = ROOT / "bench" / "archive_queries"
@@ -34,12 +35,40 @@ class InBlocks(OnEachEngine, Process):
             engine.connection.keep_order()
             rows, true = engine.connection.rows(planner.sql()), self.base.rows(text)
             self.assertEqual(counted(rows), counted(true), planner.sql())
-            [top] = [plan for plan in planner.plans.values() if plan.select.label == "the query"]
-            if not planner.query.operators and top.rows is not None:
-                self.assertLessEqual(len(true), top.rows)
+            self.assertEqual(self.columns(planner.sql()), self.columns(text))
+            if planner.rows is not None:
+                self.assertLessEqual(len(true), planner.rows)
             return planner
         finally:
             engine.connection.close()
+
+    def columns(self, text: str) -> list[str]:
+        return [column[0] for column in self.base.connection.execute(text).description]
+
+    def bounds(self, text: str, *bounds: list[int]) -> block_plans.Planner:
+        """Compares the bounds of the blocks' levels with bounds computed by hand. The inner blocks come first."""
+        with self.subTest(text):
+            planner = self.tried_in_blocks(text)
+            self.assertEqual(planner.unbounded, [])
+            if bounds:
+                found = [[level.bound for level in plan.levels] for plan in planner.plans.values()]
+                self.assertEqual(found, list(bounds))
+            return planner
+        self.fail(text)
+
+    def not_bounded(self, text: str, *words: str) -> None:
+        """The query is refused, or a part of it isn't bounded, and these words say why. So no budget admits it."""
+        with self.subTest(text):
+            engine = open_engine(self.base.url, None)
+            self.addCleanup(engine.connection.close)
+            self.assertTrue(block_plans.has_several_blocks(text, engine))
+            try:
+                said = block_plans.Planner(engine, text, 1, MOST_BUDGET).unbounded
+            except Refused as refused:
+                said = [str(refused)]
+            self.assertTrue(said)
+            for some in words:
+                self.assertIn(some, "\n".join(said))
 
     def bounded(self, text: str) -> bool:
         """Whether every join of the query has a bound."""
@@ -55,14 +84,17 @@ class InBlocks(OnEachEngine, Process):
         return True
 
 
-class Blocks(InBlocks):
-    schema = """
-    CREATE TABLE a (x INTEGER, p INTEGER, t TEXT);
-    CREATE TABLE b (x INTEGER, y INTEGER, z INTEGER);
-    CREATE TABLE c (y INTEGER, w INTEGER);
-    CREATE TABLE k (x INTEGER PRIMARY KEY);
-    CREATE TABLE v (x INTEGER);
-    """
+SCHEMA = """
+CREATE TABLE a (x INTEGER, p INTEGER, t TEXT);
+CREATE TABLE b (x INTEGER, y INTEGER, z INTEGER);
+CREATE TABLE c (y INTEGER, w INTEGER);
+CREATE TABLE k (x INTEGER PRIMARY KEY);
+CREATE TABLE v (x INTEGER);
+"""
+
+
+class SmallTables(InBlocks):
+    schema = SCHEMA
 
     @classmethod
     def fill(cls) -> None:
@@ -72,16 +104,8 @@ class Blocks(InBlocks):
         cls.base.fill("k", [(n,) for n in range(3)])
         cls.base.fill("v", [(None,)] * 5)
 
-    def bounds(self, text: str, *bounds: list[int]) -> None:
-        """Compares the bounds of the blocks' levels with bounds computed by hand. The inner blocks come first."""
-        with self.subTest(text):
-            planner = self.tried_in_blocks(text)
-            self.assertEqual(planner.unbounded, [])
-            if bounds:
-                self.assertEqual(
-                    [[level.bound for level in plan.levels] for plan in planner.plans.values()], list(bounds)
-                )
 
+class Blocks(SmallTables):
     def test_outer_joins(self) -> None:
         # The rows of k match at most 12 rows of b: three values occur in four rows each. A LEFT JOIN adds up to 3 rows
         # of k.
@@ -175,11 +199,81 @@ class Blocks(InBlocks):
 
     def test_together(self) -> None:
         self.bounds("SELECT x FROM k UNION ALL SELECT y FROM c ORDER BY 1", [3], [12])
+        for text, rows in (
+            ("SELECT x FROM k UNION ALL SELECT y FROM c", 15),
+            ("SELECT x FROM k UNION ALL SELECT y FROM c LIMIT 5", 5),
+            ("SELECT a.p FROM a, k WHERE a.p = k.x UNION SELECT w FROM c EXCEPT SELECT z FROM b", 35),
+            ("SELECT x FROM a INTERSECT SELECT x FROM k ORDER BY x", 3),
+            ("SELECT x FROM a EXCEPT SELECT x FROM b", 20),
+        ):
+            self.assertEqual(self.bounds(text).rows, rows, text)
+
+    def test_the_rows_that_come_out_are_held(self) -> None:
+        text = "SELECT x FROM k UNION ALL SELECT y FROM c"
+        done = self.tried("plan", text=text)
+        self.assertIn("the whole query: at most 15 rows\nbudget 15 would do\n", done.stdout)
+        document = json.loads(self.tried("plan", "--json", text=text).stdout)
+        self.assertEqual((document["rows"], document["least budget"]), (15, 15))
+        done = self.tried("run", "--budget", "14", text=text)
+        self.assertEqual((done.returncode, done.stdout), (8, ""), done.stderr)
+        self.assertIn("15 would do", done.stderr)
+        done = self.tried("run", "--budget", "15", text=text)
+        self.assertEqual((done.returncode, len(done.stdout.splitlines())), (0, 16), done.stderr)
+        # An aggregate makes one row of none.
+        text = "SELECT count(*) FROM v LEFT JOIN k ON false WHERE v.x = 1"
+        self.assertEqual(self.tried("run", "--budget", "0", text=text).returncode, 8)
+
+    def test_stars(self) -> None:
+        # The plan begins with k, which has the fewest rows.
         for text in (
-            "SELECT a.p FROM a, b WHERE a.x = b.x UNION SELECT w FROM c EXCEPT SELECT z FROM b",
-            "SELECT x FROM a INTERSECT SELECT x FROM b ORDER BY x",
+            "SELECT * FROM b JOIN k ON b.x = k.x WHERE EXISTS (SELECT 1 FROM c WHERE c.w = b.z)",
+            "SELECT DISTINCT * FROM b JOIN k AS \"K k\" ON b.x = \"K k\".x LEFT JOIN v ON v.x = b.x",
+            "SELECT *, b.*, 1 AS one FROM b, k, a WHERE b.x = k.x AND a.p = z AND EXISTS (SELECT 1 FROM c WHERE w = z)",
+            "SELECT sum(q.one) FROM (SELECT * FROM (SELECT z AS one, x FROM b) AS b JOIN k ON b.x = k.x) AS q",
+            "SELECT * FROM b JOIN k ON b.x = k.x UNION ALL SELECT z, y, x, 7 FROM b",
+            "SELECT x, y, z, x FROM b EXCEPT SELECT * FROM b JOIN k ON b.x = k.x",
+            (
+                "SELECT p FROM a WHERE (p, 1) IN (SELECT * FROM (SELECT * FROM (SELECT z FROM b) AS one JOIN (SELECT 1"
+                " AS o FROM k) AS two ON 1 = 1) AS q)"
+            ),
+            "WITH q AS (SELECT * FROM b JOIN k ON b.x = k.x) SELECT * FROM q LEFT JOIN c ON c.w = q.z",
         ):
             self.bounds(text)
+
+    def test_names_with_a_schema(self) -> None:
+        schema = "public" if self.base.engine == "postgres" else "main"
+        for text in (
+            "SELECT S.a.p FROM S.a WHERE EXISTS (SELECT 1 FROM c WHERE c.w > S.a.x)",
+            "SELECT 1 + S.a.p, b.z FROM S.a LEFT JOIN S.b ON S.a.x = b.x AND S.b.z > 3 WHERE S.a.p < 9 ORDER BY 1",
+            "SELECT a.p FROM S.a, b WHERE S.a.x = S.b.x AND EXISTS (SELECT 1 FROM c WHERE c.w = S.a.p)",
+        ):
+            self.bounds(text.replace("S.", schema + "."))
+
+    def test_with_below_with(self) -> None:
+        for text in (
+            (
+                "WITH p AS (SELECT x FROM a) SELECT q.x FROM (WITH r AS (SELECT x FROM p) SELECT r.x FROM r) AS q"
+                " LEFT JOIN b ON b.x = q.x"
+            ),
+            # The inner part hides the outer one, which has more rows.
+            (
+                "WITH p AS (SELECT x FROM a) SELECT q.x FROM (WITH p AS (SELECT x FROM k), r AS (SELECT x FROM p)"
+                " SELECT r.x FROM r) AS q, p WHERE q.x = p.x"
+            ),
+        ):
+            self.bounds(text)
+        planner = self.bounds(
+            "SELECT q.x FROM (WITH a AS (SELECT x FROM k) SELECT a.x FROM a) AS q, c", [3], [3], [3, 36]
+        )
+        self.assertEqual(planner.rows, 36)
+
+    def test_parts_of_recursive_that_dont_lead_back(self) -> None:
+        text = "WITH RECURSIVE q AS (SELECT x FROM r), r AS (SELECT x FROM k) SELECT q.x FROM q, c"
+        self.bounds(text, [3], [3], [3, 36])
+        self.not_bounded(
+            "WITH RECURSIVE q AS (SELECT x FROM k), k (x) AS (SELECT 1 UNION ALL SELECT x + 1 FROM k WHERE x < 9)"
+            " SELECT q.x FROM q, c", "how often it goes on isn't known",
+        )
 
     def test_subqueries(self) -> None:
         for text in (
@@ -227,6 +321,142 @@ class Blocks(InBlocks):
         self.assertEqual(refused.exception.least, 60)
         done = self.tried("run", "--budget", "60", text=text + " ORDER BY 1")
         self.assertEqual((done.returncode, done.stdout), (0, "x\n0\n1\n2\n"), done.stderr)
+
+
+class BlocksOfSqlite(SmallTables):
+    """WITH as SQLite has it: it needs no RECURSIVE, and its parts see each other."""
+
+    def test_parts_that_lead_back(self) -> None:
+        for text in (
+            "WITH k (x) AS (SELECT 1 UNION ALL SELECT x + 1 FROM k WHERE x < 50) SELECT k.x FROM k, c",
+            "WITH q (x) AS (SELECT 1 UNION ALL SELECT x + 1 FROM q WHERE x < 50) SELECT q.x FROM q, c",
+            "SELECT q.x FROM (WITH k (x) AS (SELECT 1 UNION SELECT x + 1 FROM c, k WHERE x < 9) SELECT x FROM k) q, c",
+        ):
+            self.not_bounded(text, "it leads back to itself, and how often it goes on isn't known")
+
+    def test_later_parts(self) -> None:
+        self.bounds(
+            "WITH q AS (SELECT x FROM k), k AS (SELECT b.z AS x FROM b) SELECT q.x FROM q LEFT JOIN c ON c.w = -1",
+            [20], [20], [20, 20],
+        )
+
+
+@unittest.skipUnless(POSTGRES, "no PostgreSQL")
+class BlocksOfPostgres(SmallTables):
+    """What PostgreSQL alone has: LATERAL, sets of rows among outputs, and functions of the user's own."""
+
+    base_class = PostgresBase
+    schema = SCHEMA + """
+CREATE FUNCTION three (a) RETURNS SETOF int LANGUAGE sql STABLE AS 'VALUES (1), (2), (3)';
+CREATE FUNCTION three (int) RETURNS SETOF int LANGUAGE sql STABLE AS 'VALUES (1), (2), (3)';
+CREATE OPERATOR !!! (RIGHTARG = int, FUNCTION = three);
+CREATE FUNCTION total (int) RETURNS int LANGUAGE sql IMMUTABLE AS 'SELECT $1 + 1';
+CREATE FUNCTION count (int, text) RETURNS int LANGUAGE sql IMMUTABLE AS 'SELECT $1';
+CREATE SCHEMA s;
+CREATE FUNCTION s.sum (int) RETURNS int LANGUAGE sql IMMUTABLE AS 'SELECT $1';
+"""
+
+    @classmethod
+    def setUpClass(cls) -> None:
+        super().setUpClass()
+        cls.addClassCleanup(cls.base.script, "DROP SCHEMA s CASCADE")
+
+    def test_selects_without_from(self) -> None:
+        for text in (
+            "SELECT q.g, a.p FROM a JOIN (SELECT generate_series(1, 5) AS g) q ON q.g = a.x",
+            "WITH q AS (SELECT generate_series(1, 50) g) SELECT q.g FROM q LEFT JOIN a ON a.x = q.g",
+            "SELECT b.z FROM b LEFT JOIN (SELECT 1 AS n UNION ALL SELECT generate_series(2, 40)) q ON true",
+            "SELECT q.n FROM (SELECT unnest(ARRAY[1, 1, 1]) AS n) q LEFT JOIN b ON false",
+            "SELECT q.n FROM (SELECT 1 AS n GROUP BY GROUPING SETS ((), ())) q LEFT JOIN b ON false",
+            "SELECT q.n FROM (SELECT 1 AS n ORDER BY generate_series(1, 9)) q LEFT JOIN b ON false",
+            "SELECT q.n FROM ((SELECT 1 AS n) ORDER BY generate_series(1, 9)) q LEFT JOIN b ON false",
+        ):
+            self.not_bounded(text, "its rows aren't bounded" if "((SELECT" not in text else "")
+        self.bounds("SELECT q.n, k.x FROM (SELECT 1 + abs(-1) AS n) q, k", [], [1, 3])
+        self.bounds("SELECT q.n, k.x FROM (SELECT (SELECT count(*) FROM b) AS n) q, k", [20], [], [1, 3])
+
+    def test_sets_of_rows_anywhere(self) -> None:
+        for inner in (
+            "SELECT x FROM a ORDER BY generate_series(1, 9)",
+            "SELECT x FROM a GROUP BY x, generate_series(1, 9)",
+            "SELECT x, count(*) FROM a GROUP BY x ORDER BY generate_series(1, 3)",
+            "SELECT count(*) AS x FROM a ORDER BY generate_series(1, 30)",
+            "SELECT DISTINCT ON (generate_series(1, 3)) x FROM k",
+            "SELECT x, rank() OVER w FROM a WINDOW w AS (ORDER BY generate_series(1, 3))",
+            "SELECT !!! x AS x FROM a",
+            "SELECT x OPERATOR(pg_catalog.+) generate_series(1, 3) AS x FROM a",
+            "SELECT a.three AS x FROM a",
+            "SELECT public.three(x) AS x FROM a",
+        ):
+            self.not_bounded(f"SELECT q.x FROM ({inner}) q LEFT JOIN b ON false", "its rows aren't bounded")
+        text = "SELECT generate_series(1, 9) FROM a LEFT JOIN b ON a.x = b.x"
+        self.not_bounded(text, "generate_series may make several rows of one")
+        done = self.tried("run", "--budget", str(MOST_BUDGET), text=text)
+        self.assertEqual((done.returncode, done.stdout), (5, ""), done.stderr)
+        self.not_bounded(
+            "(SELECT a.x FROM a LEFT JOIN b ON a.x = b.x) ORDER BY generate_series(1, 3)", "its rows aren't bounded"
+        )
+        # A subquery has one value, whatever it calls.
+        self.bounds("SELECT (SELECT generate_series(1, 1)) FROM k LEFT JOIN v ON false", [], [3, 18])
+
+    def test_functions_named_like_aggregates(self) -> None:
+        for inner, rows in (
+            ("total(x)", 20), ("s.sum(p)", 20), ("count(p, 'a')", 20), ("sum(p)", 1), ("count(*)", 1),
+            ("bool_and(p > 1)", 1), ("max(p) FILTER (WHERE p > 3)", 1), ("max(p) OVER ()", 20),
+            ("percentile_disc(0.5) WITHIN GROUP (ORDER BY p)", 1),
+        ):
+            text = f"SELECT q.t FROM (SELECT {inner} AS t FROM a) q LEFT JOIN b ON false"
+            self.bounds(text, [20], [rows, rows + 20 * rows])
+        text = "SELECT 1 FROM v LEFT JOIN k ON false WHERE v.x = 1 ORDER BY count(*)"
+        self.assertEqual(self.bounds(text, [0, 0]).rows, 1)
+        # This max is of the rows outside: the query in FROM has a row for each of b.
+        text = "SELECT (SELECT count(*) FROM (SELECT max(a.p) FROM b) q) FROM a LEFT JOIN v ON false"
+        planner = self.tried_in_blocks(text)
+        self.assertEqual([plan.rows for plan in planner.plans.values()][0], 20)
+
+    def test_lateral(self) -> None:
+        near = "SELECT b.z FROM b WHERE b.x = k.x"
+        self.bounds(f"SELECT k.x, q.z FROM k, LATERAL ({near}) q", [20], [3, 12])
+        self.bounds(f"SELECT * FROM k CROSS JOIN LATERAL ({near}) AS q (n)", [20], [3, 12])
+        self.bounds(f"SELECT k.x, q.z FROM k LEFT JOIN LATERAL ({near}) q ON true", [20], [3, 15])
+        self.bounds(f"SELECT k.x, q.z FROM k LEFT JOIN LATERAL ({near} AND b.z < 5) q ON q.z > 1", [5], [3, 6])
+        self.bounds(f"SELECT k.x, q.z FROM k, LATERAL ({near} ORDER BY z LIMIT 2) q", [20], [3, 6])
+        self.bounds(f"SELECT k.x, q.z FROM k LEFT JOIN LATERAL ({near} ORDER BY z LIMIT 2) q ON true", [20], [3, 9])
+        self.bounds("SELECT k.x, q.n FROM k, LATERAL (SELECT count(*) AS n FROM b WHERE b.x = k.x) q", [20], [3, 3])
+        self.bounds("SELECT k.x, q.y FROM k, LATERAL (SELECT k.x + 1 AS y) q", [], [3, 3])
+        self.bounds("SELECT v.x, q.n FROM v, LATERAL (SELECT count(*) AS n FROM b WHERE b.x = v.x) q", [20], [5, 5])
+        both = f"{near} UNION ALL SELECT c.w FROM c WHERE c.y = k.x"
+        self.bounds(f"SELECT k.x, q.z FROM k, LATERAL ({both}) q", [20], [12], [3, 24])
+        text = f"SELECT k.x, q.z, c.w FROM k CROSS JOIN LATERAL ({near}) q JOIN c ON c.w = k.x"
+        self.bounds(text, [20], [3, 12, 12])
+        self.bounds(
+            "SELECT k.x, q.z, r.w FROM k, LATERAL (SELECT b.z, b.y FROM b WHERE b.x = k.x) q,"
+            " LATERAL (SELECT c.w FROM c WHERE c.y = q.y AND c.w = k.x) r", [20], [12], [3, 12, 12],
+        )
+        self.bounds(
+            "SELECT k.x, q.z FROM k, LATERAL (SELECT b.z, c.w FROM b LEFT JOIN c ON c.w = b.z WHERE b.x = k.x) q",
+            [20, 32], [3, 24],
+        )
+        # It names nothing before it, and is a query in FROM like others.
+        self.bounds("SELECT k.x, q.z FROM k, LATERAL (SELECT b.z FROM b) q", [20], [3, 60])
+        self.not_bounded("SELECT k.x FROM k, LATERAL (SELECT generate_series(1, k.x)) q", "its rows aren't bounded")
+        self.not_bounded(
+            "SELECT * FROM a WHERE EXISTS (SELECT 1 FROM b, LATERAL (SELECT c.y FROM c WHERE c.w = a.p) q)",
+            "it names an entry of a block further out",
+        )
+
+    def test_names_that_are_cut(self) -> None:
+        for start in ("a" * 62, "\u00e9" * 31, "\"" + "A b" * 20 + "ab"):
+            end = "\"" if start.startswith("\"") else ""
+            kept = self.base.rows(f"SELECT (parse_ident('{start}x{end}'))[1]::name::text")[0][0]
+            self.base.script(f'CREATE TABLE "{kept}" (x INTEGER); INSERT INTO "{kept}" VALUES (1), (2)')
+            with self.subTest(start):
+                self.bounds(
+                    f"WITH {start}xaaa{end} AS (SELECT b.z AS x FROM b) SELECT t.x FROM {start}xbb{end} t LEFT JOIN v"
+                    " ON false", [20], [20, 120],
+                )
+                text = f"SELECT {start}xb{end}.x FROM {start}xccc{end} LEFT JOIN k ON k.x = {start}xd{end}.x"
+                self.bounds(text, [2, 4])
 
 
 @unittest.skipUnless(POSTGRES, "no PostgreSQL")
@@ -299,7 +529,7 @@ class Archive(InBlocks):
 
 
 BlocksOnPostgres, ArchiveOnPostgres = on_postgres(Blocks), on_postgres(Archive)
-del InBlocks
+del InBlocks, SmallTables
 
 if __name__ == "__main__":
     unittest.main()

@@ -294,6 +294,57 @@ class CornersOfPostgres(Corners):
         self.refused("SELECT x FROM a WHERE x @#@ 2", "@#@ at line 1")
         self.refused("SELECT x FROM a WHERE x OPERATOR(public.@#@) 2", "@#@ at line 1")
 
+    def test_casts_of_the_users_own(self) -> None:
+        self.base.script(
+            """
+            DROP TYPE IF EXISTS wrapped CASCADE; CREATE TYPE wrapped AS (v int);
+            CREATE DOMAIN "Wrapped Twice" AS wrapped; CREATE TYPE around AS (inner_one wrapped);
+            CREATE OR REPLACE FUNCTION to_wrapped(int) RETURNS wrapped LANGUAGE plpgsql VOLATILE AS
+                'BEGIN RETURN ROW((random() * 20)::int)::wrapped; END';
+            CREATE CAST (int AS wrapped) WITH FUNCTION to_wrapped(int);
+            CREATE OR REPLACE FUNCTION to_number(wrapped) RETURNS int LANGUAGE sql VOLATILE AS 'SELECT 1';
+            CREATE CAST (wrapped AS int) WITH FUNCTION to_number(wrapped);
+        """
+        )
+        try:
+            for cast in (
+                "(a.x::wrapped).v", "(CAST(a.x AS wrapped)).v", "(a.x::public.wrapped).v", "(wrapped(a.x)).v",
+                '(a.x::"Wrapped Twice").v', "((ROW(a.x)::around).inner_one).v", "((ARRAY[a.x]::wrapped[])[1]).v",
+                "ROW(a.x)::int", "CAST(ROW(a.x) AS integer)",
+            ):
+                self.refused(f"SELECT a.x, e.name FROM a JOIN e ON a.x = e.x WHERE {cast} < 10", "it may answer anew")
+            self.right("SELECT a.x, e.name FROM a JOIN e ON a.x = e.x WHERE a.x::text < '4' AND a.y::numeric > 2")
+            # PostgreSQL would add this cast by itself.
+            self.base.script("DROP CAST (int AS wrapped); CREATE CAST (int AS wrapped) WITH FUNCTION to_wrapped(int)"
+                             " AS IMPLICIT")
+            self.refused("SELECT a.x FROM a JOIN e ON a.x = e.x", "it may answer anew")
+        finally:
+            self.base.script("DROP TYPE wrapped CASCADE; DROP TYPE around")
+
+    def test_the_time_of_the_statement(self) -> None:
+        self.base.script(
+            """
+            CREATE OR REPLACE FUNCTION stmt() RETURNS timestamptz LANGUAGE sql STABLE AS 'SELECT statement_timestamp()';
+            CREATE OR REPLACE FUNCTION below() RETURNS timestamptz LANGUAGE sql STABLE AS 'SELECT stmt()';
+            CREATE OR REPLACE FUNCTION in_body() RETURNS timestamptz STABLE RETURN statement_timestamp();
+            CREATE OR REPLACE FUNCTION kept() RETURNS timestamptz LANGUAGE sql STABLE AS 'SELECT now()';
+            CREATE OR REPLACE FUNCTION at_work() RETURNS bigint LANGUAGE sql STABLE AS 'SELECT count(*) FROM
+                pg_stat_activity';
+        """
+        )
+        for called in ("stmt()", "public.stmt()", "below()", "in_body()"):
+            self.refused(f"SELECT a.x FROM a JOIN e ON a.x = e.x WHERE {called} IS NOT NULL", "what goes on now")
+        self.refused("SELECT a.x FROM a JOIN e ON a.x = e.x WHERE at_work() > 3", "it tells of what goes on")
+        self.right("SELECT a.x FROM a JOIN e ON a.x = e.x WHERE kept() IS NOT NULL")
+
+    def test_texts_of_two_collations(self) -> None:
+        self.base.script('DROP TABLE IF EXISTS f; CREATE TABLE f (w TEXT COLLATE "C", v TEXT COLLATE "POSIX");'
+                         " INSERT INTO f VALUES ('a', 'a')")
+        text = "SELECT f.w FROM f, f AS g, e WHERE f.w = g.v AND e.name = 'n1'"
+        ended = self.tried("run", "--budget", "9", text=text)
+        self.assertEqual(ended.returncode, 12, ended.stderr)
+        self.assertIn("which may come to rows that the query itself never reaches", ended.stderr)
+
     def test_operators_of_the_users_own(self) -> None:
         self.base.script(
             """
@@ -398,6 +449,18 @@ class CornersOfSqlite(Corners):
             "SELECT a.y + 1 AS 'w' FROM a, b WHERE a.x = b.x ORDER BY w",
             "SELECT 'q'.x AS 'one' FROM a AS 'q', b WHERE 'q'.x = b.x ORDER BY one",
         )
+
+    def test_keywords_as_aliases(self) -> None:
+        self.right(
+            'SELECT 1, "order".x FROM b AS "order" ORDER BY 2', 'SELECT "by".x FROM b AS "by" ORDER BY "by".x',
+            'SELECT "desc".x, a.y FROM b AS "desc" JOIN a ON a.x = "desc".x ORDER BY 1 DESC',
+        )
+
+    def test_comments_at_the_end(self) -> None:
+        for end in ("; -- done", ";;", " /* not closed", "; /* not closed", " -- done"):
+            for text in ("SELECT a.x FROM a JOIN b ON a.x = b.x", "SELECT a.x FROM a LEFT JOIN b ON a.x = b.x"):
+                ended = self.tried("run", "--budget", "9", text=text + end)
+                self.assertEqual((ended.returncode, ended.stdout), (0, "x\n1\n2\n3\n"), ended.stderr)
 
     def test_brackets_in_names(self) -> None:
         self.right('SELECT "o]dd" FROM a, b WHERE a.x = b.x AND b."o]dd" < 9 ORDER BY 1')
