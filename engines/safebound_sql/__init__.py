@@ -1,4 +1,4 @@
-"""Proved row bounds for tables in a database engine: counts a query in the engine's SQL, plans it, and returns SQL.
+"""Row bounds for tables in a database engine: counts a query in the engine's SQL, plans it, and returns SQL.
 
 A query goes through these modules. `tokens` cuts its text, `reading` finds its parts, and `names` finds the columns
 that each part names. `nondeterministic` finds whatever may choose other rows at each call. `meaning` makes a

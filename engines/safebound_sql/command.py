@@ -48,7 +48,7 @@ def number(least: int, most: int) -> Callable[[str], int]:
 
 
 def argument_parser() -> Words:
-    parser = Words(prog="safebound-sql", description="Proved row bounds for a query in PostgreSQL or SQLite.")
+    parser = Words(prog="safebound-sql", description="Row bounds for a query in PostgreSQL or SQLite.")
     commands = parser.add_subparsers(dest="command", required=True, parser_class=Words)
     for name, about in ABOUT.items():
         command = commands.add_parser(name, help=about, description=about[0].upper() + about[1:] + ".")
