@@ -490,7 +490,7 @@ class PassedThrough(Installed):
             notes,
         )
         want(
-            self.setup.run("run", "schema.sql", "query.sql", "--budjet", "5") == (2, b"", b"error usage\n"),
+            self.setup.run("run", "schema.sql", "query.sql", "--budjet", "5") == (2, b"", MISUSED),
             "another option is explained too",
         )
 
