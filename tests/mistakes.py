@@ -720,7 +720,11 @@ APPENDS = [
     ),
     append(
         "error stats syntax 1", "old.stats is no statistics file from line 1 on",
-        files={"old.stats": b"", "new.csv": b"ID\n"},
+        files={"old.stats": b"hello\n", "new.csv": b"ID\n"},
+    ),
+    append(
+        "error stats syntax 1", "old.stats is empty", "the shell empties such a file first",
+        "safebound stats schema.sql QUERY > old.stats", files={"old.stats": b"", "new.csv": b"ID\n"},
     ),
     usage("append schema.sql old.stats AUTHOR", "append lacks ROWS"),
     usage("append schema.sql old.stats AUTHOR new.csv --accuracy 2", "append has no option --accuracy"),

@@ -490,7 +490,7 @@ class PassedThrough(Installed):
             notes,
         )
         want(
-            self.setup.run("run", "schema.sql", "query.sql", "--budjet", "5") == (2, b"", b"error usage\n"),
+            self.setup.run("run", "schema.sql", "query.sql", "--budjet", "5") == (2, b"", MISUSED),
             "another option is explained too",
         )
 
@@ -574,8 +574,8 @@ class ATerminal(Installed):
             shown,
         )
         want(
-            self.setup.run() == (2, b"", b"error usage\n"),
-            "where standard error is no terminal it is the program's line",
+            self.setup.run() == (2, b"", MISUSED),
+            "where standard error is no terminal it is the program's line, and one below it",
         )
 
     def test_what_is_shown_fits_the_terminal(self) -> None:
