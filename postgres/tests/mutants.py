@@ -129,7 +129,7 @@ EDITS = [
     Edit("a table is known after one of its triggers was dropped", "changes.c",
          [("\tif (class == TriggerRelationId && !null)", "\tif (false)")], "rows"),
     Edit("deltas of a referred table aren't looked at", "deltas.c",
-         [("count_deltas(then->relation, snapshot) == then->deltas", "true")], "rows"),
+         [("state_of_deltas(&now, snapshot) == then->deltas", "true")], "rows"),
     Edit("a referred table may have been counted anew", "deltas.c", [("now.version == then->version", "true")], "rows"),
     Edit("lists along a reference leave out deltas", "conditions.c",
          [("\t*list = with_deltas(table, joined, *list);\n\treturn true;", "\treturn true;")], "rows"),
