@@ -4,7 +4,7 @@ from __future__ import annotations
 
 from typing import TYPE_CHECKING
 
-from .blocks import Query as Several, Select, part_named
+from .blocks import Query as Several, Select, innermost, part_named
 from .faults import EngineFault
 from .names import Names
 from .query import Column, Table
@@ -39,9 +39,8 @@ class BlockNames(Names):
     def _table_of(self, source: Source) -> Table | None:
         number = len(self.entries)
         if source.is_query:
-            inner = next(
-                (inner for inner in self.select.inner if self.plans.pieces[inner.start].at == source.table[1].at), None
-            )
+            first = source.table[innermost(source.table, 0) + 1].at
+            inner = next((one for one in self.select.inner if self.plans.pieces[one.start].at == first), None)
             if inner is None:
                 raise self.statement.refuse(source.alias, "only a SELECT is bounded here")
             text = self.plans.source_of(inner)

@@ -6,14 +6,13 @@ its rows have each value of this column once. Entries are counted under their ow
 
 from __future__ import annotations
 
+import functools
 import re
-from typing import Iterator
-
 from .block import Block
 from .block_bounds import BlockPlan, BlockBounder
 from .block_rows import grouping_expression, limited_rows, why_more_rows, without_alias
 from .block_sql import rows_of_levels, sql_of
-from .blocks import Finder, Query as Several, Select, With, part_named
+from .blocks import Finder, Query as Several, Select, With, has_from, outside_parentheses, part_named
 from .dialect import as_script
 from .engine import Engine
 from .faults import EngineFault, NoBound, PastBudget, Refused
@@ -22,7 +21,7 @@ from .meaning import refuse_volatile
 from .names import alias_of
 from .progress import Progress
 from .reading import Statement, Tokens, read
-from .tokens import Token, tokens, without_end, written
+from .tokens import tokens, without_end, written
 
 
 class Planner:
@@ -61,7 +60,7 @@ class Planner:
 
     def _plan(self, select: Select) -> BlockPlan:
         try:
-            if not any(token.says("FROM") for token in self._outside_parentheses(select)):
+            if not has_from(self.pieces[select.start : select.end]):
                 more = why_more_rows(self.pieces[select.start : select.end], self.dialect, self.catalog)
                 return BlockPlan(select, rows=None if more else 1, more_rows=more)
             with self.progress.doing(f"counting for {select.label}"), library_faults(self.budget):
@@ -72,13 +71,6 @@ class Planner:
             return BlockPlan(select, refused=str(fault))
         self.blocks[select.start], self.bounders[select.start] = block, bounder
         return plan
-
-    def _outside_parentheses(self, select: Select) -> Iterator[Token]:
-        depth = 0
-        for token in self.pieces[select.start : select.end]:
-            depth += token.says("(") - token.says(")")
-            if depth == 0:
-                yield token
 
     def rows_of(self, query: Several) -> int | None:
         """The bound of a query's rows: for UNION the sum of its sides, for EXCEPT the left side, for INTERSECT the
@@ -143,8 +135,12 @@ class Planner:
         columns: set[str] = set()
         while select.outside:
             select = select.outside
+            pieces = list(self.pieces[select.start : select.end])
+            if not has_from(pieces):
+                # It has no entries. Its outputs have their names outside parentheses.
+                columns |= {self.dialect.normalized_name(name) for name in outside_parentheses(pieces) if name.is_name}
+                continue
             try:
-                pieces = list(self.pieces[select.start : select.end])
                 statement = read(self.text, pieces, self.dialect, in_blocks=True)
             except Refused:
                 # The entries and columns of this one aren't known, so any name in it may be one of them.
@@ -159,9 +155,10 @@ class Planner:
                 whole = not source.is_query and not part_named(source.table[-1], select.visible, self.dialect)
                 about = self.catalog.table(source.table) if whole else None
                 # A query in FROM or a part of WITH may give its columns any name that the text has.
-                columns |= set(about.by_name) if about else self._all_names()
+                columns |= set(about.by_name) if about else self._all_names
         return aliases, columns
 
+    @functools.cached_property
     def _all_names(self) -> set[str]:
         return {self.dialect.normalized_name(token) for token in self.pieces if token.is_name}
 
@@ -287,12 +284,14 @@ class Planner:
 
 def has_several_blocks(text: str, engine: Engine) -> bool:
     """Whether the text has to be planned in blocks: it has WITH, UNION or its like, an outer join, or a query in FROM;
-    or a subquery joins, or names an entry outside of itself.
+    or a subquery joins, or names an entry outside of itself; or only subqueries have FROM.
     """
     pieces = tokens(text, engine.dialect.rules)
     query = Finder(text, pieces, engine.dialect).find()
     select = query.members[0] if len(query.members) == 1 else None
     if query.parts or query.operators or not isinstance(select, Select):
+        return True
+    if select.inner and not has_from(pieces[select.start : select.end]):
         return True
     try:
         statement = read(text, list(pieces), engine.dialect, in_blocks=True)

@@ -9,10 +9,8 @@ from typing import Iterator, Union
 
 from .dialect import Dialect
 from .faults import Refused
-from .reading import BEHIND_FROM, TOGETHER, Tokens
+from .reading import BEHIND_FROM, BEHIND_TOGETHER, TOGETHER, Tokens, is_query
 from .tokens import Token, closing, part_of_name, place
-
-BEGIN = ("SELECT", "WITH", "VALUES")
 
 
 @dataclass
@@ -198,7 +196,7 @@ class Finder:
             token = self.pieces[stop]
             if token.says(*TOGETHER) and not part_of_name(self.pieces, stop):
                 return stop
-            if together and token.says("ORDER", "LIMIT", "OFFSET", "FETCH") and not part_of_name(self.pieces, stop):
+            if together and token.says(*BEHIND_TOGETHER) and not part_of_name(self.pieces, stop):
                 return stop
             stop = closing(self.pieces, stop) + 1 if token.says("(", "[") else stop + 1
         return end
@@ -206,7 +204,8 @@ class Finder:
     def _read_inner_queries(self, select: Select, visible: list[With]) -> None:
         at = select.start + 1
         while at < select.end:
-            if self.pieces[at].says("(") and at + 1 < select.end and self.pieces[at + 1].says(*BEGIN):
+            at = innermost(self.pieces, at)
+            if self.pieces[at].says("(") and is_query(self.pieces, at + 1):
                 last = closing(self.pieces, at)
                 if not self.pieces[at + 1].says("VALUES"):
                     label = f"the subquery at {self._place(at)}"
@@ -216,6 +215,27 @@ class Finder:
 
     def _place(self, at: int) -> str:
         return place(self.text, self.pieces[at].at)
+
+
+def innermost(pieces: Tokens, at: int) -> int:
+    """The last of the parentheses around one query, if they begin here. Otherwise the same number."""
+    begins = pieces[at].says("(") and is_query(pieces, at + 1)
+    while begins and pieces[at + 1].says("(") and closing(pieces, at + 1) + 1 == closing(pieces, at):
+        at += 1
+    return at
+
+
+def has_from(pieces: Tokens) -> bool:
+    """Whether a SELECT has FROM."""
+    return any(token.says("FROM") for token in outside_parentheses(pieces))
+
+
+def outside_parentheses(pieces: Tokens) -> Iterator[Token]:
+    depth = 0
+    for token in pieces:
+        depth += token.says("(") - token.says(")")
+        if depth == 0:
+            yield token
 
 
 def tables_in(pieces: Tokens) -> Iterator[Token]:

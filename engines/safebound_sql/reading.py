@@ -18,6 +18,7 @@ Tokens = list[Token]
 
 ABOVE = ("GROUP", "HAVING", "WINDOW", "ORDER", "LIMIT", "OFFSET", "FETCH")
 TOGETHER = ("UNION", "INTERSECT", "EXCEPT")
+BEHIND_TOGETHER = ("ORDER", "LIMIT", "OFFSET", "FETCH")
 OUTER = ("LEFT", "RIGHT", "FULL", "NATURAL", "OUTER")
 NO_TABLE = ("ONLY", "LATERAL")
 IN_FROM = (*OUTER, "JOIN", "INNER", "CROSS", "ON", "USING")
@@ -93,7 +94,7 @@ def conjuncts(condition: Tokens) -> list[Tokens]:
         condition
         and condition[0].says("(")
         and closing(condition, 0) == len(condition) - 1
-        and not _is_query(condition, 1)
+        and not is_query(condition, 1)
     ):
         condition = condition[1:-1]
     parts: list[Tokens] = [[]]
@@ -112,7 +113,11 @@ def conjuncts(condition: Tokens) -> list[Tokens]:
     return [parts[0]] if len(parts) == 1 else [inner for part in parts for inner in conjuncts(part)]
 
 
-def _is_query(pieces: Tokens, at: int) -> bool:
+def is_query(pieces: Tokens, at: int) -> bool:
+    """Whether a query begins here. If it begins with a query in parentheses, what stands behind that tells."""
+    if at < len(pieces) and pieces[at].says("(") and is_query(pieces, at + 1):
+        behind = closing(pieces, at) + 1
+        return behind < len(pieces) and pieces[behind].says(")", *TOGETHER, *BEHIND_TOGETHER)
     return at < len(pieces) and pieces[at].says("SELECT", "WITH", "VALUES")
 
 
@@ -292,7 +297,7 @@ class Reader:
         self.at = end + 1
 
     def _read_source(self) -> None:
-        if self._peek("(") and not _is_query(self.pieces, self.at + 1):
+        if self._peek("(") and not is_query(self.pieces, self.at + 1):
             self.at += 1
             start = len(self.statement.sources)
             self._read_joined(start)

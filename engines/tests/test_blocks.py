@@ -208,6 +208,19 @@ class Blocks(SmallTables):
         ):
             self.assertEqual(self.bounds(text).rows, rows, text)
 
+    def test_only_subqueries_have_from(self) -> None:
+        self.bounds("SELECT (SELECT count(*) FROM b, c WHERE b.y = c.y) AS n, 1 AS one", [12, 60], [])
+        self.bounds("SELECT EXISTS (SELECT 1 FROM k) AS e ORDER BY 1", [3], [])
+        self.bounds("SELECT 1 AS z WHERE EXISTS (SELECT 1 FROM k LEFT JOIN v ON v.x = k.x)", [3, 3], [])
+        text = "SELECT (WITH q AS (SELECT x FROM k) SELECT count(*) FROM q JOIN c ON c.w = q.x) AS n"
+        self.assertEqual(self.bounds(text).rows, 1)
+        # Only the innermost names a row outside, over a SELECT without FROM.
+        self.bounds("SELECT k.x FROM k WHERE EXISTS (SELECT (SELECT max(c.w) FROM c WHERE c.y = k.x))", [12], [], [3])
+        text = "SELECT (SELECT count(*) FROM k LEFT JOIN c ON c.w = k.x) AS n"
+        self.assertEqual(self.tried("run", "--budget", "5", text=text).returncode, 8)
+        done = self.tried("run", "--budget", "6", text=text)
+        self.assertEqual((done.returncode, done.stdout), (0, "n\n3\n"), done.stderr)
+
     def test_the_rows_that_come_out_are_held(self) -> None:
         text = "SELECT x FROM k UNION ALL SELECT y FROM c"
         done = self.tried("plan", text=text)
@@ -414,7 +427,29 @@ CREATE FUNCTION s.sum (int) RETURNS int LANGUAGE sql IMMUTABLE AS 'SELECT $1';
         planner = self.tried_in_blocks(text)
         self.assertEqual([plan.rows for plan in planner.plans.values()][0], 20)
 
+    def test_parentheses_around_queries(self) -> None:
+        self.bounds(
+            "SELECT * FROM ((SELECT x FROM a) UNION ALL (SELECT x FROM b)) q LEFT JOIN c ON q.x = c.w",
+            [20], [20], [40, 80],
+        )
+        self.bounds("SELECT * FROM (((SELECT x FROM k))) q, c", [3], [3, 36])
+        self.bounds("SELECT * FROM (((SELECT x FROM k) EXCEPT SELECT x FROM v) LIMIT 2) AS q (n), c", [3], [5], [2, 24])
+        self.bounds("SELECT * FROM (((SELECT x FROM a) ORDER BY x LIMIT 4)) q, k", [20], [3, 12])
+        self.bounds("SELECT * FROM ((SELECT x FROM k) AS one JOIN c ON c.w = one.x) LEFT JOIN v ON v.x = one.x")
+        both = "(SELECT b.z FROM b WHERE b.x = k.x) UNION ALL (SELECT c.w FROM c WHERE c.y = k.x)"
+        self.bounds(f"SELECT k.x, q.z FROM k, LATERAL ({both}) q", [20], [12], [3, 24])
+        for text in (
+            "SELECT p FROM a WHERE p IN ((SELECT w FROM c) EXCEPT (SELECT b.y FROM b, k WHERE b.x = k.x))",
+            "SELECT p FROM a WHERE x = ((SELECT max(b.x) FROM b JOIN k ON b.x = k.x))",
+            "SELECT p FROM a WHERE ((SELECT true) UNION (SELECT count(*) > 0 FROM b JOIN k ON b.x = k.x))",
+            "SELECT ((SELECT count(*) FROM b LEFT JOIN k ON b.x = k.x) + 1) * (((SELECT 2))) AS n",
+            "SELECT * FROM ((WITH k AS (SELECT z FROM b) SELECT z FROM k) UNION ((SELECT x FROM k))) q, c",
+        ):
+            self.bounds(text)
+        self.not_bounded("SELECT (SELECT count(*) FROM k) ORDER BY generate_series(1, 3)", "its rows aren't bounded")
+
     def test_lateral(self) -> None:
+        self.bounds("SELECT a.p, q.z FROM a, LATERAL (SELECT b.z FROM b WHERE b.x = a.x) q", [20], [20, 60])
         near = "SELECT b.z FROM b WHERE b.x = k.x"
         self.bounds(f"SELECT k.x, q.z FROM k, LATERAL ({near}) q", [20], [3, 12])
         self.bounds(f"SELECT * FROM k CROSS JOIN LATERAL ({near}) AS q (n)", [20], [3, 12])
