@@ -505,6 +505,12 @@ class Notes(Installed):
             wanted = [str(row[0]) for row in base.execute(f"SELECT A.n FROM s A WHERE {condition}")]
             want(rows.decode().split()[1:] == wanted and not said, f"{condition}: {rows!r}, not {wanted}; {said}")
 
+    def test_what_can_be_read_once_is_left_to_the_program(self) -> None:
+        rows, said = self.notes("A.DAY > '01/09/2019'")
+        line = f"{self.setup.command} run <(cat schema.sql) <(cat query.sql)"
+        found = self.setup.run("-c", line, command="bash")
+        want(said and found[:2] == (0, rows) and b"Compared" not in found[2], found)
+
     def test_a_long_file_is_looked_at_in_part(self) -> None:
         rows = b"".join(b"%d,%02d/08/2019,2019-08-01,Paris\r\n" % (n, 1 + n % 28) for n in range(20_000))
         said = self.notes("A.DAY > '02/08/2019' AND A.CITY <> 'Lyon'", table=DAYS.split(b"\r\n")[0] + b"\r\n" + rows)[1]

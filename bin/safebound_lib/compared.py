@@ -3,6 +3,7 @@ times or numbers, and some conditions are true of an empty field.
 """
 from __future__ import annotations
 
+import os
 import re
 from collections.abc import Iterable, Iterator
 from dataclasses import dataclass
@@ -278,6 +279,8 @@ def begins_codes(kind: Kind, text: str, values: list[str]) -> bool:
 
 def first_fields(file: str, column: str) -> Fields:
     """The fields of a column in the first records of a file. Without its last record if the file goes on."""
+    if not os.path.isfile(file):
+        return Fields(file, column, {})
     with open(file, "rb") as f:
         data = f.read(MOST_BYTES)
         goes_on = bool(f.read(1))

@@ -100,8 +100,7 @@ def run_program(line: Line, is_last: bool) -> int:
     error. Otherwise, if `is_last` says that nothing follows, the program replaces this process.
     """
     path = program.find_program()
-    if is_surely_right(line):
-        say_notes(line)
+    say_notes(line)
     if JSON.word in line.own:
         from .json_plan import show
         return show(path, line)
@@ -118,10 +117,12 @@ def run_program(line: Line, is_last: bool) -> int:
 
 def say_notes(line: Line) -> None:
     """Writes notes on the query's comparisons, before the plan and the rows."""
-    if line.command not in COMPARING:
+    files = positional_words(line.words[1:])
+    # A pipe could be read only once, and that is the program's part.
+    if line.command not in COMPARING or len(files) != 2 or not all(map(os.path.isfile, files)):
         return
     try:
-        with open(positional_words(line.words[1:])[1], "rb") as f:
+        with open(files[1], "rb") as f:
             if not MAY_BE_NOTED.search(f.read(MOST_LOOKED_AT)):
                 return
     except OSError:
