@@ -144,11 +144,25 @@ OF_QUOTES = [
 ]
 OF_CLAUSES = [
     Fault("ORDER BY", query("SELECT TITLE FROM BOOK §ORDER BY TITLE", "syntax"), ("ORDER BY",), ("sed -u 1q; sort",)),
-    Fault("GROUP BY", query("SELECT TITLE FROM BOOK §GROUP BY TITLE", "syntax"), ("GROUP BY",), ("another program",)),
+    Fault(
+        "GROUP BY", query("SELECT TITLE FROM BOOK §GROUP BY TITLE", "syntax"), ("GROUP BY",),
+        ("another program", "safebound-sql"),
+    ),
     Fault("HAVING", query("SELECT TITLE FROM BOOK §HAVING PRICE > 1", "syntax"), ("HAVING",), ("another program",)),
     Fault("DISTINCT", query("SELECT §DISTINCT AUTHOR FROM BOOK", "syntax"), ("DISTINCT",), ("sed -u 1q; sort -u",)),
-    Fault("LIMIT", query("SELECT TITLE FROM BOOK B §LIMIT 10", "syntax"), ("LIMIT",), ("head",)),
-    Fault("LIMIT read as an alias", query("SELECT TITLE FROM BOOK LIMIT §10", "syntax"), ("LIMIT", "alias"), ("head",)),
+    Fault("LIMIT", query("SELECT TITLE FROM BOOK B §LIMIT 10", "syntax"), ("LIMIT",), ("head -n 11",)),
+    Fault(
+        "LIMIT read as an alias", query("SELECT TITLE FROM BOOK LIMIT §3", "syntax"), ("LIMIT", "alias"),
+        ("head -n 4",),
+    ),
+    Fault(
+        "LIMIT behind ORDER BY", query("SELECT TITLE, PRICE FROM BOOK §ORDER BY PRICE DESC LIMIT 2", "syntax"),
+        ("ORDER BY",), ("sort -t, -k2,2nr) | head -n 3",),
+    ),
+    Fault(
+        "LIMIT with OFFSET", query("SELECT TITLE FROM BOOK B §LIMIT 10 OFFSET 20", "syntax"), ("LIMIT",),
+        ("sed -n '21,30p'",),
+    ),
     Fault(
         "UNION", query("SELECT NAME FROM AUTHOR §UNION SELECT NAME FROM READER", "syntax"), ("UNION",),
         ("Run one for each|one SELECT",),
@@ -162,7 +176,7 @@ OF_CLAUSES = [
     ),
     Fault(
         "LEFT JOIN", query("SELECT * FROM BOOK B §LEFT JOIN LOAN L ON L.BOOK = B.ID", "syntax"), ("Outer joins",),
-        ("JOIN .. ON",),
+        ("JOIN .. ON", "safebound-sql"),
     ),
     Fault(
         "NATURAL JOIN", query("SELECT * FROM BOOK §NATURAL JOIN LOAN", "syntax"), ("NATURAL JOIN",), ("ON B.X = A.X",),
@@ -170,15 +184,34 @@ OF_CLAUSES = [
     Fault("CROSS JOIN", query("SELECT * FROM BOOK §CROSS JOIN LOAN", "syntax"), ("CROSS JOIN",), ("FROM A, B",)),
     Fault("USING", query("SELECT * FROM BOOK B JOIN LOAN L §USING (ID)", "syntax"), ("USING",), ("ON B.X = A.X",)),
     Fault("JOIN without ON", query("SELECT * FROM BOOK B JOIN LOAN L§", "syntax"), ("ends here",), ("ON B.X = A.X",)),
-    Fault("LIKE", query("SELECT TITLE FROM BOOK WHERE TITLE §LIKE 'S%'", "syntax"), ("LIKE",), (">=",)),
-    Fault("IS NULL", query("SELECT TITLE FROM BOOK WHERE TITLE §IS NULL", "syntax"), ("no nulls",), ("''",)),
+    Fault(
+        "LIKE", query("SELECT TITLE FROM BOOK WHERE TITLE §LIKE 'Su%'", "syntax"), ("LIKE",),
+        ("TITLE >= 'Su' AND TITLE < 'Sv'",),
+    ),
+    Fault(
+        "LIKE with a sign in front", query("SELECT TITLE FROM BOOK WHERE TITLE §LIKE '%lt'", "syntax"), ("LIKE",),
+        ("safebound-sql",),
+    ),
+    Fault("IS NULL", query("SELECT TITLE FROM BOOK WHERE TITLE §IS NULL", "syntax"), ("no nulls",), ("TITLE = ''",)),
+    Fault(
+        "IS NOT NULL", query("SELECT B.ID FROM BOOK B WHERE B.TITLE §IS NOT NULL", "syntax"), ("no nulls",),
+        ("B.TITLE <> ''",),
+    ),
+    Fault(
+        "CURRENT_DATE", query("SELECT BOOK FROM LOAN WHERE DAY < §CURRENT_DATE", "name"),
+        ("CURRENT_DATE isn't part of the language",), ("in the form that the column has",),
+    ),
+    Fault(
+        "a table's name with a sign", query("SELECT * FROM loan§-2024", "syntax"), ("loan-2024 is no table's name",),
+        ("loan_2024.csv", "FROM loan_2024"),
+    ),
     Fault(
         "EXISTS", query("SELECT TITLE FROM BOOK WHERE §EXISTS (SELECT * FROM LOAN)", "syntax"), ("Subqueries",),
-        ("join the table",),
+        ("safebound-sql", "SQLite or PostgreSQL"),
     ),
     Fault(
         "IN with a subquery", query("SELECT TITLE FROM BOOK WHERE ID IN (§SELECT BOOK FROM LOAN)", "syntax"),
-        ("Subqueries",), ("join the table",),
+        ("Subqueries",), ("safebound-sql", "SQLite or PostgreSQL"),
     ),
     Fault(
         "NOT NOT", query("SELECT TITLE FROM BOOK WHERE NOT §NOT ID = 1", "syntax"), ("one NOT",),

@@ -750,7 +750,81 @@ OF_OTHERS = [
         ("pupils.csv, line 4",),
     ),
 ]
-FIRST_HOUR = OF_TABLES + OF_CELLS + OF_QUERIES + OF_LINES + OF_DECIMALS + OF_NAMES + OF_FOLDERS + OF_OTHERS
+SALES = (
+    'id,day,price,city,code,since\r\n1,15/09/2019,"1.234,50",Paris,007,2019-9-5\r\n'
+    '2,01/10/2019,"99,00",,012,2019-12-1\r\n3,3/8/20,"100,00",Lyon,7,2020-1-31\r\n'
+)
+
+
+def sales(of: str) -> Mistake:
+    return asked(None, {"sales.csv": SALES.encode(), "query.sql": f"SELECT id FROM sales WHERE {of}".encode()})
+
+
+# Rows come, and notes stand before them.
+OF_NOTES = [
+    Fault(
+        "days compared by order",
+        sales("day >= '01/09/2019' AND day < '01/10/2019'"),
+        ("character by character", "not as days", "`15/09/2019`"),
+        ("YYYY-MM-DD",),
+        ("day >= '01/09/2019' and day < '01/10/2019'", "line 2 of sales.csv|DAY of sales.csv"),
+    ),
+    Fault(
+        "days with the year first compared by order",
+        sales("since BETWEEN '2019-10-01' AND '2019-12-31'"),
+        ("character by character", "not as days", "`2019-9-5`"),
+        ("YYYY-MM-DD",),
+        ("since BETWEEN", "on line 2"),
+    ),
+    Fault(
+        "numbers with a point and a comma compared by order",
+        sales("price > '500'"),
+        ("character by character", "not as numbers", "`1.234,50`"),
+        ("whole numbers", "without quotes"),
+        ("price > '500'", "on line 2"),
+    ),
+    Fault(
+        "numbers with zeros in front compared by order",
+        sales("code < '10'"),
+        ("character by character", "not as numbers", "`007`"),
+        ("without zeros in front",),
+        ("code < '10'", "on line 2"),
+    ),
+    Fault(
+        "decimals compared by order as texts",
+        asked(None, {"jobs.csv": JOBS.encode(), "query.sql": b"SELECT id FROM jobs WHERE '9' < hours"}),
+        ("character by character", "not as numbers", "`8.5`"),
+        ("safebound convert folder/jobs.csv --cents HOURS",),
+        ("'9' < hours", "on line 2"),
+    ),
+    Fault(
+        "unequal to a text, over an empty field",
+        sales("city <> 'Paris'"),
+        ("empty city", "among the rows", "SQL-92"),
+        ("AND city <> ''",),
+        ("line 3 of sales.csv",),
+    ),
+    Fault(
+        "not equal to a text, over an empty field",
+        sales("NOT (city = 'Paris' OR city = 'Lyon')"),
+        ("empty city", "among the rows", "SQL-92"),
+        ("AND city <> ''",),
+        ("line 3 of sales.csv",),
+    ),
+    Fault(
+        "numbers but for two words and an empty field",
+        rooms(
+            HEAD_OF_ROOMS + ROOMS + "301,3,\r\n302,3,many\r\n303,3,25\r\n304,3,n/a\r\n305,4,26\r\n306,4,27\r\n",
+            None, "SELECT nr FROM rooms",
+        ),
+        ("SEATS has `many` on line 6", "`n/a`", "first on line 5"),
+        ("number",),
+        ("rooms.csv",),
+    ),
+]
+FIRST_HOUR = (
+    OF_TABLES + OF_CELLS + OF_QUERIES + OF_LINES + OF_DECIMALS + OF_NAMES + OF_FOLDERS + OF_OTHERS + OF_NOTES
+)
 # Mistakes whose remedy is a command to paste. After the command the same run succeeds.
 PASTED = (
     "a table whose file ends in .txt",

@@ -146,10 +146,11 @@ CLAUSES = [
     query("SELECT NAME FROM AUTHOR §UNION SELECT NAME FROM READER", "syntax", "UNION isn't part", "one SELECT"),
     query("SELECT NAME FROM AUTHOR §EXCEPT SELECT NAME FROM READER", "syntax", "EXCEPT isn't part"),
     query(
-        "SELECT TITLE FROM BOOK LIMIT §10", "syntax", "LIMIT was read as an alias of BOOK", "LIMIT isn't part", "head",
+        "SELECT TITLE FROM BOOK LIMIT §10", "syntax", "LIMIT was read as an alias of BOOK", "LIMIT isn't part",
+        "head -n 11",
     ),
-    query("SELECT TITLE FROM BOOK B §LIMIT 10", "syntax", "LIMIT isn't part", "head"),
-    query("SELECT TITLE FROM BOOK WHERE ID > 1 §LIMIT 1", "syntax", "LIMIT isn't part", "head"),
+    query("SELECT TITLE FROM BOOK B §LIMIT 10", "syntax", "LIMIT isn't part", "head -n 11"),
+    query("SELECT TITLE FROM BOOK WHERE ID > 1 §LIMIT 1", "syntax", "LIMIT isn't part", "head -n 2"),
     query("§WITH X AS (SELECT * FROM BOOK) SELECT * FROM X", "syntax", "WITH isn't part"),
 ]
 JOINS = [
@@ -168,7 +169,7 @@ WORDS = [
     query("SELECT * §FORM BOOK", "syntax", "Did you mean FROM?"),
     query("SELECT TITLE FORM §BOOK", "syntax", "FORM was read as a name", "Did you mean FROM?"),
     query("SELECT TITLE FROM BOOK WHRE §PRICE > 1", "syntax", "WHRE was read as a name", "Did you mean WHERE?"),
-    query("SELECT TOP §10 TITLE FROM BOOK", "syntax", "TOP was read as a name", "head"),
+    query("SELECT TOP §10 TITLE FROM BOOK", "syntax", "TOP was read as a name", "head -n 11"),
     query("SELECT §ORDER FROM BOOK", "syntax", "ORDER is a reserved word"),
     query("SELECT TITLE FROM LIBRARY§.BOOK", "syntax", "A table has one name"),
     query(
@@ -194,9 +195,14 @@ WORDS = [
 ]
 PREDICATES = [
     query("SELECT TITLE FROM BOOK WHERE TITLE §LIKE 'S%'", "syntax", "LIKE isn't part", ">="),
-    query("SELECT TITLE FROM BOOK WHERE TITLE NOT §LIKE 'S%'", "syntax", "LIKE isn't part"),
-    query("SELECT TITLE FROM BOOK WHERE TITLE §IS NULL", "syntax", "no nulls"),
-    query("SELECT TITLE FROM BOOK WHERE TITLE = §NULL", "syntax", "no nulls"),
+    query(
+        "SELECT TITLE FROM BOOK WHERE TITLE NOT §LIKE 'S%'", "syntax", "LIKE isn't part",
+        "(TITLE < 'S' OR TITLE >= 'T')",
+    ),
+    query("SELECT TITLE FROM BOOK WHERE TITLE §IS NULL", "syntax", "no nulls", "TITLE = ''"),
+    query("SELECT TITLE FROM BOOK WHERE TITLE = §NULL", "syntax", "no nulls", "TITLE = ''"),
+    query("SELECT TITLE FROM BOOK WHERE TITLE <> §NULL", "syntax", "no nulls", "TITLE <> ''"),
+    query("SELECT BOOK FROM LOAN WHERE DAY IN (§CURRENT_DATE)", "syntax", "CURRENT_DATE isn't part of the language"),
     query(
         "SELECT TITLE FROM BOOK WHERE §EXISTS (SELECT * FROM LOAN)", "syntax", "EXISTS isn't part",
         "Subqueries aren't part",

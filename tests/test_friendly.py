@@ -390,6 +390,33 @@ class Explanations(Installed):
             )
             want(done.stdout == rows and not done.stderr, f"{advice}: {done}")
 
+    def test_the_first_rows_are_taken_as_advised(self) -> None:
+        """Runs the commands that are advised for LIMIT, behind the query without it."""
+        rows = [b"NAME\r\n", *(f"reader {n}\r\n".encode() for n in range(1, 31))]
+        readers = b"ID,NAME,TOWN\r\n" + b"".join(b"%d,%s,A\r\n" % (n, row[:-2]) for n, row in enumerate(rows[1:]))
+        for limit, kept in (("LIMIT 2", rows[:3]), ("LIMIT 2 OFFSET 3", rows[:1] + rows[4:6]), ("LIMIT 0", rows[:1])):
+            self.setup.lay({"reader.csv": readers, "query.sql": f"SELECT NAME FROM READER R {limit}".encode()})
+            notes = on_one_line(self.setup.run("run", "schema.sql", "query.sql", "--explain")[2].decode())
+            advised = notes.partition("safebound run .. |")[2].partition(" (the first line")[0]
+            self.setup.lay({"reader.csv": readers, "query.sql": b"SELECT NAME FROM READER R"})
+            line = f"{self.setup.command} run schema.sql query.sql 2> notes | {advised}"
+            out = self.setup.run("-c", line, command="bash")[1]
+            want(advised and out == b"".join(kept), f"{limit}: {advised}: {out!r}")
+
+    def test_no_advice_turns_the_question_round(self) -> None:
+        for query, never in (
+            ("SELECT BOOK FROM LOAN WHERE DAY < CURRENT_DATE", "'CURRENT_DATE'"),
+            ("SELECT BOOK FROM LOAN WHERE DAY IS NOT NULL", "DAY = ''"),
+            ("SELECT BOOK FROM LOAN WHERE BOOK NOT IN (SELECT ID FROM BOOK)", "join"),
+            ("SELECT NAME FROM AUTHOR UNION SELECT NAME FROM READER", "joined by OR"),
+            ("SELECT NAME FROM READER WHERE NAME LIKE '%a'", "X >= "),
+            ("SELECT * FROM sales-2024", "arithmetic"),
+            ("SELECT COUNT(DISTINCT TOWN) FROM READER", "in the place of COUNT(*)"),
+        ):
+            self.setup.lay({"query.sql": query.encode()})
+            notes = without_excerpt(self.setup.run("run", "schema.sql", "query.sql", "--explain")[2].decode())
+            want(never not in on_one_line(notes), f"{query}:\n{notes}")
+
     def test_a_reader_that_has_gone(self) -> None:
         self.setup.lay()
         reader, writer = os.pipe()
@@ -425,6 +452,69 @@ class Explanations(Installed):
 
 
 # ---- words, streams and statuses go through
+
+
+NOTED = (
+    b"CREATE TABLE S (N INTEGER NOT NULL, DAY VARCHAR(10) NOT NULL, ISO VARCHAR(10) NOT NULL, CITY VARCHAR(9) NOT NULL)"
+)
+DAYS = (
+    b"N,DAY,ISO,CITY\r\n1,15/09/2019,2019-09-15,Paris\r\n2,01/10/2019,2019-10-01,\r\n"
+    b"3,16/08/2020,2020-08-16,Lyon\r\n"
+)
+
+
+class Notes(Installed):
+    """Notes on comparisons whose rows may not be those that were meant."""
+
+    def notes(self, condition: str, *words: str, table: bytes = DAYS) -> tuple[bytes, str]:
+        """The rows, and standard error without what the program writes, for a query with a condition and a schema."""
+        text = f"SELECT A.N FROM S A WHERE {condition}".encode()
+        self.setup.lay({"s.csv": table, "schema.sql": NOTED, "query.sql": text})
+        line = (*(words or ("run",)), "schema.sql", "query.sql")
+        bare = self.setup.run(*(word for word in line if word != "--json"), command=self.setup.program)
+        status, out, told = self.setup.run(*line)
+        want(status == bare[0] == 0 and (out == bare[1] or "--json" in line), f"{condition}: {out!r}, not {bare[1]!r}")
+        plan = b"" if "--json" in line else bare[2]
+        want(told.endswith(plan), f"the notes of {condition} aren't before the plan: {told!r}")
+        return out, told[:len(told) - len(plan)].decode()
+
+    def test_notes_stand_once_before_the_rows_and_change_none(self) -> None:
+        said = self.notes("A.DAY >= '01/09/2019' AND A.DAY < '31/12/2019' AND A.CITY <> 'Paris'")[1]
+        want(said.count("\n") == 2 and said.count("15/09/2019") == 1 and said.count("AND A.CITY <> ''") == 1, said)
+        want("Compared as texts" in self.notes("A.DAY > '01/09/2019'", "audit", "--json")[1], "--json says nothing")
+        shown = self.setup.at_terminal("run", "schema.sql", "query.sql")[1]
+        want(0 <= shown.find("Compared as texts") < shown.find("scan A") < shown.find("\nN\n"), shown)
+
+    def test_what_compares_as_meant_is_not_noted(self) -> None:
+        for condition in (
+            "A.ISO >= '2019-09-01' AND A.ISO < '2020'", "A.CITY = 'Paris'", "A.CITY <> 'Paris' AND A.CITY <> ''",
+            "A.CITY >= 'L'", "A.DAY = '15/09/2019'", "A.N > 1 AND A.N <> 3", "A.CITY <> 'Paris' AND A.CITY > 'A'",
+        ):
+            said = self.notes(condition)[1]
+            want(said == "", f"{condition} has a note: {said}")
+        want("in the form that the fields have" in self.notes("A.ISO >= '2019-9-1'")[1], "another form isn't noted")
+
+    def test_the_addition_gives_the_rows_of_missing_values(self) -> None:
+        base = sqlite3.connect(":memory:")
+        base.execute("CREATE TABLE s (n, city)")
+        base.executemany("INSERT INTO s VALUES (?, ?)", [(1, "Paris"), (2, None), (3, "Lyon")])
+        for condition in ("A.CITY <> 'Paris'", "A.CITY < 'M'", "A.CITY NOT IN ('Paris')", "NOT A.CITY = 'Paris'"):
+            advised = re.search(r"write behind it: (.*)\n", self.notes(condition)[1])
+            assert advised, condition
+            rows, said = self.notes(f"{condition} {advised[1]}")
+            wanted = [str(row[0]) for row in base.execute(f"SELECT A.n FROM s A WHERE {condition}")]
+            want(rows.decode().split()[1:] == wanted and not said, f"{condition}: {rows!r}, not {wanted}; {said}")
+
+    def test_what_can_be_read_once_is_left_to_the_program(self) -> None:
+        rows, said = self.notes("A.DAY > '01/09/2019'")
+        line = f"{self.setup.command} run <(cat schema.sql) <(cat query.sql)"
+        found = self.setup.run("-c", line, command="bash")
+        want(said and found[:2] == (0, rows) and b"Compared" not in found[2], found)
+
+    def test_a_long_file_is_looked_at_in_part(self) -> None:
+        rows = b"".join(b"%d,%02d/08/2019,2019-08-01,Paris\r\n" % (n, 1 + n % 28) for n in range(20_000))
+        said = self.notes("A.DAY > '02/08/2019' AND A.CITY <> 'Lyon'", table=DAYS.split(b"\r\n")[0] + b"\r\n" + rows)[1]
+        want(re.search(r"Only the first [0-9,]+ records of s\.csv were looked at\.", said), said)
 
 
 class PassedThrough(Installed):
@@ -797,6 +887,12 @@ IN_THE_WAY = (
     ("a.csv", b"ZIP\r\n0150\r\n2300\r\n2300\r\n", (), "ZIP VARCHAR(4) NOT NULL\n"),
     ("a.csv", b"X,Y\r\n", ("no rows",), "Y VARCHAR(1) NOT NULL"),
     ("a.csv", b"X,Y\r\n1,a\r\n2,b\r\n'3,c\r\n", ("X has `'3` on line 4",), "X VARCHAR(2) PRIMARY KEY"),
+    (
+        "a.csv",
+        b"X,Y\r\n1,5\r\n2,n/a\r\n3,6\r\n4,none\r\n5,\r\n6,7\r\n7,8\r\n8,9\r\n",
+        ("Y has `n/a` on line 3, and also `none` and empty fields, first on line 6",),
+        "Y VARCHAR(4) NOT NULL UNIQUE  -- numbers, but for `n/a`, `none` and empty fields, first on line 3",
+    ),
     (
         "a.csv",
         b"X,Y\r\n1,a,\r\n2,b,\r\n",

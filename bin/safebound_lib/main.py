@@ -2,17 +2,21 @@
 from __future__ import annotations
 
 import os
+import re
 from collections.abc import Callable
 from typing import TYPE_CHECKING
 
 from . import program, version
 from .table import BY_WORD, DATA, EXPLAIN, HELP, JSON, VERSION as VERSION_OPTION
-from .words import Misused, is_surely_right, lacks_schema, options, read_line
+from .words import Misused, is_surely_right, lacks_schema, options, positional_words, read_line
 
 if TYPE_CHECKING:
     from .words import Line
 
 MISUSED = 2
+COMPARING, MOST_LOOKED_AT = ("run", "plan", "audit"), 2**20
+# What a query has if it compares texts by other signs than =. Without it nothing is loaded that notes need.
+MAY_BE_NOTED = re.compile(rb"(?:[<>]=?|\bBETWEEN)(?:\s|--[^\n]*)*['\"A-Z]|\bNOT\b", re.IGNORECASE)
 USAGE = b"error usage\n"
 HOW_TO_READ_USAGE = "safebound: --explain says which word is wrong; `safebound help` lists the commands and their options\n"
 
@@ -96,6 +100,7 @@ def run_program(line: Line, is_last: bool) -> int:
     error. Otherwise, if `is_last` says that nothing follows, the program replaces this process.
     """
     path = program.find_program()
+    say_notes(line)
     if JSON.word in line.own:
         from .json_plan import show
         return show(path, line)
@@ -108,6 +113,26 @@ def run_program(line: Line, is_last: bool) -> int:
     elif notes == USAGE:
         program.say(HOW_TO_READ_USAGE)
     return status
+
+
+def say_notes(line: Line) -> None:
+    """Writes notes on the query's comparisons, before the plan and the rows."""
+    files = positional_words(line.words[1:])
+    # A pipe could be read only once, and that is the program's part.
+    if line.command not in COMPARING or len(files) != 2 or not all(map(os.path.isfile, files)):
+        return
+    try:
+        with open(files[1], "rb") as f:
+            if not MAY_BE_NOTED.search(f.read(MOST_LOOKED_AT)):
+                return
+    except OSError:
+        return
+    from .compared import notes
+    from .explain import Run
+    found = notes(Run(line.words, None, line.user_folder, line.is_proposed), line.sheets)
+    if found:
+        from .propose import sentences
+        program.say(sentences(found))
 
 
 def is_explained(line: Line) -> bool:

@@ -46,7 +46,7 @@ class Proposal:
             " references are what the rows there happen to show.\n-- A query may write these names in upper or lower"
             " case, but for those in double quotes.\n"
         )
-        return head + "\n".join(table_text(sheet, self.sheets) for sheet in self.sheets)
+        return head + "\n".join(table_text(sheet, self.sheets, has_remarks=True) for sheet in self.sheets)
 
     def short(self, files: list[str], target: str, uses: str) -> str:
         """The schema with one line for each table, and how to keep it. `files`, `target` and `uses` are texts to paste;
@@ -104,12 +104,15 @@ def word_of(file: str, user_folder: Optional[str]) -> str:
     return shlex.quote(os.path.relpath(file, user_folder) if user_folder else file)
 
 
-def table_text(sheet: Sheet, sheets: list[Sheet]) -> str:
+def table_text(sheet: Sheet, sheets: list[Sheet], has_remarks: bool = False) -> str:
+    """The declaration of a table. With remarks, a comment says what kept a column from being one of numbers."""
     primary = primary_of(sheet)
     lines = [
-        f"  {column.name} {column_type(column)}{rules(column, primary, sheet, sheets)}" for column in sheet.columns
+        f"  {column.name} {column_type(column)}{rules(column, primary, sheet, sheets)}"
+        f"{',' * (column is not sheet.columns[-1])}{f'  -- {column.remark}' if has_remarks and column.remark else ''}\n"
+        for column in sheet.columns
     ]
-    return f"CREATE TABLE {sheet.name} (\n" + ",\n".join(lines) + "\n);\n"
+    return f"CREATE TABLE {sheet.name} (\n{''.join(lines)});\n"
 
 
 def column_type(column: Column) -> str:
@@ -249,7 +252,7 @@ def with_proposed_schema(line: Line) -> Iterator[Line]:
         with open(file, "w", encoding="utf-8") as f:
             f.write(found.text)
         at = len(line.words) - line.words[::-1].index(query) - 1
-        yield Line([*line.words[:at], file, *line.words[at:]], line.own, line.user_folder, is_proposed=True)
+        yield Line([*line.words[:at], file, *line.words[at:]], line.own, line.user_folder, True, found.sheets)
 
 
 def no_tables_sentences(folder: str, user_folder: Optional[str]) -> list[str]:

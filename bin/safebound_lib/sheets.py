@@ -7,6 +7,7 @@ from dataclasses import dataclass, field
 from functools import cached_property
 from typing import Optional
 
+from safebound.decimals import digits_of, first_decimal
 from safebound.sql_texts import LEAST_NUMBER, MOST_NUMBER, MOST_TABLE_BYTES, folded, written_name
 
 from .convert import SEPARATORS, encoding_of, not_text_message
@@ -56,11 +57,36 @@ class Column:
 
     @property
     def odd(self) -> Optional[str]:
-        """In a column of numbers with a few other values: the first other value. A number with a leading zero doesn't
+        """In a column of numbers with fewer other values: the first other value. A number with a leading zero doesn't
         count: a column of such numbers is meant as text.
         """
+        return next(iter(self.odd_values), None)
+
+    @cached_property
+    def odd_values(self) -> list[str]:
+        """The different values but for which a column would be one of numbers or decimals, or nothing: as many as a
+        third may be no numbers, and as few as slips may be decimals.
+        """
         found = [value for value in self.values if value and not value.isdigit() and not NUMBER.fullmatch(value)]
-        return found[0] if found and are_slips(len(found), len(self.values)) else None
+        strange = [value for value in found if digits_of(value) is None]
+        if strange and len(self.values) > len(strange) and are_few(len(strange), len(self.values)):
+            return strange
+        return found if are_slips(len(found), len(self.values)) else []
+
+    @property
+    def remark(self) -> str:
+        """What kept a column from being one of numbers, and on which line first; "" where nothing did."""
+        odd = [*self.odd_values, *([""] if "" in self.values and (self.odd_values or self.has_gaps) else [])]
+        what = series((marked(value) if value else "empty fields" for value in odd), most=4)
+        first = min(map(self.values.__getitem__, odd), default=0)
+        return f"{self.kind_of_others}, but for {what}, first on line {first}" if odd else ""
+
+    @property
+    def kind_of_others(self) -> str:
+        """What the values are that aren't odd."""
+        odd = set(self.odd_values)
+        others = [value for value in self.values if value and value not in odd]
+        return "decimals" if first_decimal(others) is not None else "numbers"
 
     @property
     def over_lines(self) -> Optional[str]:
@@ -87,6 +113,11 @@ class Sheet:
 def are_slips(some: int, of: int) -> bool:
     """Whether `some` values of `of` are so few that they look like slips: one of at least three, or at most a tenth."""
     return some == 1 and of > 2 or some * 10 <= of
+
+
+def are_few(some: int, of: int) -> bool:
+    """Whether `some` values of `of` are so few that the others say what a column is."""
+    return are_slips(some, of) or some * 3 <= of
 
 
 def sheet_of(file: str, typed_name: str) -> Sheet:
@@ -124,9 +155,12 @@ def odd_values_warnings(column: Column) -> list[str]:
     """Sentences on values that give a column another type than was probably meant."""
     says, odd, long = [], column.odd, column.over_lines
     if odd is not None:
+        others = [marked(value) for value in column.odd_values[1:]]
+        others += [f"empty fields, first on line {column.values['']}"] if "" in column.values else []
+        also = f", and also {series(others, most=4)}" if others else ""
         says.append(
-            f"{column.name} has {marked(odd)} on line {column.values[odd]}, and nearly all its other values are"
-            " numbers: so it is proposed as a text, and can't be compared with numbers."
+            f"{column.name} has {marked(odd)} on line {column.values[odd]}{also}. All its other values are"
+            f" {column.kind_of_others}: so it is proposed as a text, and can't be compared with numbers."
             f" {number_expected(odd, 'Write a number there, or leave the record out.')}"
         )
     elif column.has_gaps:

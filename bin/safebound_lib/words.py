@@ -9,6 +9,7 @@ from .table import (
 )
 
 if TYPE_CHECKING:
+    from .sheets import Sheet
     from .table import Option
 
 
@@ -26,12 +27,13 @@ class Line:
     """The words for the program, and the values of the friendly command's own options.
 
     `user_folder` is the folder that was current before `--data` changed it. `is_proposed` says that the schema is
-    proposed.
+    proposed, and `sheets` has the tables from which it is.
     """
     words: list[str] = field(default_factory=list)
     own: dict[str, str] = field(default_factory=dict)
     user_folder: str | None = None
     is_proposed: bool = False
+    sheets: list[Sheet] = field(default_factory=list)
 
     @property
     def command(self) -> str:

@@ -9,7 +9,7 @@ from safebound.sql_texts import LEAST_NUMBER, MOST_NUMBER, folded, typed_name, w
 
 from . import read
 from .decimals import of_decimals
-from .query_advice import CERTAIN, GUESSES
+from .query_advice import CERTAIN, CLOCKS, GUESSES, no_clock
 from .reads import missing_table
 from .texts import accented, with_advice, bad_character, marked_line_of_text, not_utf8, place_of, quotes_for
 from ..convert import not_text_message
@@ -254,6 +254,8 @@ def unknown_column(query: Query, reference: Reference, schema: Schema) -> list[s
         return [f"No entry has a column {plain(token.name)}. {repeated}"]
     if token.kind == "quoted":
         return name_in_quotes(token, tables)
+    if token.word in CLOCKS:
+        return [f"No entry has a column {plain(token.name)}. {no_clock(token.word)}"]
     every = [f"{entry}.{column}" for entry, table in tables.items() for column in columns(table)]
     near = nearest(token.name, {name.split(".", 1)[1] for name in every})
     near = next((name for name in every if name.split(".", 1)[1] == near), None)
