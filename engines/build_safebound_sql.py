@@ -18,7 +18,7 @@ METADATA = f"""\
 Metadata-Version: 2.1
 Name: safebound-sql
 Version: {VERSION}
-Summary: Proved row bounds for a query in PostgreSQL or SQLite, and its joins in the order that is best by them
+Summary: Row bounds for a query in PostgreSQL or SQLite, and its joins in the order that is best by them
 License: Apache-2.0
 License-File: LICENSE
 Requires-Python: >=3.9
