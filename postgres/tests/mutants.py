@@ -247,6 +247,17 @@ EDITS = [
            "\n\t\treturn false;", "\tif (desc->natts >= 0)\n\t\treturn true;")], "hostile_roles"),
     Edit("a type's arrays and domains keep their values", "changes.c",
          [("\tif (dependent->classid == TypeRelationId)", "\tif (false)")], "hostile_roles"),
+    Edit("deltas before the first one that a merge left are read from the last merge on", "deltas.c",
+         [("\t\tkept_row->first_delta = kept_row->merged_delta;\n\tkept_row->merged_delta = next_version();",
+           "\t\t;\n\tkept_row->merged_delta = kept_row->first_delta = next_version();")], "test_costs"),
+    Edit("a merge leaves no delta", "deltas.c",
+         [("\twrite_delta(kept_row->relation, sums->rows, &bytes);", "")], "test_costs"),
+    Edit("who writes finds followers in memory though what is stored of the table changed", "followers.c",
+         [("\tif (!OidIsValid(relation) || relation == source_table)", "\tif (false)")], "rows"),
+    Edit("a pair has the values of another list", "kept.c",
+         [("&values->lists[pair->length]", "&values->lists[0]")], "estimates"),
+    Edit("any number of pairs is counted", "chosen.c",
+         [("if ((joins + 1) * (int64) filters > MOST_PAIRS)", "if (false)")], "keep"),
     Edit("any user changes the budget", "admit.c", [("INT_MAX, PGC_SUSET", "INT_MAX, PGC_USERSET")], "budget"),
 ]
 
