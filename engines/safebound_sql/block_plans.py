@@ -42,6 +42,7 @@ class Planner:
         self._plan_all(self.query)
         self.plans = {select.start: self.plans[select.start] for select in self.query.selects()}
         self.rows = self.rows_of(self.query)
+        self.rows_there: int | None = None
         if self.unbounded and not self.blocks:
             raise Refused(self.unbounded[0])
         if self.cost > budget:
@@ -261,8 +262,8 @@ class Planner:
         return list(dict.fromkeys(found))
 
     def true_rows(self) -> None:
-        """Counts the rows of each level of a block. It skips blocks that name something of the blocks around them, and
-        blocks in WITH RECURSIVE.
+        """Counts the rows of each level of a block, and those of a whole query of several SELECTs. It skips blocks that
+        name something of the blocks around them, and blocks in WITH RECURSIVE.
         """
         self.connection.keep_order()
         for start, block in self.blocks.items():
@@ -280,6 +281,9 @@ class Planner:
                 for number, level in enumerate(self.plans[start].levels, 1):
                     sql = self.with_parts(block.visible, f"SELECT count(*) {rows_of_levels(block, number)}")
                     level.rows = self.connection.rows(sql)[0][0]
+        if self.query.operators and self.rows is not None:
+            with self.progress.doing("counting the rows of the whole query"):
+                self.rows_there = self.connection.rows(f"SELECT count(*) FROM ({self.sql()}\n) AS whole")[0][0]
 
 
 def has_several_blocks(text: str, engine: Engine) -> bool:

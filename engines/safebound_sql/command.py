@@ -175,7 +175,7 @@ def _run_with_plan(given: argparse.Namespace, planner: Planner) -> None:
         _show(given, planner, plan, true_rows)
     for number, (level, rows) in enumerate(zip(plan.levels, true_rows or ()), 1):
         if rows > level.bound:
-            raise AboveBound(number, rows, level.bound)
+            raise AboveBound(f"level {number}", rows, level.bound)
 
 
 def _show(given: argparse.Namespace, planner: Planner, plan: Plan, true_rows: list[int] | None) -> None:
@@ -231,10 +231,17 @@ def _run_in_blocks(given: argparse.Namespace, engine: Engine, text: str) -> None
             for part in engine.connection.csv(planner.sql(), given.null):
                 end()
                 sys.stdout.write(part)
+    _compare_rows(planner)
+
+
+def _compare_rows(planner: block_plans.Planner) -> None:
+    """Raises a fault if more rows were counted than a bound says."""
     for plan in planner.plans.values():
         for number, level in enumerate(plan.levels, 1):
             if level.rows is not None and level.rows > level.bound:
-                raise AboveBound(number, level.rows, level.bound)
+                raise AboveBound(f"level {number}", level.rows, level.bound)
+    if planner.rows is not None and (planner.rows_there or 0) > planner.rows:
+        raise AboveBound("the whole query", planner.rows_there or 0, planner.rows)
 
 
 def run_command(given: argparse.Namespace) -> None:

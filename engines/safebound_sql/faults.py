@@ -70,13 +70,13 @@ class EngineFault(Fault):
 
 
 class AboveBound(Fault):
-    """A level has more rows than its bound. An assumption of the bounds is then wrong."""
+    """A level or the whole query has more rows than its bound. An assumption of the bounds is then wrong."""
 
     status, word = 17, "audit"
 
-    def __init__(self, level: int, rows: int, bound: int) -> None:
+    def __init__(self, what: str, rows: int, bound: int) -> None:
         super().__init__(
-            f"level {level} has {rows} rows, and its bound is {bound}. The engine has answered two statements over one"
+            f"{what} has {rows} rows, and its bound is {bound}. The engine has answered two statements over one"
             " snapshot in two ways: a function isn't as STABLE or IMMUTABLE as it is declared, or a table isn't of"
             " this snapshot. This plan admits nothing"
         )

@@ -50,7 +50,8 @@ def blocks_table(planner: Planner, notes: list[str]) -> str:
         most = "" if plan.rows is None else f": at most {plan.rows} rows"
         lines += [f"{plan.select.label}{most}", *_aligned([heads] + rows), *plan.notes, ""]
     if planner.rows is not None:
-        lines.append(f"the whole query: at most {planner.rows} rows")
+        there = "" if planner.rows_there is None else f", and it has {planner.rows_there}"
+        lines.append(f"the whole query: at most {planner.rows} rows{there}")
     lines += [f"not bounded: {why}" for why in planner.unbounded]
     return "\n".join([*lines, f"budget {planner.cost} would do", *notes]) + "\n"
 
@@ -75,6 +76,7 @@ def blocks_document(planner: Planner, notes: list[str]) -> str:
             if plan.levels
         ],
         "rows": planner.rows,
+        "true rows": planner.rows_there,
         "not bounded": planner.unbounded,
         "notes": notes,
         "least budget": planner.cost,
