@@ -10,13 +10,14 @@ from __future__ import annotations
 from typing import TYPE_CHECKING
 
 from .block_names import BlockNames
-from .blocks import Select, part_named
+from .blocks import Select, part_named, tables_in
 from .dialect import Dialect
 from .engine import Catalog, Connection
 from .names import alias_of, subqueries
 from .nondeterministic import nondeterministic
 from .query import Query
 from .reading import Statement, Step, Tokens, read
+from .tokens import part_of_name
 
 if TYPE_CHECKING:
     from .block_plans import Planner
@@ -98,7 +99,7 @@ class Block:
         """
         self._check_names(piece)
         entries = self._entries_in(piece)
-        outer = self.names_outside(piece)
+        outer = self.names_outside(piece) or self._may_name_output(piece)
         settled = entries <= set(self.reorderable) and (of_on or not self.has_right_joins) and not outer
         if settled and self._take_edge(piece):
             self.left_over.append((self.text(piece), entries))
@@ -127,6 +128,17 @@ class Block:
         if self.dialect.outputs_in_conditions:
             self.names.check_outputs_names(piece, self.outputs)
 
+    def _may_name_output(self, piece: Tokens) -> bool:
+        """Whether a subquery in the condition may name an output of the block, as SQLite allows. Only the whole block
+        has that name.
+        """
+        return self.dialect.outputs_in_conditions and any(
+            token.is_name and self.dialect.normalized_name(token) in self.outputs and not part_of_name(piece, at)
+            for start, end in subqueries(piece)
+            for at, token in enumerate(piece[:end])
+            if at >= start
+        )
+
     def _take_edge(self, piece: Tokens, of: int | None = None) -> bool:
         """Adds the equality to those that bounds use, if they can use it. With `of`, only if that entry has one of its
         columns. Returns whether it was added.
@@ -151,7 +163,7 @@ class Block:
                     return True
             elif behind_dot:
                 continue
-            elif (name in columns or token.kind == "quoted") and not any(
+            elif (name in columns or name in aliases - set(self.names.by_alias) or token.kind == "quoted") and not any(
                 name in entry.about.by_name for entry in self.query.entries
             ):
                 return True
@@ -159,8 +171,10 @@ class Block:
 
     def _counts(self, piece: Tokens) -> bool:
         """Whether the rows that satisfy the condition may be counted. Its subqueries may not join, choose rows, name a
-        part of WITH, or name anything of the query around them.
+        part of WITH, or name anything of the query around them. Behind IN and TABLE a name may be such a part too.
         """
+        if any(part_named(token, self.visible, self.dialect) for token in tables_in(piece)):
+            return False
         for start, end in subqueries(piece):
             inner = piece[start + 1 : end - 1]
             if any(token.is_name and part_named(token, self.visible, self.dialect) for token in inner):

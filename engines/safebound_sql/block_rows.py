@@ -54,11 +54,13 @@ def is_one_row(block: Block) -> bool:
 
 
 def may_aggregate(block: Block) -> bool:
-    """Whether the block may aggregate all its rows into one: a name that it calls may mean an aggregate."""
+    """Whether the block may aggregate all its rows into one: a name that it calls may mean an aggregate. One in a
+    subquery may be of this block, if its argument is.
+    """
     clauses = block.statement.later_clauses
     if clauses and clauses[0].says("GROUP"):
         return False
-    asked = calls(outside_subqueries([token for piece in clauses_above(block) for token in piece]), block.dialect)
+    asked = calls([token for piece in clauses_above(block) for token in piece], block.dialect)
     found = block.catalog.functions(set(asked))
     return any(function.is_aggregate for functions in found.values() for function in functions)
 

@@ -46,11 +46,11 @@ def source_text(block: Block, number: int) -> str:
     return f"{lateral}{entry.table} AS {entry.alias}{written(source.columns)}"
 
 
-def _output(block: Block, piece: Tokens) -> str:
+def _output(block: Block, number: int, piece: Tokens) -> str:
     """An output as text. A star of all entries becomes one star for each, in the order that FROM has as written."""
     if len(piece) == 1 and piece[0].says("*"):
         return ", ".join(f"{entry.alias}.*" for entry in block.query.entries)
-    return block.text(piece)
+    return block.names.named_as_written(number, block.text(piece))
 
 
 def _inner_join(block: Block, source: str, before: frozenset[int], after: frozenset[int], done: list[str]) -> str:
@@ -73,7 +73,7 @@ def sql_of(block: Block) -> str:
     """The block with its joins in the planned order."""
     joined, conditions = _join(block, len(block.order))
     conditions += [bracketed(text) for text, entries in block.left_over if not entries]
-    outputs = ", ".join(_output(block, piece) for piece in block.statement.outputs)
+    outputs = ", ".join(_output(block, number, piece) for number, piece in enumerate(block.statement.outputs))
     distinct = block.text(block.statement.distinct)
     later = block.text(block.statement.later_clauses)
     lines = [f"SELECT {distinct and distinct + ' '}{outputs}", joined + where(conditions), *filter(None, [later])]

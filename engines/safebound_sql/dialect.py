@@ -15,8 +15,9 @@ class Dialect:
     """How an engine's SQL is read and written.
 
     `comma_binds_less` says that a comma of FROM binds less than JOIN. `plain_words` are keywords of other engines that
-    are names in this one. A `reserved` word is a column only in quotes. `settings` keep the joins of a statement in
-    their order. Some engines compute a part of WITH again wherever it is named: `most_parts_of_a_part` and `most_scans`
+    are names in this one. `texts_name_outputs` says that an output without an alias is named by its text. A `reserved`
+    word is a column only in quotes. `settings` keep the joins of a statement in their order. Some engines compute a
+    part of WITH again wherever it is named: `most_parts_of_a_part` and `most_scans`
     limit this. `counts_exactly` says that numbers may be of any size.
     """
 
@@ -28,6 +29,7 @@ class Dialect:
     equals: tuple[str, ...] = ("=",)
     calls_without_parentheses: tuple[str, ...] = ()
     outputs_in_conditions: bool = False
+    texts_name_outputs: bool = False
     plain_words: tuple[str, ...] = ()
     schemas_in_names: bool = True
     knows_blocks: bool = True

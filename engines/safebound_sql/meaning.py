@@ -97,7 +97,9 @@ class Meaning:
             self._take_equality(one, other, Text((self._reference(one), " = ", self._reference(other))))
         for piece in self.statement.conditions:
             self._take_condition(piece)
-        self.query.outputs = [output for piece in self.statement.outputs for output in self._output(piece)]
+        self.query.outputs = [
+            output for number, piece in enumerate(self.statement.outputs) for output in self._output(number, piece)
+        ]
         self.query.distinct = self._text_above(self.statement.distinct)
         self.statement.later_clauses = self._with_columns_of_keys(self.statement.later_clauses)
         self.query.later_clauses = self._text_above(self.statement.later_clauses)
@@ -235,10 +237,10 @@ class Meaning:
     def _reference(self, named: EntryColumn) -> Reference:
         return Reference(named, self.names.qualified_name(named))
 
-    def _output(self, piece: Tokens) -> list[str | EntryColumn]:
+    def _output(self, number: int, piece: Tokens) -> list[str | EntryColumn]:
         columns = self.names.star_columns(piece)
         if columns is None:
-            return [self._text_above(piece)]
+            return [self.names.named_as_written(number, self._text_above(piece))]
         self.query.named_above |= set(columns)
         return list(columns)
 

@@ -280,6 +280,17 @@ class Names:
             raise self.statement.refuse(token, "a whole row isn't a value here; name its columns")
         return found
 
+    def named_as_written(self, number: int, text: str) -> str:
+        """The text of an output, with the name that it has as written. SQLite names an expression by its text."""
+        output, written_text = self.statement.outputs[number], self.statement.written_outputs[number]
+        if not self.dialect.texts_name_outputs or text == written_text or alias_of(output):
+            return text
+        if output[-1].says("*") or self.single_column(output):
+            return text
+        if "".join(text.split()) == "".join(written_text.split()):
+            return written_text
+        return f"{text} AS {self.dialect.quote(written_text)}"
+
     def single_column(self, piece: Tokens) -> EntryColumn | None:
         """The column that the tokens name, perhaps in parentheses. None if they aren't a single name."""
         while len(piece) > 2 and piece[0].says("(") and piece[-1].says(")"):

@@ -68,13 +68,14 @@ class Using:
 class Statement:
     """The parts of a query. A condition is a conjunct of WHERE or of an ON.
 
-    `frame` is FROM as written, but with a source's number in place of the source, and None in place of an ON's
-    condition.
+    `written_outputs` has the text of each output with its gaps. `frame` is FROM as written, but with a source's number
+    in place of the source, and None in place of an ON's condition.
     """
 
     text: str
     distinct: Tokens = field(default_factory=list)
     outputs: list[Tokens] = field(default_factory=list)
+    written_outputs: list[str] = field(default_factory=list)
     sources: list[Source] = field(default_factory=list)
     usings: list[Using] = field(default_factory=list)
     conditions: list[Tokens] = field(default_factory=list)
@@ -223,6 +224,10 @@ class Reader:
         if not self._take("FROM"):
             raise self._refuse("a query has FROM")
         self.statement.outputs = list(at_commas(outputs))
+        self.statement.written_outputs = [
+            self.statement.text[piece[0].at : piece[-1].at + len(piece[-1].text)] if piece else ""
+            for piece in self.statement.outputs
+        ]
 
     def _read_from(self) -> None:
         first, start = 0, self.at

@@ -86,6 +86,7 @@ DIALECT = SqliteDialect(
     join_word="CROSS JOIN",
     keeps_trees=False,
     outputs_in_conditions=True,
+    texts_name_outputs=True,
     plain_words=("OFFSET", "WINDOW", "FETCH"),
     takes_bare_columns=True,
     rows_are_values=False,

@@ -292,6 +292,34 @@ class Blocks(SmallTables):
             " SELECT q.x FROM q, c", "how often it goes on isn't known",
         )
 
+    def test_aggregates_of_the_block_around(self) -> None:
+        # The argument is of the block around the subquery, so that block has one row, even from no rows.
+        for subquery in ("SELECT count(a.p)", "SELECT max(a.p) FROM k"):
+            self.assertEqual(self.tried_in_blocks(f"SELECT ({subquery}) FROM a WHERE a.p = 99").rows, 1)
+            self.bounds(f"SELECT q.n FROM (SELECT ({subquery}) AS n FROM a WHERE a.p = 99) q LEFT JOIN v ON 1 = 0")
+
+    def test_outputs_without_an_alias_keep_their_names(self) -> None:
+        self.bounds("SELECT (SELECT max(b.z) FROM b, c WHERE c.y = b.y)  FROM a LEFT JOIN k ON k.x = a.x")
+        self.bounds("SELECT (SELECT sum(c.w + b.z)   FROM c JOIN b ON c.y = b.y) , a.p  +  1 FROM a, (SELECT 1 AS n) q")
+
+    def test_a_subquery_that_names_an_output(self) -> None:
+        if self.base.engine == "sqlite":
+            self.bounds(
+                "SELECT a.p AS one FROM a JOIN b ON a.x = b.x WHERE EXISTS (SELECT 1 FROM c WHERE c.w = one AND c.y"
+                " = b.y)"
+            )
+
+    def test_parts_of_with_without_a_subquery(self) -> None:
+        # Here k has the rows of b.
+        part = "k" if self.base.engine == "sqlite" else "(TABLE k)"
+        for text in (
+            f"SELECT a.p FROM a LEFT JOIN c ON c.y = a.p WHERE a.p IN {part}",
+            f"SELECT a.p, c.w FROM a JOIN c ON c.y = a.x AND a.p NOT IN {part}",
+            f"SELECT a.p, c.w FROM c LEFT JOIN a ON c.y = a.x AND a.p IN {part}",
+        ):
+            self.bounds(f"WITH k AS (SELECT z FROM b) {text}")
+            self.bounds(f"WITH other AS (SELECT z FROM b WHERE z > 5) {text.replace(part, part.replace('k', 'other'))}")
+
     def test_subqueries(self) -> None:
         for text in (
             "SELECT a.p FROM a WHERE EXISTS (SELECT 1 FROM b, c WHERE b.y = c.y AND b.x = a.x)",

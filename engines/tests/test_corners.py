@@ -103,6 +103,12 @@ class Names(Corners):
                 ["id", "id2", "qty"],
             ),
             ("SELECT * FROM a JOIN b USING (id) ORDER BY id", ["id", "qty", "name", "qty2", "t"]),
+            (
+                "SELECT a.id   +  1, ( b.id ), max( b.id )  OVER (), a.id AS  z FROM a JOIN b ON a.id = b.id"
+                " ORDER BY 1",
+                ["?column?", "id", "max", "z"] if self.base.engine == "postgres"
+                else ["a.id   +  1", "id", "max( b.id )  OVER ()", "z"],
+            ),
         ):
             for reduce, tree in WAYS:
                 planner, plan = self.planned(text, reduce, tree=tree)
