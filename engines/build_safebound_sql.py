@@ -29,8 +29,8 @@ Provides-Extra: dialects
 Requires-Dist: sqlglot ~= 10.6; extra == "dialects"
 Description-Content-Type: text/markdown
 
-`safebound-sql` asks a database engine how often values repeat, plans a query by proved bounds, and writes it as SQL with \
-its joins in that order. `safebound-sql --help` says how.
+`safebound-sql` asks a database engine how often values repeat, plans a query by proved bounds, and writes it as SQL \
+with its joins in that order. `safebound-sql --help` says how.
 """
 COMMANDS = f"[console_scripts]\nsafebound-sql = {NAME}.command:main\n"
 DESCRIBED = {"METADATA": METADATA.encode(), "entry_points.txt": COMMANDS.encode()}

@@ -122,8 +122,8 @@ def libraries() -> dict[str, bytes]:
 
 
 def tag(shared_objects: list[bytes]) -> str:
-    """The tag of a wheel: any platform if it has no shared object, else this one. On Linux it names the version of the C
-    library that the symbols need.
+    """The tag of a wheel: any platform if it has no shared object, else this one. On Linux it names the version of the
+    C library that the symbols need.
     """
     if not shared_objects:
         return "py3-none-any"

@@ -669,9 +669,8 @@ BUFFERS = (
 
 
 def stats(line: str, text: bytes | None, *says: str) -> Mistake:
-    return Mistake(
-        line, says, {} if text is None else {"old.stats": text}, ("plan", "schema.sql", "query.sql", "--stats", "old.stats"),
-    )
+    files = {} if text is None else {"old.stats": text}
+    return Mistake(line, says, files, ("plan", "schema.sql", "query.sql", "--stats", "old.stats"))
 
 
 STATISTICS = [

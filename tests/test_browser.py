@@ -4,8 +4,8 @@ budget's line, and a click shows what a step joins.
     /usr/bin/python3 tests/run tests/test_browser.py
 
 PROGRAM names the program; the default is the one that `make build` made here, or else the release's. SHOTS names a
-folder for the screenshots, as PNG. The tests need Debian's chromium, chromium-driver and python3-selenium, which Debian's own Python
-has; if one of these is missing, they are skipped.
+folder for the screenshots, as PNG. The tests need Debian's chromium, chromium-driver and python3-selenium, which
+Debian's own Python has; if one of these is missing, they are skipped.
 """
 
 from __future__ import annotations

@@ -18,7 +18,9 @@ COMPARING, MOST_LOOKED_AT = ("run", "plan", "audit"), 2**20
 # What a query has if it compares texts by other signs than =. Without it nothing is loaded that notes need.
 MAY_BE_NOTED = re.compile(rb"(?:[<>]=?|\bBETWEEN)(?:\s|--[^\n]*)*['\"A-Z]|\bNOT\b", re.IGNORECASE)
 USAGE = b"error usage\n"
-HOW_TO_READ_USAGE = "safebound: --explain says which word is wrong; `safebound help` lists the commands and their options\n"
+HOW_TO_READ_USAGE = (
+    "safebound: --explain says which word is wrong; `safebound help` lists the commands and their options\n"
+)
 
 
 def main(words: list[str]) -> int:

@@ -54,7 +54,9 @@ def answer(
     """Runs the program without showing the user anything. Returns its exit status, standard output and standard error.
     """
     try:
-        done = subprocess.run([path, *words], cwd=folder, stdin=subprocess.DEVNULL, capture_output=True, timeout=seconds)
+        done = subprocess.run(
+            [path, *words], cwd=folder, stdin=subprocess.DEVNULL, capture_output=True, timeout=seconds
+        )
     except OSError as fault:
         sys.exit(f"safebound: {path} can't be run: {fault.strerror}")
     return done.returncode, done.stdout, done.stderr

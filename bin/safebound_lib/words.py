@@ -5,7 +5,8 @@ from dataclasses import dataclass, field
 from typing import TYPE_CHECKING
 
 from .table import (
-    ACCURACY, BUDGET, BUSHY, BY_WORD, COUNT, DATA, KEYS, MOST_SEED, REDUCE, STATS, TEXTS, own_options, options_with_value,
+    ACCURACY, BUDGET, BUSHY, BY_WORD, COUNT, DATA, KEYS, MOST_SEED, REDUCE, STATS, TEXTS, own_options,
+    options_with_value,
 )
 
 if TYPE_CHECKING:

@@ -190,15 +190,16 @@ class Folding(Measured):
         self.make(100000)
         self.insert(50)
         old = self.connect()
-        old.execute("BEGIN ISOLATION LEVEL REPEATABLE READ; SET LOCAL safebound.estimates = bound; SELECT FROM trip LIMIT 1")
+        old.execute("BEGIN ISOLATION LEVEL REPEATABLE READ; SET LOCAL safebound.estimates = bound")
+        old.execute("SELECT FROM trip LIMIT 1")
         self.insert(500)
         self.becomes_few()
         told = old.execute("EXPLAIN (FORMAT JSON) SELECT FROM trip").fetchone()
         self.assertEqual(told[0][0]["Plan"]["Plan Rows"] if told else 0, 100050)
 
     def test_planning_after_30000_statements(self) -> None:
-        """A plan takes at most 1.3 times the time of the processor that it took before 30,000 statements came. The table
-        is analyzed before and never later: PostgreSQL's own planning depends on its sample.
+        """A plan takes at most 1.3 times the time of the processor that it took before 30,000 statements came. The
+        table is analyzed before and never later: PostgreSQL's own planning depends on its sample.
         """
         self.make(1000000)
         self.owner.execute("ALTER TABLE trip SET (autovacuum_enabled = false)")
@@ -214,7 +215,8 @@ class Folding(Measured):
         """Processor time of a backend for 3,000 plans, the least of five."""
         pid = asks.info.backend_pid
         asks.execute("SET safebound.estimates = bound")
-        plans = "DO $$ BEGIN FOR i IN 1..3000 LOOP EXECUTE 'EXPLAIN SELECT FROM trip a JOIN trip b USING (id)'; END LOOP; END $$"
+        explain = "EXPLAIN SELECT FROM trip a JOIN trip b USING (id)"
+        plans = f"DO $$ BEGIN FOR i IN 1..3000 LOOP EXECUTE '{explain}'; END LOOP; END $$"
         least = float("inf")
         for _ in range(5):
             begun = ticks(pid)

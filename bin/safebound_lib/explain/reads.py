@@ -23,7 +23,9 @@ def explain(fault: Fault, run: Run) -> list[str]:
     if not file:
         return ["The name of the file is empty."]
     if file == "-":
-        return ["The program reads files, and no standard input. Write the text into a file, and name that in place of -."]
+        return [
+            "The program reads files, and no standard input. Write the text into a file, and name that in place of -."
+        ]
     if is_one_query(file):
         return [
             f"Here stands the text of a query, {plain(file)[:60]}, and the name of a file has to. Write the text into a"

@@ -37,8 +37,8 @@ def explain(fault: Fault, run: Run) -> list[str]:
         ]
     if fault.cause == "syntax" and not os.path.getsize(run.stats_file or ""):
         return [
-            f"{file} is empty. Either what should have written it failed, or a command read it whose output went into it:"
-            " the shell empties such a file first.",
+            f"{file} is empty. Either what should have written it failed, or a command read it whose output went into"
+            " it: the shell empties such a file first.",
             anew,
         ]
     if fault.cause == "syntax":
