@@ -196,6 +196,41 @@ changes_columns(AlterTableType kind)
 	}
 }
 
+/* Whether a column has the type and the collation with which it was counted as
+ * a joined column. */
+static bool
+has_counted_type(Oid relation, AttrNumber number)
+{
+	Datum key[] = {ObjectIdGetDatum(relation), Int16GetDatum(number)};
+	OwnScan scan = begin_own_scan(KEPT_LISTS, NULL, 2, key);
+	HeapTuple tuple;
+	bool same = true;
+
+	while (same && HeapTupleIsValid(tuple = next_own(&scan)))
+	{
+		Datum row[LISTS_COLUMNS];
+		bool nulls[LISTS_COLUMNS];
+
+		heap_deform_tuple(tuple, RelationGetDescr(scan.own), row, nulls);
+		same = same_column(relation, number,
+						   DatumGetObjectId(row[LISTS_JOINED_TYPE - 1]),
+						   DatumGetObjectId(row[LISTS_JOINED_COLLATION - 1]));
+	}
+	end_own_scan(&scan);
+	return same;
+}
+
+/* Marks a watched table of which a column got another type or collation, also
+   without a rewrite. Rows that come are counted by the new equality, and their
+   deltas don't fit if the column gets its old type back. */
+static void
+check_column_type(const ObjectAddress *column)
+{
+	if (is_watched(column->objectId) &&
+		!has_counted_type(column->objectId, column->objectSubId))
+		mark_not_counted(column->objectId);
+}
+
 /* One part of ALTER TABLE: a change of its columns, say, or another table that
  * it attaches or detaches. */
 static void
@@ -204,6 +239,9 @@ check_part(Oid relation, const CollectedATSubcmd *part)
 	if (is_there(relation) && IsA(part->parsetree, AlterTableCmd) &&
 		changes_columns(((AlterTableCmd *) part->parsetree)->subtype))
 		mark_row_type(relation);
+	if (IsA(part->parsetree, AlterTableCmd) &&
+		((AlterTableCmd *) part->parsetree)->subtype == AT_AlterColumnType)
+		check_column_type(&part->address);
 	if (part->address.classId == RelationRelationId &&
 		part->address.objectId != relation)
 		check_around(part->address.objectId);

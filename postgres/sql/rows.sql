@@ -136,6 +136,20 @@ ALTER TABLE r ALTER x TYPE bigint;
 SELECT known('r'), safebound.watch('r') > 0 AS watched, known('r');
 ALTER TABLE r ADD more integer;
 SELECT known('r') AS "a new column changes nothing";
+-- A column gets another collation and its old one back, both without a rewrite. Rows that came meanwhile were counted by another equality.
+CREATE COLLATION caseless (provider = icu, locale = 'und-u-ks-level2', deterministic = false);
+CREATE TABLE word (w text COLLATE caseless, v varchar(5));
+SELECT safebound.watch('word') > 0 AS watched;
+ALTER TABLE word ALTER v TYPE varchar(9);
+SELECT known('word') AS "a longer varchar changes nothing";
+ALTER TABLE word ALTER w TYPE text COLLATE "C";
+INSERT INTO word SELECT CASE i % 2 WHEN 0 THEN 'q' ELSE 'Q' END FROM generate_series(1, 20) AS i;
+ALTER TABLE word ALTER w TYPE text COLLATE caseless;
+SELECT known('word'), safebound.watch('word') > 0 AS watched, known('word');
+SELECT bound >= (SELECT count(*) FROM word a JOIN word b ON a.w = b.w) AS "not too low"
+    FROM safebound.bounds('SELECT FROM word a JOIN word b ON a.w = b.w');
+DROP TABLE word;
+DROP COLLATION caseless;
 -- The table inherits from another one, through which rows may come.
 CREATE TABLE above (LIKE r);
 ALTER TABLE r INHERIT above;

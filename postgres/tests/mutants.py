@@ -120,6 +120,8 @@ EDITS = [
     Edit("statements on tables above bring no rows", "watch.c",
          [("list_append_unique_oid(sources, ((Form_pg_inherits) GETSTRUCT(tuple))->inhparent)", "sources")], "rows"),
     Edit("a table is known after its rows were rewritten", "changes.c", [("\t\tmark_rewritten();", "\t\t;")], "rows"),
+    Edit("a table is known after a column's collation changed without a rewrite", "changes.c",
+         [("\t\tcheck_column_type(&part->address);", "\t\t;")], "rows"),
     Edit("a materialized view is known after a refresh", "changes.c",
          [("tag == CMDTAG_REFRESH_MATERIALIZED_VIEW && is_watched(object)", "false")], "rows"),
     Edit("statistics outlive a table that was dropped", "changes.c",
