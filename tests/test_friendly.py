@@ -1141,7 +1141,7 @@ class OwnCommands(Installed):
 
     def test_a_proposed_schema_is_shown_once_a_folder(self) -> None:
         self.setup.lay({"query.sql": b"SELECT NAME FROM READER"})
-        run = {"env": {**self.setup.environment, "XDG_CACHE_HOME": self.setup.temp_folder}}
+        run: dict[str, Any] = {"env": {**self.setup.environment, "XDG_CACHE_HOME": self.setup.temp_folder}}
         plan = self.setup.run("plan", "schema.sql", "query.sql")[2]
         line = ("plan", "query.sql", "--data", ".")
         first, second = (self.setup.run(*line, **run)[2] for _ in range(2))
@@ -1156,7 +1156,7 @@ class OwnCommands(Installed):
         self.setup.lay({"query.sql": b"SELECT A FROM LONG", "schema.sql": None})
         with open(os.path.join(self.setup.folder, "long.csv"), "w") as f:
             f.write("A,B,C\n" + "".join(f"{n},{n % 977},name {n % 9973}\n" for n in range(400_000)))
-        run = {"env": {**self.setup.environment, "XDG_CACHE_HOME": self.setup.temp_folder}}
+        run: dict[str, Any] = {"env": {**self.setup.environment, "XDG_CACHE_HOME": self.setup.temp_folder}}
         for _ in range(2):
             notes = self.setup.run("plan", "query.sql", "--data", ".", **run)[2].decode()
         lines = re.findall(r"^--     safebound (.*)$", notes, re.M)
@@ -1314,7 +1314,7 @@ class OwnCommands(Installed):
         shutil.copy(self.setup.command, os.path.join(self.setup.folder, "safebound"))
         status, _, notes = self.setup.run("--version", command=os.path.join(self.setup.folder, "safebound"))
         want(status == 1 and b"A copy of this file alone can't run" in notes and b"Traceback" not in notes, notes)
-        named = {"env": {**self.setup.environment, "SAFEBOUND_PROGRAM": "/nowhere"}}
+        named: dict[str, Any] = {"env": {**self.setup.environment, "SAFEBOUND_PROGRAM": "/nowhere"}}
         status, _, notes = self.setup.run("run", "schema.sql", "query.sql", **named)
         want(status == 1 and notes.startswith(b"safebound: SAFEBOUND_PROGRAM is /nowhere, and there is no"), notes)
         want(b"SAFEBOUND_PROGRAM names no file" in self.setup.run("--version", **named)[1], "the version")
