@@ -294,7 +294,7 @@ class Blocks(SmallTables):
 
     def test_aggregates_of_the_block_around(self) -> None:
         # The argument is of the block around the subquery, so that block has one row, even from no rows.
-        for subquery in ("SELECT count(a.p)", "SELECT max(a.p) FROM k"):
+        for subquery in ("SELECT count(a.p)", "SELECT max(a.p) FROM k LIMIT 1"):
             self.assertEqual(self.tried_in_blocks(f"SELECT ({subquery}) FROM a WHERE a.p = 99").rows, 1)
             self.bounds(f"SELECT q.n FROM (SELECT ({subquery}) AS n FROM a WHERE a.p = 99) q LEFT JOIN v ON 1 = 0")
 
